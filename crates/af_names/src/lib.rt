@@ -1,0 +1,26 @@
+//! Names that keep their grammar, instants that keep their range, and the points of the schedules with a name.
+#![tactic(auto)]
+
+mod days;
+mod instant;
+mod instant_error;
+mod kinds;
+mod name;
+mod name_error;
+mod points;
+mod preset;
+mod worked;
+
+pub use instant::Instant;
+pub use instant_error::InstantError;
+pub use kinds::{
+    DagId, DagKind, PoolKind, PoolName, RoleKind, RoleName, RunId, RunKind, TaskId, TaskKind,
+    UserKind, UserName, VarKey, VarKind,
+};
+pub use name::{Name, NameKind};
+pub use name_error::NameError;
+pub use preset::Preset;
+pub use worked::{ids_by_the_rule, instants_by_the_rule, names_by_the_rule, points_by_the_rule};
+
+#[cfg(test)]
+mod tests;
