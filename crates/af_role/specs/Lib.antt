@@ -1,0 +1,6 @@
+pub mod Resources
+pub mod Pairs
+pub mod ActionSets
+pub mod Needs
+pub mod Roles
+pub mod DefaultRoles

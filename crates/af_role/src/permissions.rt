@@ -1,0 +1,76 @@
+ghost use Rattle.std.specs.Prelude.{◌≡◌, [], length, OnOk, OnErr};
+ghost use Rattle.std.specs.Map.Iter.{ShowsInOrder, deref};
+ghost use Rattle.af_role.specs.Pairs.{PairRow, on_dag, on_kind, with_pair};
+ghost use Rattle.af_role.specs.Roles.{contains_pair};
+
+use crate::{Action, Pair, ResourceKind};
+use af_names::DagId;
+use std::alloc::{AllocError, Global};
+use std::collections::BTreeSet;
+use std::collections::btree_set::Iter;
+use std::marker::Model;
+
+/// A set of permissions. Contracts see it as a list in the order in which permissions are shown, each once.
+#[derive(Drop)]
+pub struct Permissions {
+    pairs: BTreeSet<Pair>,
+}
+
+impl Model for Permissions {
+    ghost use Rattle.std.specs.Prelude.{List};
+    ghost use Rattle.af_role.specs.Pairs.{PairRow};
+
+    ghost Value = { List PairRow };
+
+    ghost view = { λ permissions. permissions.pairs.keys };
+}
+
+impl Permissions {
+    /// No permission.
+    pub fn new(alloc: Global) -> Permissions
+        ensures { result ≡ [] }
+    {
+        Permissions {
+            pairs: BTreeSet::new(alloc),
+        }
+    }
+
+    /// Adds a permission at its place; one that stands there already stays.
+    /// `AllocError` only where a growth was refused; the set is then as before.
+    pub fn add(&mut self, pair: Pair) -> Result<(), AllocError>
+        ensures ok { OnOk result (self.new ≡ with_pair self.old pair) }
+        ensures err { OnErr result (self.new ≡ self.old) }
+    {
+        self.pairs.insert(pair)?;
+        Ok(())
+    }
+
+    /// How many permissions there are.
+    pub fn len(&self) -> usize
+        ensures { result ≡ length self.now }
+    {
+        self.pairs.len()
+    }
+
+    /// The permissions, in the order in which they are shown.
+    pub fn iter(&self) -> Iter<'_, Pair>
+        ensures rest { result ≡ self.now }
+        ensures runs { ShowsInOrder (deref {X = PairRow}) }
+    {
+        self.pairs.iter()
+    }
+
+    /// Whether an action on a whole kind is among them.
+    pub fn has_on_kind(&self, action: Action, kind: ResourceKind) -> bool
+        ensures { result ≡ contains_pair self.now (on_kind action kind) }
+    {
+        self.pairs.iter().any(|own| own.is_on_kind(action, kind))
+    }
+
+    /// Whether an action on one DAG is among them.
+    pub fn has_on_dag(&self, action: Action, dag: &DagId) -> bool
+        ensures { result ≡ contains_pair self.now (on_dag action dag.now) }
+    {
+        self.pairs.iter().any(|own| own.is_on_dag(action, dag))
+    }
+}

@@ -1,0 +1,225 @@
+ghost use Rattle.std.specs.Prelude.{◌≡◌, ◌⊎◌, Some, Ok, Err, alloc_error};
+ghost use Rattle.std.specs.Option.{option_copied};
+ghost use Rattle.std.proofs.Common.{rules};
+ghost use Rattle.std.specs.Cmp.{partial_order_from_own_ties};
+ghost use Rattle.std.specs.Cmp.Rules.{comparing};
+ghost use Rattle.std.specs.Ordering.{as_partial_cmp, nat_cmp, on};
+ghost use Rattle.af_names.specs.Names.{id_grammar, named};
+ghost use Rattle.af_role.specs.Resources.{dag_named, dag_part, kind_of, kind_rank, kind_text, resource_cmp, resource_id, resource_of, resource_rank, resource_text, same_kind, same_resource};
+
+use af_names::{DagId, NameError};
+use std::alloc::{AllocError, Global};
+use std::cmp::Ordering;
+use std::fmt;
+
+/// The kinds of resources. They stand in this order wherever they are shown.
+#[derive(Clone, Copy, Debug)]
+pub enum ResourceKind {
+    /// `DAGs`
+    Dags,
+    /// `DAG Runs`
+    DagRuns,
+    /// `Task Instances`
+    TaskInstances,
+    /// `Pools`
+    Pools,
+    /// `Variables`
+    Variables,
+    /// `Audit Logs`
+    AuditLogs,
+    /// `Roles`
+    Roles,
+    /// `Users`
+    Users,
+}
+
+/// What a permission is about. Kinds stand before single DAGs, and these in byte order of their ids.
+#[derive(Drop)]
+pub enum Resource {
+    /// All of a kind.
+    Kind(ResourceKind),
+    /// One DAG, whether there is such a DAG or not.
+    Dag(DagId),
+}
+
+impl ResourceKind {
+    /// The eight kinds, in order.
+    pub const ALL: [ResourceKind; 8] = [
+        ResourceKind::Dags,
+        ResourceKind::DagRuns,
+        ResourceKind::TaskInstances,
+        ResourceKind::Pools,
+        ResourceKind::Variables,
+        ResourceKind::AuditLogs,
+        ResourceKind::Roles,
+        ResourceKind::Users,
+    ];
+
+    /// The kind's text, as `DAG Runs`.
+    pub fn text(self) -> &'static str
+        ensures { result.now ≡ kind_text self }
+    {
+        match self {
+            ResourceKind::Dags => "DAGs",
+            ResourceKind::DagRuns => "DAG Runs",
+            ResourceKind::TaskInstances => "Task Instances",
+            ResourceKind::Pools => "Pools",
+            ResourceKind::Variables => "Variables",
+            ResourceKind::AuditLogs => "Audit Logs",
+            ResourceKind::Roles => "Roles",
+            ResourceKind::Users => "Users",
+        }
+    }
+
+    /// The kind whose text this is, letter for letter. None where the text is none of the eight.
+    pub fn read(text: &str) -> Option<ResourceKind>
+        ensures { result ≡ kind_of text.now }
+    {
+        ResourceKind::ALL
+            .iter()
+            .copied()
+            .find(|kind| kind.text() == text)
+    }
+
+    fn rank(self) -> u8
+        ensures { result ≡ kind_rank self }
+    {
+        match self {
+            ResourceKind::Dags => 0,
+            ResourceKind::DagRuns => 1,
+            ResourceKind::TaskInstances => 2,
+            ResourceKind::Pools => 3,
+            ResourceKind::Variables => 4,
+            ResourceKind::AuditLogs => 5,
+            ResourceKind::Roles => 6,
+            ResourceKind::Users => 7,
+        }
+    }
+}
+
+impl Resource {
+    /// The resource whose text this is: a kind's, or `DAG:` followed by the id of a DAG. None where the text is
+    /// neither. `AllocError` only where a growth was refused.
+    pub fn read(alloc: Global, text: &str) -> Result<Option<Resource>, AllocError>
+        ensures { (result ≡ Ok (resource_of text.now)) ⊎ (result ≡ Err alloc_error) }
+    {
+        match dag_part(text) {
+            Some(id) => Resource::read_dag(alloc, id),
+            None => match ResourceKind::read(text) {
+                Some(kind) => Ok(Some(Resource::Kind(kind))),
+                None => Ok(None),
+            },
+        }
+    }
+
+    fn read_dag(alloc: Global, id: &str) -> Result<Option<Resource>, AllocError>
+        ensures { (result ≡ Ok (dag_named (named id_grammar id.now))) ⊎ (result ≡ Err alloc_error) }
+    {
+        match DagId::parse(alloc, id) {
+            Ok(dag) => Ok(Some(Resource::Dag(dag))),
+            Err(NameError::OutOfMemory) => Err(AllocError),
+            Err(_) => Ok(None),
+        }
+    }
+
+    fn rank(&self) -> u8
+        ensures { result ≡ resource_rank self.now }
+    {
+        match self {
+            Resource::Kind(kind) => kind.rank(),
+            Resource::Dag(_) => 8,
+        }
+    }
+
+    fn id(&self) -> &str
+        ensures { result.now ≡ resource_id self.now }
+    {
+        match self {
+            Resource::Kind(_) => "",
+            Resource::Dag(dag) => dag.as_str(),
+        }
+    }
+}
+
+/// What follows `DAG:`. None where the text does not begin so.
+fn dag_part(text: &str) -> Option<&str>
+    ensures { option_copied result ≡ dag_part text.now }
+{
+    let Some(id) = text.strip_prefix("DAG:") else {
+        return None;
+    };
+    Some(id)
+}
+
+impl PartialEq for ResourceKind {
+    ghost eq = { same_kind };
+
+    ghost laws = { Prim.search (comparing, rules) };
+
+    fn eq(&self, other: &ResourceKind) -> bool {
+        self.rank() == other.rank()
+    }
+}
+
+impl Eq for ResourceKind {
+    ghost laws = { Prim.search (comparing, rules) };
+}
+
+impl fmt::Display for ResourceKind {
+    ghost output = { λ kind. Some (kind_text kind) };
+
+    fn fmt<W: fmt::Write>(&self, f: &mut fmt::Formatter<W>) -> fmt::Result {
+        f.write_str(self.text())
+    }
+}
+
+impl PartialEq for Resource {
+    ghost eq = { same_resource };
+
+    ghost laws = { Prim.search (comparing, rules) };
+
+    fn eq(&self, other: &Resource) -> bool {
+        self.rank() == other.rank() && self.id() == other.id()
+    }
+}
+
+impl Eq for Resource {
+    ghost laws = { Prim.search (comparing, rules) };
+}
+
+impl PartialOrd for Resource {
+    ghost partial_cmp = { as_partial_cmp resource_cmp };
+
+    ghost laws = { partial_order_from_own_ties (Prim.search (comparing, rules)) (Prim.search (comparing, rules)) };
+
+    fn partial_cmp(&self, other: &Resource) -> Option<Ordering> {
+        Some(self.cmp(other))
+    }
+}
+
+impl Ord for Resource {
+    ghost cmp = { resource_cmp };
+
+    ghost total = { Prim.search (comparing, rules) };
+
+    ghost matches_partial_cmp = { Prim.search (comparing, rules) };
+
+    ghost matches_eq = { Prim.search (comparing, rules) };
+
+    fn cmp(&self, other: &Resource) -> Ordering {
+        self.rank()
+            .cmp(&other.rank())
+            .then(self.id().cmp(other.id()))
+    }
+}
+
+impl fmt::Display for Resource {
+    ghost output = { λ resource. Some (resource_text resource) };
+
+    fn fmt<W: fmt::Write>(&self, f: &mut fmt::Formatter<W>) -> fmt::Result {
+        match self {
+            Resource::Kind(kind) => f.write_str(kind.text()),
+            Resource::Dag(dag) => write!(f, "DAG:{dag}"),
+        }
+    }
+}
