@@ -1,0 +1,175 @@
+-- Users put at their places, and the index of their digests.
+use Rattle.std.proofs.Common.{◌≡◌, ℕ, List, [], ◌∷◌, Bool, true, false, ◌&&◌, ◌||◌, cond, not, Option, Some, None, refl, sym, ap, ◌∙◌, subst, map, nat_eq, is_some, is_eq, Bor}
+use Rattle.std.specs.List.{find, list_any}
+use Rattle.std.specs.Option.{option_copied, option_map}
+use Rattle.std.specs.Ordering.{nat_cmp, match_ordering}
+use Rattle.std.specs.declared.cmp.Ordering.{Ordering}
+use Rattle.std.specs.declared.cmp.Ordering.TheVariants.{Less, Equal, Greater}
+use Rattle.std.specs.Cmp.Lexicographic.{pointwise, slice_cmp, texts_ties, nat_list_eq_equiv, bytes_decides}
+use Rattle.std.specs.BTreeMap.{BTreeMap, IsOrdered, get, insert_entry, is_at}
+use Rattle.std.specs.Map.{values_of}
+use Rattle.af_policy.specs.declared.account.Account.{Account}
+use Rattle.af_policy.specs.Rows.{UserRow, digests_differ, has_admin, has_digest, has_user, same_digest, same_name, with_user}
+use Rattle.af_policy.specs.Identity.{digest_user}
+use Rattle.af_policy.specs.Tables.{IsUserTable, is_admin, user_rows}
+use Rattle.af_policy.proofs.NameLemmas.{is_some-find}
+use Rattle.af_policy.proofs.TableLemmas.{user_rows-insert_entry}
+
+or-false_left : (a b : Bool) → (a || b) ≡ false → a ≡ false
+or-false_left true b e = e
+or-false_left false b e = refl
+
+or-false_right : (a b : Bool) → (a || b) ≡ false → b ≡ false
+or-false_right true b e = cc
+or-false_right false b e = e
+
+and-true_left : (a b : Bool) → (a && b) ≡ true → a ≡ true
+and-true_left true b e = refl
+and-true_left false b e = e
+
+and-true_right : (a b : Bool) → (a && b) ≡ true → b ≡ true
+and-true_right true b e = e
+and-true_right false b e = cc
+
+not-true : (b : Bool) → not b ≡ true → b ≡ false
+not-true true e = cc
+not-true false e = refl
+
+option_map-cond : {X Y : Type 0} (f : X → Y) (b : Bool) (x : X) (o : Option X) → option_map f (cond b (Some x) o) ≡ cond b (Some (f x)) (option_map f o)
+option_map-cond f true x o = refl
+option_map-cond f false x o = refl
+
+is_some-option_map : {X Y : Type 0} (f : X → Y) (o : Option X) → is_some (option_map f o) ≡ is_some o
+is_some-option_map f None = refl
+is_some-option_map f (Some x) = refl
+
+-- of two tests that do not both pass, it does not matter which is asked first
+cond-swap : {X : Type 0} (a b : Bool) (x y z : X) → (a && b) ≡ false → cond a x (cond b y z) ≡ cond b y (cond a x z)
+cond-swap true true x y z e = cc
+cond-swap true false x y z e = refl
+cond-swap false b x y z e = refl
+
+-- one digest is not that of two that differ
+not_both : (d a b : List ℕ) → same_digest a b ≡ false → (same_digest d b && same_digest d a) ≡ false
+not_both d a b apart = step (same_digest d b) (same_digest d a) refl refl
+  where
+    step : (s t : Bool) → same_digest d b ≡ s → same_digest d a ≡ t → (s && t) ≡ false
+    step false t is_b is_a = refl
+    step true false is_b is_a = refl
+    step true true is_b is_a =
+        let e : a ≡ b = sym ((bytes_decides d a).0 is_a) ∙ (bytes_decides d b).0 is_b
+        in sym ((bytes_decides a b).1 e) ∙ apart
+
+-- a name that nobody has does not tie
+not_tied : (name other : List ℕ) → same_name name other ≡ false → slice_cmp nat_cmp name other ≡ Equal → true ≡ false
+not_tied name other apart is = sym (ap is_eq is) ∙ sym (texts_ties name other) ∙ apart
+
+-- whose digest it is, after a user is added
+pub digest_user-with_user : (row : UserRow) (digest : List ℕ) (rows : List UserRow) → has_user rows row.name ≡ false → has_digest rows row.digest ≡ false → digest_user (with_user rows row) digest ≡ cond (same_digest digest row.digest) (Some row.name) (digest_user rows digest)
+digest_user-with_user row digest [] new_name new_digest = option_map-cond (λ user. user.name) (same_digest digest row.digest) row None
+digest_user-with_user row digest (x ∷ xs) new_name new_digest =
+    step (slice_cmp nat_cmp row.name x.name) refl
+    (digest_user-with_user row digest xs (or-false_right (same_name row.name x.name) (has_user xs row.name) new_name)
+    (or-false_right (same_digest row.digest x.digest) (has_digest xs row.digest) new_digest))
+  where
+    step : (o : Ordering) → slice_cmp nat_cmp row.name x.name ≡ o → digest_user (with_user xs row) digest ≡ cond (same_digest digest row.digest) (Some row.name) (digest_user xs digest) → digest_user (match_ordering o (row ∷ x ∷ xs) (row ∷ xs) (x ∷ with_user xs row)) digest ≡ cond (same_digest digest row.digest) (Some row.name) (digest_user (x ∷ xs) digest)
+    step Less is later = option_map-cond (λ user. user.name) (same_digest digest row.digest) row (find (λ user. same_digest digest user.digest) (x ∷ xs))
+    step Equal is later =
+        let e : true ≡ false = not_tied row.name x.name (or-false_left (same_name row.name x.name) (has_user xs row.name) new_name) is
+        in cc
+    step Greater is later =
+        option_map-cond (λ user. user.name) (same_digest digest x.digest) x (find (λ user. same_digest digest user.digest) (with_user xs row))
+        ∙ ap (λ o. cond (same_digest digest x.digest) (Some x.name) o) later
+        ∙ cond-swap (same_digest digest x.digest) (same_digest digest row.digest) (Some x.name) (Some row.name) (digest_user xs digest)
+        (not_both digest row.digest x.digest (or-false_left (same_digest row.digest x.digest) (has_digest xs row.digest) new_digest))
+        ∙ ap (λ o. cond (same_digest digest row.digest) (Some row.name) o)
+        (sym (option_map-cond (λ user. user.name) (same_digest digest x.digest) x (find (λ user. same_digest digest user.digest) xs)))
+
+pub is_some-option_copied : {X : Type 0} (o : Option (Bor X)) → is_some o ≡ is_some (option_copied o)
+is_some-option_copied None = refl
+is_some-option_copied (Some x) = refl
+
+-- a digest is somebody's exactly where a user is found
+pub is_some-digest_user : (rows : List UserRow) (digest : List ℕ) → is_some (digest_user rows digest) ≡ has_digest rows digest
+is_some-digest_user rows digest =
+    is_some-option_map (λ user. user.name) (find (λ user. same_digest digest user.digest) rows)
+    ∙ is_some-find (λ user. same_digest digest user.digest) rows
+
+-- a digest that is neither the new user's nor anybody's is nobody's then
+has_digest-with_user : (row : UserRow) (digest : List ℕ) (rows : List UserRow) → has_user rows row.name ≡ false → has_digest rows row.digest ≡ false → same_digest digest row.digest ≡ false → has_digest rows digest ≡ false → has_digest (with_user rows row) digest ≡ false
+has_digest-with_user row digest rows new_name new_digest apart nobody =
+    sym (is_some-digest_user (with_user rows row) digest)
+    ∙ ap is_some (digest_user-with_user row digest rows new_name new_digest)
+    ∙ ap (λ b. is_some (cond b (Some row.name) (digest_user rows digest))) apart
+    ∙ is_some-digest_user rows digest
+    ∙ nobody
+
+-- digests that differ still do
+pub digests_differ-with_user : (row : UserRow) (rows : List UserRow) → has_user rows row.name ≡ false → has_digest rows row.digest ≡ false → digests_differ rows ≡ true → digests_differ (with_user rows row) ≡ true
+digests_differ-with_user row [] new_name new_digest differ = refl
+digests_differ-with_user row (x ∷ xs) new_name new_digest differ =
+    step (slice_cmp nat_cmp row.name x.name) refl
+    (digests_differ-with_user row xs (or-false_right (same_name row.name x.name) (has_user xs row.name) new_name)
+    (or-false_right (same_digest row.digest x.digest) (has_digest xs row.digest) new_digest)
+    (and-true_right (not (has_digest xs x.digest)) (digests_differ xs) differ))
+  where
+    step : (o : Ordering) → slice_cmp nat_cmp row.name x.name ≡ o → digests_differ (with_user xs row) ≡ true → digests_differ (match_ordering o (row ∷ x ∷ xs) (row ∷ xs) (x ∷ with_user xs row)) ≡ true
+    step Less is later = (λ i. not (new_digest i) && differ i)
+    step Equal is later =
+        let e : true ≡ false = not_tied row.name x.name (or-false_left (same_name row.name x.name) (has_user xs row.name) new_name) is
+        in cc
+    step Greater is later =
+        let name_left : has_user xs row.name ≡ false = or-false_right (same_name row.name x.name) (has_user xs row.name) new_name
+        in let digest_left : has_digest xs row.digest ≡ false = or-false_right (same_digest row.digest x.digest) (has_digest xs row.digest) new_digest
+        in let apart : same_digest x.digest row.digest ≡ false = nat_list_eq_equiv.symm x.digest row.digest ∙ or-false_left (same_digest row.digest x.digest) (has_digest xs row.digest) new_digest
+        in let nobody : has_digest xs x.digest ≡ false = not-true (has_digest xs x.digest) (and-true_left (not (has_digest xs x.digest)) (digests_differ xs) differ)
+        in let first : has_digest (with_user xs row) x.digest ≡ false = has_digest-with_user row x.digest xs name_left digest_left apart nobody
+        in (λ i. not (first i) && later i)
+
+-- the table with one more user
+pub IsUserTable-insert : (accounts more : BTreeMap (List ℕ) Account) (names index : BTreeMap (List ℕ) (List ℕ)) (rows : List UserRow) (name : List ℕ) (account : Account) → IsUserTable accounts names → user_rows accounts.entries ≡ rows → has_user rows name ≡ false → has_digest rows account.digest ≡ false → IsOrdered (slice_cmp nat_cmp) more → more.entries ≡ insert_entry (slice_cmp nat_cmp) accounts.entries name account → ((digest : List ℕ) → get (slice_cmp nat_cmp) index digest ≡ cond (is_at (slice_cmp nat_cmp account.digest) digest) (Some name) (get (slice_cmp nat_cmp) names digest)) → IsUserTable more index
+IsUserTable-insert accounts more names index rows name account table are new_name new_digest ordered inserted updated =
+    let row : UserRow = record { name = name; digest = account.digest; roles = account.roles.items }
+    in let old_name : has_user (user_rows accounts.entries) name ≡ false = ap (λ users. has_user users name) are ∙ new_name
+    in let old_digest : has_digest (user_rows accounts.entries) account.digest ≡ false = ap (λ users. has_digest users account.digest) are ∙ new_digest
+    in let after : user_rows more.entries ≡ with_user (user_rows accounts.entries) row = ap user_rows inserted ∙ user_rows-insert_entry name account accounts.entries
+    in record {
+      ordered = ordered;
+      indexed =
+          λ digest. updated digest
+          ∙ (λ i. cond ((sym (texts_ties account.digest digest) ∙ nat_list_eq_equiv.symm account.digest digest) i) (Some name) (table.indexed digest i))
+          ∙ sym (digest_user-with_user row digest (user_rows accounts.entries) old_name old_digest)
+          ∙ sym (ap (λ users. digest_user users digest) after);
+      differ =
+          ap digests_differ after
+          ∙ digests_differ-with_user row (user_rows accounts.entries) old_name old_digest table.differ;
+    }
+
+none_from : {X : Type 0} (o : Option X) → is_some o ≡ false → o ≡ None
+none_from None e = refl
+none_from (Some x) e = cc
+
+-- the table after a digest of nobody was put into the index and taken out again
+pub IsUserTable-restored : (accounts more : BTreeMap (List ℕ) Account) (names index : BTreeMap (List ℕ) (List ℕ)) (rows : List UserRow) (digest key : List ℕ) → IsUserTable accounts names → user_rows accounts.entries ≡ rows → has_digest rows digest ≡ false → IsOrdered (slice_cmp nat_cmp) more → more.entries ≡ accounts.entries → ((other : List ℕ) → get (slice_cmp nat_cmp) index other ≡ cond (is_at (slice_cmp nat_cmp digest) other) None (cond (is_at (slice_cmp nat_cmp digest) other) (Some key) (get (slice_cmp nat_cmp) names other))) → IsUserTable more index
+IsUserTable-restored accounts more names index rows digest key table are new_digest ordered same updated = record {
+  ordered = ordered;
+  indexed =
+      λ other. updated other
+      ∙ step other (is_eq (slice_cmp nat_cmp digest other)) refl
+      ∙ table.indexed other
+      ∙ sym (ap (λ entries. digest_user (user_rows entries) other) same);
+  differ = ap (λ entries. digests_differ (user_rows entries)) same ∙ table.differ;
+}
+  where
+    step : (other : List ℕ) (b : Bool) → is_eq (slice_cmp nat_cmp digest other) ≡ b → cond b None (cond b (Some key) (get (slice_cmp nat_cmp) names other)) ≡ get (slice_cmp nat_cmp) names other
+    step other false is = refl
+    step other true is =
+        let e : digest ≡ other = (bytes_decides digest other).0 (texts_ties digest other ∙ is)
+        in let nobody : is_some (digest_user (user_rows accounts.entries) other) ≡ false =
+        is_some-digest_user (user_rows accounts.entries) other ∙ ap (has_digest (user_rows accounts.entries)) (sym e) ∙ ap (λ users. has_digest users digest) are ∙ new_digest
+        in sym (table.indexed other ∙ none_from (digest_user (user_rows accounts.entries) other) nobody)
+
+-- some account has the role Admin exactly where some row has it
+pub has_admin-user_rows : (entries : List (List ℕ × Account)) → list_any is_admin (values_of entries) ≡ has_admin (user_rows entries)
+has_admin-user_rows [] = refl
+has_admin-user_rows (e ∷ es) = ap (λ b. is_admin e.1 || b) (has_admin-user_rows es)

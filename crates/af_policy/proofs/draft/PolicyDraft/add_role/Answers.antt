@@ -1,0 +1,8 @@
+use Rattle.std.proofs.Common.{◌≡◌, ap, ◌∙◌}
+use Rattle.af_policy.proofs.DraftLemmas.{roles_exist-with_role}
+use Rattle.af_policy.proofs.draft.PolicyDraft.add_role.Goals as goal
+
+pub invariant_of-self-2 : goal.invariant_of-self-2
+invariant_of-self-2 c =
+    rw c.in_ok-put.ensures.ok
+    (roles_exist-with_role c.self.inside.users c.self.inside.roles c.args.role c.self.invariant)
