@@ -1,0 +1,13 @@
+pub mod Endpoints
+pub mod Listings
+pub mod Pages
+pub mod Replies
+pub mod Requirements
+pub mod Results
+pub mod Rows
+pub mod States
+pub mod Statuses
+pub mod Steps
+pub mod Tellings
+pub mod Verdicts
+pub mod Writing

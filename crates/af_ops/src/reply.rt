@@ -1,0 +1,52 @@
+ghost use Rattle.std.specs.Prelude.{◌≡◌};
+
+use crate::dag_row::DagRow;
+use std::marker::Model;
+
+/// A page of the list of DAGs, and how many DAGs the whole list has.
+#[derive(Drop)]
+pub struct DagPage {
+    rows: Vec<DagRow>,
+    total: usize,
+}
+
+impl Model for DagPage {
+    ghost use Rattle.af_ops.specs.Pages.{ListedDags};
+
+    ghost Value = { ListedDags };
+
+    ghost view = { λ p. record { rows = p.rows.items; total = p.total } };
+}
+
+impl DagPage {
+    /// The page of these rows.
+    pub fn of(rows: Vec<DagRow>, total: usize) -> DagPage
+        ensures rows { result.rows ≡ rows.items }
+        ensures total { result.total ≡ total }
+    {
+        DagPage { rows, total }
+    }
+
+    /// The rows that it tells.
+    pub fn rows(&self) -> &[DagRow]
+        ensures { result.now ≡ self.now.rows }
+    {
+        self.rows.as_slice()
+    }
+
+    /// How many rows the whole list has.
+    pub fn total(&self) -> usize
+        ensures { result ≡ self.now.total }
+    {
+        self.total
+    }
+}
+
+/// What a permitted operation answers.
+#[derive(Drop)]
+pub enum Reply {
+    /// What the server is.
+    Version,
+    /// The DAGs that the user reads.
+    Dags(DagPage),
+}
