@@ -1,0 +1,9 @@
+pub mod LineLemmas
+pub mod FieldLemmas
+pub mod IncomingLemmas
+pub mod SendLemmas
+pub mod AnswerLemmas
+pub mod RouteLemmas
+pub mod TurnLemmas
+pub mod RunLemmas
+pub mod LawLemmas

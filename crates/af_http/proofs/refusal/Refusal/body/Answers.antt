@@ -1,0 +1,17 @@
+use Rattle.std.proofs.Common.{sym, ap}
+use Rattle.std.specs.Fmt.{digits}
+use Rattle.af_http.specs.Answers.{problem_body}
+use Rattle.af_http.specs.Reading.{status_of, detail_of}
+use Rattle.af_http.proofs.refusal.Refusal.body.Goals as goal
+
+pub returns-in-BadHead : goal.returns-in-BadHead
+unfolding digits
+returns-in-BadHead c = sym (ap (λ r. problem_body (status_of r) (detail_of r)) c.in-BadHead.is)
+
+pub returns-in-Incomplete : goal.returns-in-Incomplete
+unfolding digits
+returns-in-Incomplete c = sym (ap (λ r. problem_body (status_of r) (detail_of r)) c.in-Incomplete.is)
+
+pub returns-in-HeadTooLarge : goal.returns-in-HeadTooLarge
+unfolding digits
+returns-in-HeadTooLarge c = sym (ap (λ r. problem_body (status_of r) (detail_of r)) c.in-HeadTooLarge.is)

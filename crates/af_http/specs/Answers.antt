@@ -1,0 +1,95 @@
+-- The bytes of an answer (RFC 9112, section 4; RFC 9110, sections 8.3, 8.6, 10.2.1 and 11.6.1; RFC 9457; this product's own order of fields).
+use Rattle.std.specs.Prelude.{◌≡◌, ℕ, Bool, true, false, cond, List, [], ◌∷◌, ◌++◌, length, Option, Some, None, codes, decimal}
+use Rattle.std.specs.Option.{option_copied}
+use Rattle.af_ops.specs.Statuses.{code_of, reason_of, is_fault_status}
+use Rattle.af_ops.specs.declared.status.Status.{Status}
+use Rattle.af_ops.specs.declared.status.Status.TheVariants as status
+use Rattle.af_http.specs.declared.route_fault.Allow.{Allow}
+use Rattle.af_http.specs.declared.route_fault.Allow.TheVariants.{Get}
+use Rattle.af_http.specs.declared.answer.Answer.{Answer}
+
+-- an answer: its status, the methods of the path, the policy version and the number of entries, where it tells them, and its body
+pub record Told : Type 0 where
+  pub status : Status
+  pub allow : Option Allow
+  pub version : Option ℕ
+  pub seq : Option ℕ
+  pub body : Option (List ℕ)
+
+abbrev pub status_line : Status → List ℕ
+status_line s = codes "HTTP/1.1 " ++ decimal (code_of s) ++ codes " " ++ reason_of s ++ codes "\r\n"
+
+-- a body is JSON, and that of a fault a problem
+abbrev pub type_line_of : Status → List ℕ
+type_line_of s =
+    cond (is_fault_status s) (codes "Content-Type: application/problem+json\r\n") (codes "Content-Type: application/json\r\n")
+
+abbrev pub type_line : Status → Option (List ℕ) → List ℕ
+type_line s None = []
+type_line s (Some body) = type_line_of s
+
+-- a field with this number
+abbrev pub number_line : List ℕ → ℕ → List ℕ
+number_line name n = name ++ (decimal n ++ codes "\r\n")
+
+abbrev pub number_line_of : List ℕ → Option ℕ → List ℕ
+number_line_of name None = []
+number_line_of name (Some n) = number_line name n
+
+abbrev pub length_line : Option (List ℕ) → List ℕ
+length_line None = []
+length_line (Some body) = number_line (codes "Content-Length: ") (length body)
+
+abbrev pub allow_line : Option Allow → List ℕ
+allow_line None = []
+allow_line (Some Get) = codes "Allow: GET\r\n"
+
+-- only 401 asks for a token
+abbrev pub auth_line : Status → List ℕ
+auth_line status.Unauthorized = codes "WWW-Authenticate: Bearer\r\n"
+auth_line _ = []
+
+abbrev pub close_line : Bool → List ℕ
+close_line true = codes "Connection: close\r\n"
+close_line false = []
+
+-- the status line, the fields in their order, and the empty line
+abbrev pub head_text : Told → Bool → List ℕ
+head_text told closes =
+    status_line told.status
+    ++ (type_line told.status told.body ++ length_line told.body)
+    ++ allow_line told.allow
+    ++ auth_line told.status
+    ++ number_line_of (codes "X-Policy-Version: ") told.version
+    ++ number_line_of (codes "X-Plane-Seq: ") told.seq
+    ++ close_line closes
+    ++ codes "\r\n"
+
+-- the body that is sent: none after a HEAD, whatever the fields say of it
+abbrev pub body_text : Bool → Option (List ℕ) → List ℕ
+body_text head_only None = []
+body_text head_only (Some body) = cond head_only [] body
+
+-- the bytes of an answer
+abbrev pub answer_text : Told → Bool → Bool → List ℕ
+answer_text told head_only closes = head_text told closes ++ body_text head_only told.body
+
+-- the body of a fault: its detail, and its status with the title
+abbrev pub problem_body : Status → List ℕ → List ℕ
+problem_body s detail =
+    codes "{\"detail\":\"" ++ detail ++ codes "\",\"status\":" ++ decimal (code_of s) ++ codes ",\"title\":\"" ++ reason_of s ++ codes "\",\"type\":\"about:blank\"}"
+
+-- a fault that was decided under no policy version
+abbrev pub problem : Status → Option Allow → List ℕ → Told
+problem s allow detail = record { status = s; allow = allow; version = None; seq = None; body = Some (problem_body s detail) }
+
+-- want of memory, with nothing done, and with the change done and no memory for its reply: fixed texts, after which the connection closes
+unfoldable pub memory_text : List ℕ
+memory_text = answer_text (problem status.Unavailable None (codes "out of memory")) false true
+
+unfoldable pub lost_text : List ℕ
+lost_text = answer_text (problem status.InternalError None (codes "done, reply lost")) false true
+
+-- the same answer, where its body lies in memory
+abbrev pub told : Answer → Told
+told a = record { status = a.status; allow = a.allow; version = a.version; seq = a.seq; body = option_copied a.body }

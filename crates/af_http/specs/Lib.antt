@@ -1,0 +1,16 @@
+pub mod Streams
+pub mod Lines
+pub mod Fronts
+pub mod Extents
+pub mod Fields
+pub mod Requests
+pub mod Routes
+pub mod Table
+pub mod Answers
+pub mod Replies
+pub mod Reading
+pub mod Run
+pub mod Sending
+pub mod Gathering
+pub mod Turns
+pub mod Laws

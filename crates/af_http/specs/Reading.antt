@@ -1,0 +1,78 @@
+-- Which requests stand in a text of bytes, one after another, and how they end (RFC 9112, sections 2 and 9).
+use Rattle.std.specs.Prelude.{◌≡◌, ◌+◌, ◌==◌, ◌⊎◌, ◌||◌, ℕ, Bool, true, false, List, [], ◌∷◌, codes, None}
+use Rattle.httparse.specs.Grammar.{RequestHead, ReadsRequest}
+use Rattle.af_ops.specs.declared.status.Status.{Status}
+use Rattle.af_ops.specs.declared.status.Status.TheVariants as status
+use Rattle.af_http.specs.Fronts.{nothing, part, large, whole, front_of}
+use Rattle.af_http.specs.Requests.{Asked, asked_by, fields_of, IsFew, is_taken, is_head}
+use Rattle.af_http.specs.Answers.{problem, answer_text}
+use Rattle.af_http.specs.declared.refusal.Refusal.{Refusal}
+use Rattle.af_http.specs.declared.refusal.Refusal.TheVariants.{BadHead, Incomplete, HeadTooLarge}
+
+-- these bytes are a head that is a request's by the grammar of HTTP/1.1, and no field more than the limit
+abbrev pub Parses : List ℕ → RequestHead → Type 0
+Parses head h = ReadsRequest head h [] × IsFew h
+
+-- A request stands at the front of the text, and rest follows it: after empty lines comes its head, the bytes up to
+-- and with the first empty line, which is a request's and is taken.
+pub record Begins (text : List ℕ) (asked : Asked) (rest : List ℕ) : Type 0 where
+  pub head : List ℕ
+  pub parsed : RequestHead
+  pub framed : front_of text ≡ whole head rest
+  pub parses : Parses head parsed
+  pub taken : is_taken parsed.minor (fields_of parsed) ≡ true
+  pub asks : asked ≡ asked_by parsed
+
+-- The text is these requests, one after another, and then rest.
+abbrev pub Stand : List ℕ → List Asked → List ℕ → Type 0
+Stand text [] rest = text ≡ rest
+Stand text (asked ∷ more) rest = (after : List ℕ) × Begins text asked after × Stand after more rest
+
+-- A head is bad: it is no request's; or it is, and is not taken. The method is known in the second case alone, and
+-- says whether the refusal leaves its body out.
+abbrev pub IsBadHead : List ℕ → Bool → Type 0
+IsBadHead head head_only =
+    ((head_only ≡ false) × ((h : RequestHead) → Parses head h → ⊥))
+    ⊎ ((h : RequestHead) × Parses head h × (is_taken h.minor (fields_of h) ≡ false) × (head_only ≡ is_head h.method))
+
+-- Why no request stands at the front of the text. ended: no byte follows the text.
+abbrev pub IsRefused : Bool → List ℕ → Refusal → Type 0
+IsRefused ended text (BadHead head_only) =
+    (head : List ℕ) × (rest : List ℕ) × (front_of text ≡ whole head rest) × IsBadHead head head_only
+IsRefused ended text Incomplete = (front_of text ≡ part) × (ended ≡ true)
+IsRefused ended text HeadTooLarge = front_of text ≡ large
+
+-- the input ended, and no request had begun
+abbrev pub IsOver : Bool → List ℕ → Type 0
+IsOver ended text = (front_of text ≡ nothing) × (ended ≡ true)
+
+-- no request is whole yet, and none is refused
+abbrev pub IsOpen : List ℕ → Type 0
+IsOpen text = (front_of text ≡ nothing) ⊎ (front_of text ≡ part)
+
+-- the most requests of a connection (this product's own rule)
+abbrev pub request_limit : ℕ
+request_limit = 1000
+
+-- the connection closes after this request, which so many went before
+abbrev pub closes_after : ℕ → Asked → Bool
+closes_after count asked = asked.closes || count + 1 == request_limit
+
+-- the status of a refusal, its detail, whether its body is left out, and its bytes; the connection closes after it
+abbrev pub status_of : Refusal → Status
+status_of (BadHead head_only) = status.BadRequest
+status_of Incomplete = status.BadRequest
+status_of HeadTooLarge = status.HeadTooLarge
+
+abbrev pub detail_of : Refusal → List ℕ
+detail_of (BadHead head_only) = codes "bad request head"
+detail_of Incomplete = codes "incomplete request"
+detail_of HeadTooLarge = codes "request head too large"
+
+abbrev pub leaves_out : Refusal → Bool
+leaves_out (BadHead head_only) = head_only
+leaves_out Incomplete = false
+leaves_out HeadTooLarge = false
+
+abbrev pub refusal_text : Refusal → List ℕ
+refusal_text refusal = answer_text (problem (status_of refusal) None (detail_of refusal)) (leaves_out refusal) true

@@ -1,0 +1,141 @@
+ghost use Rattle.std.specs.Prelude.{◌≡◌, ℕ, ◌+◌, ◌<◌, ◌≤◌, List, [], ◌++◌, length, take, drop, IfOk, OnOk, OnErr, true, false};
+ghost use Rattle.af_http.specs.Gathering.{Fills};
+
+use crate::stream::{Failed, Source};
+use std::alloc::{AllocError, Global};
+use std::marker::Model;
+
+/// How many bytes are kept at most.
+pub const INCOMING_ROOM: usize = 32_768;
+
+/// The most bytes that are still to be used when more are read; a read then finds room for as many.
+pub const PIECE: usize = 16_384;
+
+/// The bytes that have come and were not used yet. A contract sees them.
+///
+/// They have their memory from the start. Those used are left behind, and the others move only when room is needed.
+#[derive(Drop)]
+pub struct Incoming {
+    bytes: Vec<u8>,
+    start: usize,
+    end: usize,
+}
+
+impl Model for Incoming {
+    ghost use Rattle.std.specs.Prelude.{◌≡◌, ℕ, List, ◌≤◌, take, drop, vec_len};
+
+    ghost Value = { List ℕ };
+
+    ghost view = { λ i. drop i.start (take i.end i.bytes.items) };
+
+    ghost invariant = { λ i. (i.start ≤ i.end) × (i.end ≤ 32768) × (vec_len i.bytes ≡ 32768) };
+}
+
+impl Incoming {
+    /// None have come.
+    pub fn new(alloc: Global) -> Result<Incoming, AllocError>
+        ensures { IfOk result (λ i. i ≡ []) }
+    {
+        let bytes = vec![in alloc; 0; INCOMING_ROOM]?;
+        Ok(Incoming {
+            bytes,
+            start: 0,
+            end: 0,
+        })
+    }
+
+    /// The bytes.
+    pub fn as_slice(&self) -> &[u8]
+        ensures { result.now ≡ self.now }
+    {
+        let (came, _) = self.bytes.as_slice().split_at(self.end);
+        let (_, left) = came.split_at(self.start);
+        left
+    }
+
+    /// The first bytes were used.
+    pub fn drop_front(&mut self, n: usize)
+        requires { n ≤ length self.old }
+        ensures { self.new ≡ drop n self.old }
+    {
+        self.start += n;
+    }
+
+    /// Reads once, and says whether bytes came.
+    pub fn fill<R: Source>(&mut self, reader: &mut R) -> Result<bool, Failed>
+        requires { length self.old ≤ 16384 }
+        ensures ok { IfOk result (λ some. (more : List ℕ) × Fills (R.given reader.old) (R.given reader.new) self.old self.new more
+            × (some ≡ false → (more ≡ []) × (R.ended reader.new ≡ true))) }
+        ensures fine { OnOk result (R.failures reader.new ≡ R.failures reader.old) }
+        ensures err { OnErr result ((R.given reader.new ≡ R.given reader.old) × (self.new ≡ self.old)
+            × (R.failures reader.new ≡ R.failures reader.old + 1)) }
+        ensures reads { R.reads reader.new ≡ R.reads reader.old + 1 }
+    {
+        let (start, end, read) = read_more(reader, self.bytes.as_mut_slice(), self.start, self.end);
+        self.start = start;
+        self.end = end;
+        read
+    }
+}
+
+/// Reads once behind what stands from start to end, which may be moved to the front before. Says where it stands then,
+/// with what came, and whether bytes came.
+fn read_more<R: Source>(
+    reader: &mut R,
+    bytes: &mut [u8],
+    start: usize,
+    end: usize,
+) -> (usize, usize, Result<bool, Failed>)
+    requires size { length bytes.old ≡ 32768 }
+    requires ordered { start ≤ end }
+    requires within { end ≤ 32768 }
+    requires few { end ≤ start + 16384 }
+    ensures within { (result.0 ≤ result.1) × (result.1 ≤ 32768) }
+    ensures ok { IfOk result.2 (λ some. (more : List ℕ)
+        × Fills (R.given reader.old) (R.given reader.new) (drop start (take end bytes.old)) (drop result.0 (take result.1 bytes.new)) more
+        × (some ≡ false → (more ≡ []) × (R.ended reader.new ≡ true))) }
+    ensures fine { OnOk result.2 (R.failures reader.new ≡ R.failures reader.old) }
+    ensures err { OnErr result.2 ((R.given reader.new ≡ R.given reader.old)
+        × (drop result.0 (take result.1 bytes.new) ≡ drop start (take end bytes.old))
+        × (R.failures reader.new ≡ R.failures reader.old + 1)) }
+    ensures reads { R.reads reader.new ≡ R.reads reader.old + 1 }
+{
+    let (start, end) = with_room(bytes, start, end);
+    match read_behind(reader, bytes, end) {
+        Ok(count) => (start, end + count, Ok(count > 0)),
+        Err(failed) => (start, end, Err(failed)),
+    }
+}
+
+/// Moves what stands from start to end to the front, where a read would find too little room behind it, and says where
+/// it stands then.
+fn with_room(bytes: &mut [u8], start: usize, end: usize) -> (usize, usize)
+    requires size { length bytes.old ≡ 32768 }
+    requires ordered { start ≤ end }
+    requires within { end ≤ 32768 }
+    requires few { end ≤ start + 16384 }
+    ensures same { drop result.0 (take result.1 bytes.new) ≡ drop start (take end bytes.old) }
+    ensures ordered { result.0 ≤ result.1 }
+    ensures room { result.1 ≤ 16384 }
+{
+    if end <= INCOMING_ROOM - PIECE {
+        return (start, end);
+    }
+    bytes.copy_within(start..end, 0);
+    (0, end - start)
+}
+
+/// Reads once, to what stands behind the end.
+fn read_behind<R: Source>(reader: &mut R, bytes: &mut [u8], end: usize) -> Result<usize, Failed>
+    requires { end < length bytes.old }
+    ensures before { take end bytes.new ≡ take end bytes.old }
+    ensures room { IfOk result (λ n. end + n ≤ length bytes.old) }
+    ensures came { IfOk result (λ n. R.given reader.new ≡ R.given reader.old ++ take n (drop end bytes.new)) }
+    ensures ended { IfOk result (λ n. n ≡ 0 → R.ended reader.new ≡ true) }
+    ensures fine { OnOk result (R.failures reader.new ≡ R.failures reader.old) }
+    ensures err { OnErr result ((R.given reader.new ≡ R.given reader.old) × (R.failures reader.new ≡ R.failures reader.old + 1)) }
+    ensures reads { R.reads reader.new ≡ R.reads reader.old + 1 }
+{
+    let (_, room) = bytes.split_at_mut(end);
+    reader.read(room)
+}

@@ -1,0 +1,41 @@
+//! HTTP/1.1 messages from bytes to bytes, over any reader, any writer and any service.
+#![tactic(auto)]
+
+mod answer;
+mod answering;
+mod counted;
+mod ended;
+mod extent;
+mod fields;
+mod gathering;
+mod incoming;
+mod laws;
+mod lines;
+mod outgoing;
+mod place;
+mod problems;
+mod reading;
+mod refusal;
+mod reply;
+mod replying;
+mod request;
+mod route_fault;
+mod routes;
+mod service;
+mod serving;
+mod stream;
+mod wording;
+mod writing;
+
+pub use counted::Counted;
+pub use ended::Ended;
+pub use laws::{one_reading, one_request};
+pub use place::Place;
+pub use route_fault::{Allow, RouteFault};
+pub use routes::Routes;
+pub use service::Service;
+pub use serving::serve;
+pub use stream::{Failed, Sink, Source};
+
+#[cfg(test)]
+mod tests;

@@ -1,0 +1,82 @@
+ghost use Rattle.std.specs.Prelude.{◌≡◌, ℕ, ◌<◌, ◌≤◌, List, ◌∷◌, ◌++◌, length, take, drop, IfSome, IfNone, false};
+ghost use Rattle.af_http.specs.Lines.{lines_of, is_blank, after_blanks, begins_blank, HasNoLine};
+ghost use Rattle.af_http.specs.Extents.{IsExtent, sized};
+
+use crate::extent::Extent;
+use memchr::memchr;
+
+/// The most bytes that may stand without an empty line.
+pub const HEAD_LIMIT: usize = 16_384;
+
+/// Where the first line ends, its line feed included.
+pub fn line_len(bytes: &[u8]) -> Option<usize>
+    ensures within { IfSome result (λ n. (0 < n) × (n ≤ length bytes.now)) }
+    ensures line { IfSome result (λ n. (tail : List ℕ) →
+        lines_of (bytes.now ++ tail) ≡ take n bytes.now ∷ lines_of (drop n bytes.now ++ tail)) }
+    ensures none { IfNone result (HasNoLine bytes.now) }
+{
+    let place = memchr(b'\n', bytes)?;
+    Some(place + 1)
+}
+
+/// Whether a line is its end alone.
+pub fn is_blank(line: &[u8]) -> bool
+    ensures { result ≡ is_blank line.now }
+{
+    match line {
+        [a] => *a == b'\n',
+        [a, b] => *a == b'\r' && *b == b'\n',
+        _ => false,
+    }
+}
+
+/// How long the empty lines at the front are.
+pub fn blanks_len(bytes: &[u8]) -> usize
+    ensures within { result ≤ length bytes.now }
+    ensures dropped { (tail : List ℕ) → after_blanks (lines_of (bytes.now ++ tail))
+        ≡ after_blanks (lines_of (drop result bytes.now ++ tail)) }
+    ensures rest { begins_blank (lines_of (drop result bytes.now)) ≡ false }
+{
+    let mut rest = bytes;
+    let mut at = 0;
+    while let Some(n) = line_len(rest) {
+        let (line, after) = rest.split_at(n);
+        if !is_blank(line) {
+            return at;
+        }
+        at += n;
+        rest = after;
+    }
+    at
+}
+
+/// How far the head at the front goes.
+pub fn extent_of(bytes: &[u8]) -> Extent
+    requires { begins_blank (lines_of bytes.now) ≡ false }
+    ensures { IsExtent bytes.now result }
+{
+    let mut rest = bytes;
+    let mut at = 0;
+    while let Some(n) = line_len(rest) {
+        let (line, after) = rest.split_at(n);
+        at += n;
+        if is_blank(line) {
+            return sized(at);
+        }
+        rest = after;
+    }
+    if bytes.len() > HEAD_LIMIT {
+        return Extent::Large;
+    }
+    Extent::Part
+}
+
+/// A head of so many bytes.
+fn sized(at: usize) -> Extent
+    ensures { result ≡ sized at }
+{
+    if at > HEAD_LIMIT + 1 {
+        return Extent::Large;
+    }
+    Extent::Whole(at)
+}

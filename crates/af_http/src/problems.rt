@@ -1,0 +1,71 @@
+ghost use Rattle.std.specs.Prelude.{◌≡◌, codes, Some};
+ghost use Rattle.af_ops.specs.declared.status.Status.TheVariants as status;
+ghost use Rattle.af_http.specs.Answers.{problem_body, memory_text, lost_text};
+ghost use Rattle.af_http.specs.Reading.{status_of, detail_of, leaves_out};
+
+use crate::refusal::Refusal;
+use af_ops::Status;
+
+impl Refusal {
+    /// The status of its answer.
+    pub fn status(self) -> Status
+        ensures { result ≡ status_of self }
+    {
+        match self {
+            Refusal::BadHead(_) | Refusal::Incomplete => Status::BadRequest,
+            Refusal::HeadTooLarge => Status::HeadTooLarge,
+        }
+    }
+
+    /// The body of its answer.
+    pub fn body(self) -> &'static [u8]
+        ensures { result.now ≡ problem_body (status_of self) (detail_of self) }
+    {
+        match self {
+            Refusal::BadHead(_) =>
+                b"{\"detail\":\"bad request head\",\"status\":400,\"title\":\"Bad Request\",\"type\":\"about:blank\"}",
+            Refusal::Incomplete =>
+                b"{\"detail\":\"incomplete request\",\"status\":400,\"title\":\"Bad Request\",\"type\":\"about:blank\"}",
+            Refusal::HeadTooLarge =>
+                b"{\"detail\":\"request head too large\",\"status\":431,\"title\":\"Request Header Fields Too Large\",\"type\":\"about:blank\"}",
+        }
+    }
+
+    /// Whether its answer leaves the body out.
+    pub fn head_only(self) -> bool
+        ensures { result ≡ leaves_out self }
+    {
+        match self {
+            Refusal::BadHead(head_only) => head_only,
+            Refusal::Incomplete | Refusal::HeadTooLarge => false,
+        }
+    }
+}
+
+/// The body of 404 for a path that the table does not have.
+pub fn no_path_body() -> &'static [u8]
+    ensures { result.now ≡ problem_body status.NotFound (codes "no such path") }
+{
+    b"{\"detail\":\"no such path\",\"status\":404,\"title\":\"Not Found\",\"type\":\"about:blank\"}"
+}
+
+/// The body of 405.
+pub fn bad_method_body() -> &'static [u8]
+    ensures { result.now ≡ problem_body status.MethodNotAllowed (codes "method not allowed") }
+{
+    b"{\"detail\":\"method not allowed\",\"status\":405,\"title\":\"Method Not Allowed\",\"type\":\"about:blank\"}"
+}
+
+/// The whole text for want of memory, with nothing done.
+pub fn memory_text() -> &'static [u8]
+    ensures { result.now ≡ memory_text }
+{
+    b"HTTP/1.1 503 Service Unavailable\r\nContent-Type: application/problem+json\r\nContent-Length: 90\r\nConnection: close\r\n\r\n{\"detail\":\"out of memory\",\"status\":503,\"title\":\"Service Unavailable\",\"type\":\"about:blank\"}"
+}
+
+/// The whole text for want of memory, with the change done and its reply lost.
+pub fn lost_text() -> &'static [u8]
+    ensures { result.now ≡ lost_text }
+{
+    b"HTTP/1.1 500 Internal Server Error\r\nContent-Type: application/problem+json\r\nContent-Length: 95\r\nConnection: close\r\n\r\n{\"detail\":\"done, reply lost\",\"status\":500,\"title\":\"Internal Server Error\",\"type\":\"about:blank\"}"
+}

@@ -1,0 +1,120 @@
+ghost use Rattle.std.specs.Prelude.{◌≡◌, Option};
+ghost use Rattle.std.specs.Option.{option_copied};
+ghost use Rattle.af_http.specs.Answers.{told};
+ghost use Rattle.af_http.specs.Replies.{reply_text, wants_memory, told_by};
+ghost use Rattle.af_http.specs.Reading.{refusal_text, status_of};
+ghost use Rattle.af_http.specs.Run.{end_by};
+ghost use Rattle.af_http.specs.Sending.{Puts, started};
+
+use crate::answer::Answer;
+use crate::answering::put_answer;
+use crate::ended::Ended;
+use crate::outgoing::Outgoing;
+use crate::problems::{bad_method_body, lost_text, memory_text, no_path_body};
+use crate::refusal::Refusal;
+use crate::reply::Reply;
+use crate::route_fault::{Allow, RouteFault};
+use crate::stream::{Failed, Sink};
+use af_ops::{Body, Served, Shown, Status};
+
+/// A fault that was decided under no policy version.
+fn problem(status: Status, allow: Option<Allow>, body: &[u8]) -> Answer<'_>
+    ensures { told result ≡ record { status = status; allow = allow; version = None; seq = None; body = Some body.now } }
+{
+    Answer {
+        status,
+        allow,
+        version: None,
+        seq: None,
+        body: Some(body),
+    }
+}
+
+/// What the service tells.
+fn told_by(shown: &Shown) -> Answer<'_>
+    ensures { told result ≡ told_by shown.now }
+{
+    Answer {
+        status: shown.status,
+        allow: None,
+        version: shown.version,
+        seq: shown.seq,
+        body: shown.body.as_ref().map(Body::as_bytes),
+    }
+}
+
+/// Puts the bytes of a reply.
+pub fn put_reply<W: Sink>(
+    writer: &mut W,
+    outgoing: &mut Outgoing,
+    reply: &Reply,
+    head_only: bool,
+    closes: bool,
+) -> Result<(), Failed>
+    ensures { Puts
+        (record { taken = W.taken writer.old; held = outgoing.old; failures = W.failures writer.old })
+        (record { taken = W.taken writer.new; held = outgoing.new; failures = W.failures writer.new })
+        (reply_text reply.now head_only closes) started result }
+{
+    match reply {
+        Reply::Fault(RouteFault::NoPath) => {
+            let answer = problem(Status::NotFound, None, no_path_body());
+            put_answer(writer, outgoing, &answer, head_only, closes)
+        }
+        Reply::Fault(RouteFault::BadMethod(allow)) => {
+            let answer = problem(Status::MethodNotAllowed, Some(*allow), bad_method_body());
+            put_answer(writer, outgoing, &answer, head_only, closes)
+        }
+        Reply::Served(Served::Shown(shown)) => put_answer(
+            writer,
+            outgoing,
+            &told_by(shown),
+            head_only,
+            closes,
+        ),
+        Reply::Fault(RouteFault::OutOfMemory) | Reply::Served(Served::NothingDone) => outgoing.put(
+            writer,
+            memory_text(),
+        ),
+        Reply::Served(Served::ReplyLost) => outgoing.put(writer, lost_text()),
+    }
+}
+
+/// Puts the bytes of a refusal, after which the connection ends.
+pub fn refuse<W: Sink>(
+    writer: &mut W,
+    outgoing: &mut Outgoing,
+    refusal: Refusal,
+) -> Result<(), Failed>
+    ensures { Puts
+        (record { taken = W.taken writer.old; held = outgoing.old; failures = W.failures writer.old })
+        (record { taken = W.taken writer.new; held = outgoing.new; failures = W.failures writer.new })
+        (refusal_text refusal) started result }
+{
+    let answer = problem(refusal.status(), None, refusal.body());
+    put_answer(writer, outgoing, &answer, refusal.head_only(), true)
+}
+
+/// Whether the reply tells a want of memory.
+pub fn wants_memory(reply: &Reply) -> bool
+    ensures { result ≡ wants_memory reply.now }
+{
+    match reply {
+        Reply::Fault(RouteFault::OutOfMemory) => true,
+        Reply::Fault(_) | Reply::Served(Served::Shown(_)) => false,
+        Reply::Served(_) => true,
+    }
+}
+
+/// How the connection ends after a reply, if it does.
+pub fn end_by(wants: bool, closes: bool) -> Option<Ended>
+    ensures { result ≡ end_by wants closes }
+{
+    if wants {
+        Some(Ended::NoMemory)
+    } else if closes {
+        Some(Ended::Closed)
+    } else {
+        None
+    }
+}

@@ -1,0 +1,69 @@
+ghost use Rattle.std.specs.Prelude.{◌≡◌, ◌++◌, codes};
+ghost use Rattle.af_http.specs.Answers.{status_line, type_line_of, allow_line, auth_line, close_line};
+
+use crate::route_fault::Allow;
+use af_ops::Status;
+
+/// The status line.
+pub fn status_line(status: Status) -> &'static [u8]
+    ensures { result.now ≡ status_line status }
+{
+    match status {
+        Status::Ok => b"HTTP/1.1 200 OK\r\n",
+        Status::NoContent => b"HTTP/1.1 204 No Content\r\n",
+        Status::BadRequest => b"HTTP/1.1 400 Bad Request\r\n",
+        Status::Unauthorized => b"HTTP/1.1 401 Unauthorized\r\n",
+        Status::Forbidden => b"HTTP/1.1 403 Forbidden\r\n",
+        Status::NotFound => b"HTTP/1.1 404 Not Found\r\n",
+        Status::MethodNotAllowed => b"HTTP/1.1 405 Method Not Allowed\r\n",
+        Status::Conflict => b"HTTP/1.1 409 Conflict\r\n",
+        Status::ContentTooLarge => b"HTTP/1.1 413 Content Too Large\r\n",
+        Status::HeadTooLarge => b"HTTP/1.1 431 Request Header Fields Too Large\r\n",
+        Status::InternalError => b"HTTP/1.1 500 Internal Server Error\r\n",
+        Status::NotImplemented => b"HTTP/1.1 501 Not Implemented\r\n",
+        Status::Unavailable => b"HTTP/1.1 503 Service Unavailable\r\n",
+        Status::InsufficientStorage => b"HTTP/1.1 507 Insufficient Storage\r\n",
+    }
+}
+
+/// The type of a body.
+pub fn type_line(status: Status) -> &'static [u8]
+    ensures { result.now ≡ type_line_of status }
+{
+    if status.is_fault() {
+        b"Content-Type: application/problem+json\r\n"
+    } else {
+        b"Content-Type: application/json\r\n"
+    }
+}
+
+/// The methods of a path.
+pub fn allow_line(allow: Option<Allow>) -> &'static [u8]
+    ensures { result.now ≡ allow_line allow }
+{
+    match allow {
+        None => b"",
+        Some(Allow::Get) => b"Allow: GET\r\n",
+    }
+}
+
+/// What 401 asks for.
+pub fn auth_line(status: Status) -> &'static [u8]
+    ensures { result.now ≡ auth_line status }
+{
+    match status {
+        Status::Unauthorized => b"WWW-Authenticate: Bearer\r\n",
+        _ => b"",
+    }
+}
+
+/// Whether the connection closes.
+pub fn close_line(closes: bool) -> &'static [u8]
+    ensures { result.now ≡ close_line closes }
+{
+    if closes {
+        b"Connection: close\r\n"
+    } else {
+        b""
+    }
+}
