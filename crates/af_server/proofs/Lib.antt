@@ -1,0 +1,2 @@
+mod ConversationLemmas
+mod VerdictLemmas

@@ -1,0 +1,95 @@
+use af_names::NameError;
+use af_ops::StateFault;
+use af_policy::RowFault;
+use std::alloc::{AllocError, AllocFailed};
+
+/// Why a configuration is refused.
+#[derive(Clone, Copy, Debug, PartialEq, Eq)]
+pub enum Reason {
+    /// The file can't be read, or is longer than 16 MiB.
+    Unreadable,
+    /// It is not JSON.
+    Syntax,
+    /// A member is missing, or of a wrong kind.
+    Shape,
+    /// A name does not parse.
+    Name,
+    /// Two rows have one name, two users have one digest, or a role has a default role's name.
+    Duplicate,
+    /// A user's role is not there.
+    Role,
+    /// An action is none of the four.
+    Action,
+    /// A resource is not known, or `can_create` is listed on a single DAG.
+    Pair,
+    /// No user has the role Admin.
+    Admin,
+    /// A schedule is asked for, and schedules are not read yet.
+    Schedule,
+    /// A number is outside its limits, or there are too many rows.
+    Limit,
+    /// A growth of memory was refused.
+    Memory,
+}
+
+impl Reason {
+    /// The word that tells it.
+    pub fn text(&self) -> &'static str {
+        match self {
+            Reason::Unreadable => "unreadable",
+            Reason::Syntax => "syntax",
+            Reason::Shape => "shape",
+            Reason::Name => "name",
+            Reason::Duplicate => "duplicate",
+            Reason::Role => "role",
+            Reason::Action => "action",
+            Reason::Pair => "pair",
+            Reason::Admin => "admin",
+            Reason::Schedule => "schedule",
+            Reason::Limit => "limit",
+            Reason::Memory => "memory",
+        }
+    }
+}
+
+impl From<AllocError> for Reason {
+    fn from(_error: AllocError) -> Reason {
+        Reason::Memory
+    }
+}
+
+impl<T: Drop> From<AllocFailed<T>> for Reason {
+    fn from(_error: AllocFailed<T>) -> Reason {
+        Reason::Memory
+    }
+}
+
+impl From<NameError> for Reason {
+    fn from(error: NameError) -> Reason {
+        match error {
+            NameError::OutOfMemory => Reason::Memory,
+            NameError::BadName | NameError::TooLong => Reason::Name,
+        }
+    }
+}
+
+impl From<RowFault> for Reason {
+    fn from(fault: RowFault) -> Reason {
+        match fault {
+            RowFault::UnknownRole => Reason::Role,
+            RowFault::Exists => Reason::Duplicate,
+            RowFault::TooMany => Reason::Limit,
+            RowFault::OutOfMemory => Reason::Memory,
+        }
+    }
+}
+
+impl From<StateFault> for Reason {
+    fn from(fault: StateFault) -> Reason {
+        match fault {
+            StateFault::Exists => Reason::Duplicate,
+            StateFault::TooMany => Reason::Limit,
+            StateFault::OutOfMemory => Reason::Memory,
+        }
+    }
+}
