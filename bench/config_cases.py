@@ -1,0 +1,150 @@
+"""Configurations for differential.py: good ones, and ones with a fault or two, made from a seeded generator."""
+import copy
+import hashlib
+import json
+
+RESOURCES = ["DAGs", "DAG Runs", "Task Instances", "Pools", "Variables", "Audit Logs", "Roles", "Users"]
+TOKENS = [b"test", b"a", b"two words", "na\u00efve".encode(), b"\x80\xff", b"\ttab", b"Bearer x", b"x" * 300, b"a,b", b"=" * 55, b"k" * 56, b"q" * 64]
+NAMES = ["vera", "x", "A b", "~", " ", '"', "\\", "u" * 64, "{}", "Viewer2", "admin", "DAG:a"]
+DAG_IDS = ["a", "b", "c", "a.b", "A", "_", "-", "0", "z" * 250, "a-b", "a_b", ".", "team.report", "B1"]
+OTHERS = [None, True, 0, -1, 1.5, "", "x", [], {}, [0], {"name": 1}, [None], [{"name": None}], [{}], [[]]]
+
+
+def role_row(name, *pairs):
+    return {"name": name, "actions": [{"action": {"name": a}, "resource": {"name": r}} for a, r in pairs]}
+
+
+def user_row(name, token, *roles):
+    digest = hashlib.sha256(token).hexdigest()
+    return {"username": name, "roles": [{"name": it} for it in roles], "token_sha256": digest}
+
+
+def pair(rng):
+    if rng.random() < 0.6:
+        return rng.choice(["can_read", "can_read", "can_edit", "can_delete"]), "DAG:" + rng.choice([*DAG_IDS[:6], "gone"])
+    return rng.choice(["can_create", "can_read", "can_edit", "can_delete"]), rng.choice(RESOURCES)
+
+
+def good(rng):
+    """A configuration that is accepted, and the tokens that its users have."""
+    roles = [role_row(it, *[pair(rng) for _ in range(rng.randint(0, 4))]) for it in rng.sample(NAMES, rng.randint(0, 5))]
+    known = ["Public", "Viewer", "User", "Op", "Admin"] + [it["name"] for it in roles]
+    own = [it["name"] for it in roles] * 3
+    tokens = rng.sample(TOKENS, rng.randint(2, 8))
+    users = [
+        user_row(name, token, *rng.choices(known + own, k=rng.randint(0, 3))) for name, token in zip(rng.sample(NAMES, len(tokens)), tokens)
+    ]
+    rng.choice(users)["roles"].append({"name": "Admin"})
+    ids = [f"d{i}" for i in range(rng.randint(98, 130))] if rng.random() < 0.1 else rng.sample(DAG_IDS, rng.randint(0, 8))
+    rng.shuffle(ids)
+    dags = [{"dag_id": it} for it in ids]
+    for it in dags:
+        it.update(rng.choice([{}, {}, {"is_paused": True}, {"is_paused": False}, {"is_paused": None, "schedule": None}]))
+        it.update(rng.choice([{}, {}, {"max_active_runs": rng.randint(1, 1000)}, {"max_active_runs": None}, {"max_active_runs": 1}]))
+        it.update(rng.choice([{}, {}, {"tasks": [{"task_id": "t"}]}, {"tasks": 5, "catchup": "no", "start_date": [], "other": {"a": []}}]))
+    config = {"roles": roles, "users": users, "dags": dags}
+    if rng.random() < 0.1:
+        config.update({"pools": 7, "variables": None, "history_limit": "x", "version_limit": -1})
+    if not roles and rng.random() < 0.5:
+        config["roles"] = None
+    return config, tokens
+
+
+def written(rng, config):
+    """The configuration as JSON, in one of several ways to write the same."""
+    text = json.dumps(config, indent=rng.choice([None, None, 0, 3]), ensure_ascii=rng.random() < 0.5)
+    if rng.random() < 0.2:
+        text = "".join(f"\\u{ord(it):04x}" if it in "vV~A" else it for it in text)
+    if rng.random() < 0.15:
+        text = text.replace('"users":', '"users": [0], "users":').replace('"dag_id":', '"dag_id": 3, "dag_id":')
+    if rng.random() < 0.15:
+        text = rng.choice([" ", "\r\n\t", ""]) + text + rng.choice(["\n", "  \r", "\t"])
+    return text.encode()
+
+
+def wrong(rng, *values):
+    return rng.choice(OTHERS if rng.random() < 0.3 else values)
+
+
+def role_fault(rng, row):
+    which = rng.choice(["name", "actions", "one", "drop"])
+    if which == "name":
+        row["name"] = wrong(rng, "n" * 65, "\u00e9", "\x7f", "a\nb", "Admin", "Public", "vera")
+    elif which == "actions":
+        row["actions"] = wrong(rng, role_row("", ("can_fly", "DAGs"))["actions"], role_row("", ("can_fly", "x"), ("can_read", "x"))["actions"])
+    elif which == "one":
+        resources = ["Can_read", "dags", "DAG:", "DAG:a b", "DAG", "DAG: a", "DAG:" + "x" * 251, "DAG Run:a", "", "DAG:\u00e9", "Connections"]
+        row["actions"] = role_row("", rng.choice([("can_create", "DAG:a"), ("", "DAGs"), ("CAN_READ", "DAGs"), ("can_read", rng.choice(resources))]))["actions"]
+    else:
+        row.pop(rng.choice(sorted(row)), None)
+
+
+def user_fault(rng, row):
+    which = rng.choice(["username", "roles", "token_sha256", "drop"])
+    if which == "username":
+        row["username"] = wrong(rng, "n" * 65, "\u00e9", "\x1f", "vera", "x")
+    elif which == "roles":
+        row["roles"] = wrong(rng, [{"name": "nobody"}], [{"name": ""}], [{"name": "r" * 65}], [{"name": "Admin"}, {"name": "admin "}], [{"name": "\u00e9"}])
+    elif which == "token_sha256":
+        row["token_sha256"] = wrong(rng, "0" * 63, "0" * 65, "g" * 64, "\u0660" * 64, " " + "0" * 63, "0" * 64, hashlib.sha256(b"test").hexdigest().upper())
+    else:
+        row.pop(rng.choice(sorted(row)), None)
+
+
+def dag_fault(rng, row):
+    which = rng.choice(["dag_id", "schedule", "max_active_runs", "is_paused", "drop"])
+    if which == "dag_id":
+        row["dag_id"] = wrong(rng, "x" * 251, "a b", "\u00e9", "a/b", "~", "a:b", "a", "b")
+    elif which == "schedule":
+        row["schedule"] = rng.choice(["@daily", "@yearly", 60, 0, True, [], 1.5])
+    elif which == "max_active_runs":
+        row["max_active_runs"] = wrong(rng, 1001, 1000, 2**63, 2**64 - 1, 2**64, -(2**63), -(2**63) - 1, 3.0, 1e2, -0.0)
+    elif which == "is_paused":
+        row["is_paused"] = wrong(rng, "true", 1)
+    else:
+        row.pop(rng.choice(sorted(row)), None)
+
+
+def faulty(rng):
+    """A configuration with one or two faults (now and then the change is none)."""
+    config, _ = good(rng)
+    config = copy.deepcopy(config)
+    if rng.random() < 0.2:
+        text = written(rng, config)
+        at = rng.randrange(len(text))
+        return rng.choice([text[:at], text[:at] + rng.choice([b"\xff", b"\x00", b",", b"}", b'"', b"\\", b"1"]) + text[at:]])
+    for _ in range(rng.choice([1, 1, 2])):
+        part = rng.choice(["roles", "users", "dags", "dags", "list", "admin", "again"])
+        if part == "list":
+            config[rng.choice(["roles", "users", "dags"])] = rng.choice(OTHERS)
+        elif part == "admin" and isinstance(config.get("users"), list):
+            for it in config["users"]:
+                if isinstance(it, dict) and isinstance(it.get("roles"), list):
+                    it["roles"] = [{"name": "Viewer"}]
+        elif part == "again" and isinstance(config.get("dags"), list) and config["dags"]:
+            config["dags"].append(copy.deepcopy(config["dags"][0]))
+        elif part in ("roles", "users", "dags"):
+            of = config.get(part)
+            if isinstance(of, list) and of and isinstance(row := rng.choice(of), dict) and "touched" not in row:
+                {"roles": role_fault, "users": user_fault, "dags": dag_fault}[part](rng, row)
+                row["touched"] = True
+    return written(rng, config)
+
+
+def fixed_configs():
+    """Configurations at the limits, tried once each: all are read with the token `test`."""
+    users = [user_row("root", b"test", "Admin")]
+    base = {"users": users, "dags": [{"dag_id": "a"}]}
+    yield from (b"", b" ", b"null", b"[]", b"3", b"{}", b'{"users":[]}', b"{", b"\xef\xbb\xbf{}")
+    text = json.dumps(base)
+    values = ["[" * n + "]" * n for n in (126, 127, 128, 5000)]
+    values += ['"\\ud800"', '"\\udc00\\ud800"', '"\\ud83d\\ude00"', '"\\u12g4"', '"\\x"', '"\t"', '"\x7f"', '"\u2028"', "NaN", "-Infinity", "nul"]
+    values += ["1e308", "1e309", "-1e309", "9" * 308, "9" * 309, "9" * 400, "01", "1.", ".5", "-", "+1", "1e", "0x1", "-0", "'a'", '{"\\udfff":1}', "[1,]", '{"a":1,}', "{a:1}"]
+    yield from (text.replace("{", '{"other":' + it + ",", 1).encode("utf-8", "surrogatepass") for it in values)
+    runs = ["1", "1000", "0", "1001", "-1", "1.0", "1e2", "-0", "18446744073709551615", "18446744073709551616", "9223372036854775808", "true", '"1"', "null"]
+    yield from (text.replace('"a"', f'"a","max_active_runs":{it}').encode() for it in runs)
+    yield from (json.dumps({**base, "dags": [{"dag_id": f"d{i}"} for i in range(n)]}).encode() for n in (99, 100, 101, 1024, 1025))
+    yield from (json.dumps({**base, "roles": [role_row(f"r{i}") for i in range(n)]}).encode() for n in (4091, 4092))
+    many = [user_row(f"u{i}", b"%d" % i) for i in range(65536)]
+    yield from (json.dumps({**base, "users": users + many[:n]}).encode() for n in (65535, 65536))
+    yield from (text.encode().ljust(16 * 1024 * 1024 + n) for n in (0, 1))

@@ -1,0 +1,157 @@
+#!/usr/bin/env python3
+"""Compares afplane with the oracle, a plain second reading of what it is to do, byte for byte.
+
+  python3 bench/differential.py                       2,000 cases of seed 1, after the examples and the limits
+  python3 bench/differential.py --cases 20000 --seed 7
+  python3 bench/differential.py --program 'PATH/PROGRAM'
+
+A case is one run of the program: words, a configuration and an input of one or more requests, as they should be
+or hostile. Exit status, standard output and standard error must be the oracle's. The first difference is shown,
+and its configuration and input are left in bench/out/ with the command that shows it again. The last line is
+`N passed, N failed`, and the status 0 only where nothing failed.
+"""
+import argparse
+import os
+import random
+import shlex
+import subprocess
+import sys
+import tempfile
+
+import config_cases
+import oracle
+import request_cases
+
+ROOT = os.path.dirname(os.path.dirname(os.path.realpath(__file__)))
+PROGRAM = os.path.join(ROOT, "crates", "af_server", "out", "af_server")
+OUT = os.path.join(ROOT, "bench", "out")
+NOW = "2024-01-01T00:00:00Z"
+SECONDS = 30
+MOMENTS = [
+    *["2024-01-01T00:00:00.000001+00:00", "2024-01-01 00:00:00z", "20240101T000000Z", "2024-01-01T00Z", "2024-02-29T00:00Z", "2023-02-29T00:00Z"],
+    *["1970-01-01T00:00:00Z", "1969-12-31T23:59:59Z", "1969-12-31T23:59:59.9999999Z", "1970-01-01T01:00:00+01:00", "1970-01-01T00:00:00+01:00"],
+    *["9998-12-31T23:59:59.9999999Z", "9999-01-01T00:00:00Z", "2024-13-01T00:00:00Z", "2024-01-01T24:00:00Z", "2024-01-01T23:59:60Z", "2024-01-01T23:59:61Z"],
+    *["2024-01-01T00:00:00", "2024-01-01", "", "now", "0", " 2024-01-01T00:00:00Z", "2024-01-01T00:00:00Z ", "2024-01-01T00:00:00,5Z", "2024-01-01T00:00:00.Z"],
+    *["+002024-01-01T00:00:00Z", "2024-01-01T00:00:00.1234567891Z", "2024-01-01T00:00:00-0530", "2024-01-01T00:00:00+25:59", "2024-01-01T00:00:00+26:00"],
+    *["2024-01-01T00:00:00+01:60", "2024-1-01T00:00:00Z", "2024-01-01T00:00:00\u00a0Z", "-000000-01-01T00:00:00Z", "-002024-01-01T00:00:00Z"],
+]
+
+
+def ran(program, words, data):
+    try:
+        it = subprocess.run([*program, *words], input=data, stdout=subprocess.PIPE, stderr=subprocess.PIPE, timeout=SECONDS)
+    except subprocess.TimeoutExpired as late:
+        return "no end", late.stdout or b"", late.stderr or b""
+    return it.returncode, it.stdout, it.stderr
+
+
+def first_difference(wanted, got):
+    at = next((i for i, (a, b) in enumerate(zip(wanted, got)) if a != b), min(len(wanted), len(got)))
+    return f"byte {at}: wanted .. {wanted[max(0, at - 120):at + 200]!r}\n{' ' * len(f'byte {at}:')} got    .. {got[max(0, at - 120):at + 200]!r}"
+
+
+class Comparison:
+    def __init__(self, program):
+        self.program, self.passed, self.failed = program, 0, 0
+
+    def case(self, name, words, data):
+        """Runs one case; `words` name the configuration's file."""
+        wanted, got = oracle.run(words, data), ran(self.program, words, data)
+        if wanted == got:
+            self.passed += 1
+            return
+        self.failed += 1
+        if self.failed > 1:
+            return
+        os.makedirs(OUT, exist_ok=True)
+        kept = [os.path.join(OUT, "difference.json"), os.path.join(OUT, "difference.http")]
+        shown = list(words)
+        if len(words) > 1 and os.path.isfile(words[1]):
+            with open(words[1], "rb") as old, open(kept[0], "wb") as new:
+                new.write(old.read())
+            shown[1] = kept[0]
+        with open(kept[1], "wb") as file:
+            file.write(data)
+        print(f"The first difference ({name}):\n  {shlex.join([*self.program, *shown])} < {kept[1]}")
+        print(f"  input ({len(data)} bytes): {data[:600]!r}{' ..' if len(data) > 600 else ''}")
+        for part, a, b in zip(("status", "standard output", "standard error"), wanted, got):
+            if a == b:
+                print(f"  {part}: the same")
+            elif part == "status":
+                print(f"  status: wanted {a}, got {b}")
+            else:
+                print(f"  {part}: wanted {len(a)} bytes, got {len(b)}, with {b.count(b'HTTP/1.1 ')} answers for {a.count(b'HTTP/1.1 ')}")
+                print(f"    {first_difference(a, b)}")
+
+
+def check_examples(it):
+    """The examples, against the files that stand beside them."""
+    folder = os.path.join(ROOT, "examples")
+    for name in sorted(os.listdir(os.path.join(folder, "expected"))):
+        stem = name.removesuffix(".out")
+        with open(os.path.join(folder, stem + ".http"), "rb") as file:
+            data = file.read()
+        with open(os.path.join(folder, "expected", name), "rb") as file:
+            expected = file.read()
+        words = ["once", os.path.join(folder, "base.json" if stem == "viewer" else "team.json"), NOW]
+        if oracle.run(words, data)[1] != expected:
+            sys.exit(f"examples/expected/{name} is not what the oracle writes")
+        it.case(f"example {stem}", words, data)
+
+
+def check_calls(it, folder):
+    base = os.path.join(ROOT, "examples", "base.json")
+    no_end = b"GET / HT"
+    for words in ([], ["once"], ["once", base], ["once", base, NOW, "x"], ["Once", base, NOW], ["verify", base], ["serve", base, "0", "1"], ["once", "", NOW]):
+        it.case(f"call {words}", words, no_end)
+    for moment in MOMENTS:
+        it.case(f"moment {moment!r}", ["once", base, moment], request_cases.PLAIN)
+    it.case("no such file", ["once", os.path.join(folder, "none"), NOW], no_end)
+    it.case("a folder", ["once", folder, NOW], no_end)
+    it.case("a bad moment before a bad file", ["once", os.path.join(folder, "none"), "x"], no_end)
+
+
+def main():
+    options = argparse.ArgumentParser(description=__doc__, formatter_class=argparse.RawDescriptionHelpFormatter)
+    options.add_argument("--program", default=None, metavar="COMMAND", help="in place of the built program")
+    options.add_argument("--cases", type=int, default=2000, help="random cases (0 to 10,000,000)")
+    options.add_argument("--seed", type=int, default=1)
+    args = options.parse_args()
+    program = shlex.split(args.program) if args.program else [PROGRAM]
+    if not args.program and not os.path.exists(PROGRAM):
+        sys.exit("differential.py: the program isn't built: run ./afplane once, or name one by --program")
+    if not 0 <= args.cases <= 10_000_000:
+        sys.exit("differential.py: --cases is 0 to 10,000,000")
+    rng, it = random.Random(args.seed), Comparison(program)
+    with tempfile.TemporaryDirectory(prefix="afplane-cases-") as folder:
+        config = os.path.join(folder, "config.json")
+
+        def write(data):
+            with open(config, "wb") as file:
+                file.write(data)
+            return ["once", config, NOW]
+
+        check_examples(it)
+        check_calls(it, folder)
+        words = ["once", os.path.join(ROOT, "examples", "base.json"), NOW]
+        for n, data in enumerate(request_cases.fixed_inputs(b"test")):
+            it.case(f"limit of requests {n}", words, data)
+        for n, data in enumerate(config_cases.fixed_configs()):
+            it.case(f"limit of configurations {n}", write(data), request_cases.list_request(b"test"))
+        before = it.passed + it.failed
+        print(f"{before} fixed cases, {it.failed} failed", file=sys.stderr)
+        for n in range(args.cases):
+            if n % 20 == 0:
+                made, tokens = config_cases.good(rng)
+                good = config_cases.written(rng, made)
+            if n % 4 == 3:
+                data = request_cases.list_request(rng.choice(config_cases.TOKENS))
+                it.case(f"seed {args.seed}, configuration {n}", write(config_cases.faulty(rng)), data)
+            else:
+                it.case(f"seed {args.seed}, connection {n}", write(good), request_cases.connection(rng, tokens))
+    print(f"{it.passed} passed, {it.failed} failed")
+    sys.exit(1 if it.failed else 0)
+
+
+if __name__ == "__main__":
+    main()
