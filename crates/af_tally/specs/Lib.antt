@@ -1,0 +1,4 @@
+pub mod Known
+pub mod Steps
+pub mod Tells
+pub mod Laws

@@ -1,0 +1,22 @@
+use crate::view::View;
+use atomic_table::Seat;
+use std::marker::Model;
+
+/// What has seen a beginning of a keeper's entries. Contracts see that beginning, and which keeper it is.
+#[derive(Drop)]
+pub struct Witness<E> {
+    pub(crate) seat: Seat<u8, View<E>>,
+}
+
+impl<E> Model for Witness<E> {
+    ghost use Rattle.std.specs.Prelude.{◌≡◌, []};
+    ghost use Rattle.af_tally.specs.Known.{Known, known_coded};
+
+    ghost Value = { Known E };
+
+    ghost coded = { known_coded E.code };
+
+    ghost view = { λ w. record { keeper = w.seat.table_id; entries = w.seat.me.0.seen } };
+
+    ghost invariant = { λ w. w.seat.me.1 ≡ [] };
+}

@@ -1,0 +1,5 @@
+pub mod Places
+pub mod Steps
+pub mod Tells
+pub mod Laws
+pub mod Faults
