@@ -1,0 +1,5 @@
+use Rattle.std.proofs.Common.{◌≡◌, [], length, map, replicate}
+use Rattle.af_graph.proofs.links.Links.empty.Given as goal
+
+abbrev pub invariant-loop : goal.invariant-loop
+invariant-loop l = map (λ row. row.items) l.rows.items ≡ replicate l.counter []

@@ -1,0 +1,87 @@
+-- What the steps of working a graph out keep. No public contract cites this file.
+use Rattle.std.specs.Prelude.{ℕ, ◌≡◌, ◌<◌, ◌+◌, ◌==◌, Bool, true, not, ◌&&◌, ◌||◌, nat_lt, List, [], length, Option, Some, ◌⊎◌, filter, slice_index, vec_len, if◌then◌else◌}
+use Rattle.std.specs.BTreeMap as tree
+use Rattle.std.specs.BTreeSet as sorted
+use Rattle.std.specs.Cmp.Lexicographic.{slice_cmp}
+use Rattle.std.specs.Ordering.{nat_cmp}
+use Rattle.af_graph.specs.Rows.{row_at, is_among, turned}
+use Rattle.af_graph.specs.Graph.{place_of, upstream_rows, downstream_rows}
+use Rattle.af_graph.specs.Order.{is_free, order_of}
+use Rattle.af_graph.specs.Definition.{id_at, fault_of}
+use Rattle.af_graph.specs.declared.task_spec.TaskSpec.{TaskSpec}
+use Rattle.af_graph.specs.declared.index.Index.{Index}
+use Rattle.af_graph.specs.declared.taking.Taking.{Taking}
+use Rattle.af_graph.specs.declared.wiring.Wiring.{Wiring}
+use Rattle.af_graph.specs.declared.misfit.Misfit.{Misfit}
+use Rattle.af_graph.specs.declared.misfit.Misfit.TheVariants as misfit
+use Rattle.af_graph.specs.declared.dag_fault.DagFault.{DagFault}
+use Rattle.af_graph.specs.declared.dag_fault.DagFault.TheVariants as fault
+
+-- the place that an index has for an id
+abbrev pub place_in : Index → List ℕ → Option ℕ
+place_in index id = tree.get_by (λ key. slice_cmp nat_cmp id key.now) index.places
+
+-- the index has the places of these tasks
+abbrev pub IsIndexOf : Index → List TaskSpec → Type 0
+IsIndexOf index tasks = (id : List ℕ) → place_in index id ≡ place_of tasks id
+
+-- the fault that a misfit is told as
+abbrev pub told : List TaskSpec → Misfit → DagFault
+told tasks misfit.NoTask = fault.NoTask
+told tasks misfit.TooMany = fault.TooMany
+told tasks (misfit.Duplicate place) = fault.Duplicate (id_at tasks place)
+told tasks (misfit.UnknownUpstream place) = fault.UnknownUpstream (id_at tasks place)
+told tasks (misfit.Cycle place) = fault.Cycle (id_at tasks place)
+told tasks (misfit.BadSlots place) = fault.BadSlots (id_at tasks place)
+told tasks misfit.OutOfMemory = fault.OutOfMemory
+
+-- the place of a misfit is a task's
+abbrev pub IsPlaced : ℕ → Misfit → Type 0
+IsPlaced count misfit.NoTask = Unit {0}
+IsPlaced count misfit.TooMany = Unit {0}
+IsPlaced count (misfit.Duplicate place) = place < count
+IsPlaced count (misfit.UnknownUpstream place) = place < count
+IsPlaced count (misfit.Cycle place) = place < count
+IsPlaced count (misfit.BadSlots place) = place < count
+IsPlaced count misfit.OutOfMemory = Unit {0}
+
+-- the misfit is what is told of these tasks, or a growth was refused
+abbrev pub IsTold : List TaskSpec → Misfit → Type 0
+IsTold tasks said =
+    (said ≡ misfit.OutOfMemory) ⊎ ((fault_of tasks ≡ Some (told tasks said)) × IsPlaced (length tasks) said)
+
+-- the graph is that of these tasks
+pub record IsWiringOf (tasks : List TaskSpec) (wiring : Wiring) : Type 0 where
+  pub upstream : wiring.upstream ≡ upstream_rows tasks
+  pub downstream : wiring.downstream ≡ downstream_rows tasks
+  pub order : wiring.order.items ≡ order_of (upstream_rows tasks)
+
+-- the graphs are the same
+abbrev pub IsSameWiring : Wiring → Wiring → Type 0
+IsSameWiring old new =
+    (new.upstream ≡ old.upstream) × (new.downstream ≡ old.downstream) × (new.order.items ≡ old.order.items)
+
+-- each list of rows is the other, turned
+abbrev pub IsPair : List (List ℕ) → List (List ℕ) → Type 0
+IsPair upstream downstream = (upstream ≡ turned downstream) × (downstream ≡ turned upstream)
+
+-- how many places of a row are left once these have been taken
+abbrev pub left_of : List ℕ → List ℕ → ℕ
+left_of taken row = length (filter (λ place. not (is_among taken place)) row)
+
+abbrev pub is_ready : Taking → ℕ → Bool
+is_ready taking place = sorted.contains nat_cmp taking.ready place
+
+-- what is taken, ready and waiting are those of one list of places taken
+pub record KeepsPace (upstream : List (List ℕ)) (taking : Taking) : Type 0 where
+  pub count : vec_len taking.waiting ≡ length upstream
+  pub waits : (place : ℕ) → place < length upstream → slice_index taking.waiting.items place ≡ left_of taking.order.items (row_at upstream place)
+  pub readies : (place : ℕ) → is_ready taking place ≡ (nat_lt place (length upstream) && is_free upstream taking.order.items place)
+  pub closed : (place : ℕ) → place < length upstream → is_among taking.order.items place ≡ true → slice_index taking.waiting.items place ≡ 0
+
+-- the places of a row have each one place fewer to wait for, and are ready where none is left
+pub record IsReleased (row : List ℕ) (old new : Taking) : Type 0 where
+  pub count : vec_len new.waiting ≡ vec_len old.waiting
+  pub order : new.order.items ≡ old.order.items
+  pub waits : (place : ℕ) → slice_index new.waiting.items place + (if is_among row place then 1 else 0) ≡ slice_index old.waiting.items place
+  pub readies : (place : ℕ) → is_ready new place ≡ (is_ready old place || (is_among row place && slice_index new.waiting.items place == 0))

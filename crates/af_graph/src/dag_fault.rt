@@ -1,0 +1,32 @@
+use af_names::TaskId;
+use std::alloc::AllocError;
+
+/// Why a definition makes no DAG. Where several apply, the first is told.
+#[derive(Debug, Drop, PartialEq, Eq)]
+pub enum DagFault {
+    /// The definition has no task.
+    NoTask,
+    /// It has more than 512 tasks.
+    TooMany,
+    /// An earlier task has the id of this one, the first such task.
+    Duplicate(TaskId),
+    /// This task, the first such one, names an upstream task that the definition doesn't have.
+    UnknownUpstream(TaskId),
+    /// This task, the first such one, stands on a cycle of upstream tasks or below one.
+    Cycle(TaskId),
+    /// This task, the first such one, asks for no pool slot or for more than 1,000,000.
+    BadSlots(TaskId),
+    /// A growth was refused.
+    OutOfMemory,
+}
+
+impl From<AllocError> for DagFault {
+    ghost use Rattle.std.specs.Prelude.{◌≡◌};
+    ghost use Rattle.af_graph.specs.declared.dag_fault.DagFault.TheVariants.{OutOfMemory};
+
+    ghost from_gives = { λ _ fault. fault ≡ OutOfMemory };
+
+    fn from(_error: AllocError) -> DagFault {
+        DagFault::OutOfMemory
+    }
+}

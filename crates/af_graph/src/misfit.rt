@@ -1,0 +1,70 @@
+ghost use Rattle.std.specs.Prelude.{◌≡◌, ◌<◌, length};
+ghost use Rattle.af_graph.specs.Definition.{id_at};
+ghost use Rattle.af_graph.specs.Steps.{told, IsPlaced};
+
+use crate::dag_fault::DagFault;
+use crate::task_spec::TaskSpec;
+use crate::task_specs::TaskSpecs;
+use af_names::TaskId;
+use std::alloc::{AllocError, AllocFailed};
+
+/// Why tasks make no graph, with the place of the task that is told.
+#[derive(Clone, Copy, Debug, PartialEq, Eq)]
+pub(crate) enum Misfit {
+    NoTask,
+    TooMany,
+    Duplicate(usize),
+    UnknownUpstream(usize),
+    Cycle(usize),
+    BadSlots(usize),
+    OutOfMemory,
+}
+
+impl From<AllocError> for Misfit {
+    ghost use Rattle.std.specs.Prelude.{◌≡◌};
+    ghost use Rattle.af_graph.specs.declared.misfit.Misfit.TheVariants.{OutOfMemory};
+
+    ghost from_gives = { λ _ misfit. misfit ≡ OutOfMemory };
+
+    fn from(_error: AllocError) -> Misfit {
+        Misfit::OutOfMemory
+    }
+}
+
+impl<T: Drop> From<AllocFailed<T>> for Misfit {
+    ghost use Rattle.std.specs.Prelude.{◌≡◌};
+    ghost use Rattle.af_graph.specs.declared.misfit.Misfit.TheVariants.{OutOfMemory};
+
+    ghost from_gives = { λ _ misfit. misfit ≡ OutOfMemory };
+
+    fn from(_error: AllocFailed<T>) -> Misfit {
+        Misfit::OutOfMemory
+    }
+}
+
+impl Misfit {
+    /// The fault, with the task's id for its place.
+    pub(crate) fn told(self, tasks: TaskSpecs) -> DagFault
+        requires { IsPlaced (length tasks) self }
+        ensures { result ≡ told tasks self }
+    {
+        match self {
+            Misfit::NoTask => DagFault::NoTask,
+            Misfit::TooMany => DagFault::TooMany,
+            Misfit::Duplicate(place) => DagFault::Duplicate(id_at(tasks, place)),
+            Misfit::UnknownUpstream(place) => DagFault::UnknownUpstream(id_at(tasks, place)),
+            Misfit::Cycle(place) => DagFault::Cycle(id_at(tasks, place)),
+            Misfit::BadSlots(place) => DagFault::BadSlots(id_at(tasks, place)),
+            Misfit::OutOfMemory => DagFault::OutOfMemory,
+        }
+    }
+}
+
+/// The id of the task at a place.
+fn id_at(tasks: TaskSpecs, place: usize) -> TaskId
+    requires { place < length tasks }
+    ensures { result ≡ id_at tasks place }
+{
+    let mut tasks = tasks.into_vec();
+    tasks.swap_remove(place).task_id
+}

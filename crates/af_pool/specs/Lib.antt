@@ -1,0 +1,4 @@
+pub mod Laws
+pub mod Occupants
+pub mod Places
+pub mod Pools

@@ -1,0 +1,109 @@
+-- Pools: rows by name in byte order (Airflow 2, "Pools"). The limits are this product's own rule.
+use Rattle.std.specs.Prelude.{ℕ, ◌≡◌, ◌-◌, ◌≤◌, List, ◌∷◌, ◌++◌, Bool, true, not, length, map, filter, find, unwrap_or, option_map, All, nat_lt, nat_le, codes, Option, Some, None, Result, IfErr, if◌then◌else◌}
+use Rattle.std.specs.List.{list_any}
+use Rattle.std.specs.List.Sorted.{IsStrictlySortedBy}
+use Rattle.std.specs.Ordering.{nat_cmp, is_lt}
+use Rattle.std.specs.Cmp.Lexicographic.{slice_cmp}
+use Rattle.af_graph.specs.Graph.{same_name}
+use Rattle.af_graph.specs.declared.dag_spec.DagSpec.{DagSpec}
+use Rattle.af_graph.specs.declared.task_state.TaskState.{TaskState}
+use Rattle.af_pool.specs.declared.pool.Pool.{Pool}
+use Rattle.af_pool.specs.declared.fault.PoolFault.{PoolFault}
+use Rattle.af_pool.specs.declared.fault.PoolFault.TheVariants.{BadSlots, NoSuchPool, Exists, DefaultPool, InUse, Full, OutOfMemory}
+use Rattle.af_pool.specs.Occupants.{OccupantRow, slots_taken, slots_in}
+
+-- the pools: their rows, by name in byte order, and for how many more rows memory is reserved
+pub record PoolRows : Type 0 where
+  pub rows : List Pool
+  pub spare : ℕ
+
+-- the name of the pool that is always there
+abbrev pub default_name : List ℕ
+default_name = codes "default_pool"
+
+-- whether the row is that of the pool of this name
+abbrev pub is_named : List ℕ → Pool → Bool
+is_named name pool = same_name pool.name name
+
+-- whether there is a pool of this name
+abbrev pub has_pool : List Pool → List ℕ → Bool
+has_pool pools name = list_any (is_named name) pools
+
+-- the pool of this name
+abbrev pub pool_of : List Pool → List ℕ → Option Pool
+pool_of pools name = find (is_named name) pools
+
+-- the slots of the pool of this name; 0 where there is none
+abbrev pub slots_of : List Pool → List ℕ → ℕ
+slots_of pools name = unwrap_or (option_map (λ pool. pool.slots) (pool_of pools name)) 0
+
+-- whether one name stands before another in byte order
+abbrev pub comes_before : List ℕ → List ℕ → Bool
+comes_before name other = is_lt (slice_cmp nat_cmp name other)
+
+-- the pools with one more, in its place by name
+abbrev pub with_pool : List Pool → Pool → List Pool
+with_pool pools pool =
+    filter (λ other. comes_before other.name pool.name) pools
+    ++ pool ∷ filter (λ other. comes_before pool.name other.name) pools
+
+-- the pools, that of this name with other slots
+abbrev pub with_slots : List Pool → List ℕ → ℕ → List Pool
+with_slots pools name slots = map (λ pool. if is_named name pool then record pool { slots = slots } else pool) pools
+
+-- the pools without that of this name
+abbrev pub without_pool : List Pool → List ℕ → List Pool
+without_pool pools name = filter (λ pool. not (is_named name pool)) pools
+
+-- whether some task of the DAG names the pool
+abbrev pub names_pool : List ℕ → DagSpec → Bool
+names_pool name dag = list_any (λ task. same_name task.pool name) dag.tasks
+
+-- whether some task of the DAGs names the pool
+abbrev pub is_in_use : List ℕ → List DagSpec → Bool
+is_in_use name dags = list_any (names_pool name) dags
+
+-- the call succeeded, or a growth of memory was refused
+abbrev pub IsOkOrOutOfMemory : {T : Type 0} → Result T PoolFault → Type 0
+IsOkOrOutOfMemory result = IfErr result (λ fault. fault ≡ OutOfMemory)
+
+-- why a pool is not added, memory aside: the first of these faults
+abbrev pub add_fault : List Pool → List ℕ → ℕ → Option PoolFault
+add_fault pools name slots =
+    if nat_lt 1_000_000 slots then Some BadSlots
+    else (if has_pool pools name then Some Exists
+    else (if nat_le 65_536 (length pools) then Some Full else None))
+
+-- why a pool does not get other slots: the first of these faults
+abbrev pub set_fault : List Pool → List ℕ → ℕ → Option PoolFault
+set_fault pools name slots =
+    if nat_lt 1_000_000 slots then Some BadSlots
+    else (if not (has_pool pools name) then Some NoSuchPool else None)
+
+-- why a pool is not removed: the first of these faults
+abbrev pub remove_fault : List Pool → List ℕ → List DagSpec → Option PoolFault
+remove_fault pools name dags =
+    if not (has_pool pools name) then Some NoSuchPool
+    else (if same_name name default_name then Some DefaultPool
+    else (if is_in_use name dags then Some InUse else None))
+
+-- the slots occupied in the pool of this name; 0 where there is none
+abbrev pub occupied_slots : List Pool → List ℕ → List OccupantRow → ℕ
+occupied_slots pools name occupants = if has_pool pools name then slots_taken name occupants else 0
+
+-- those occupied by instances in one state
+abbrev pub occupied_in : TaskState → List Pool → List ℕ → List OccupantRow → ℕ
+occupied_in state pools name occupants = if has_pool pools name then slots_in state name occupants else 0
+
+-- the slots open in the pool of this name: its slots less those occupied, at least 0; 0 where there is none
+abbrev pub open_slots : List Pool → List ℕ → List OccupantRow → ℕ
+open_slots pools name occupants = slots_of pools name - occupied_slots pools name occupants
+
+-- what holds of the rows at all times
+pub record ArePools (pools : List Pool) : Type 0 where
+  -- they are in byte order of their names, and no two have one name
+  pub in_order : IsStrictlySortedBy (slice_cmp nat_cmp) (map (λ pool. pool.name) pools)
+  pub few : length pools ≤ 65_536
+  pub bounded : All (λ pool. pool.slots ≤ 1_000_000) pools
+  -- the default pool is there
+  pub has_default : has_pool pools default_name ≡ true

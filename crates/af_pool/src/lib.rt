@@ -1,0 +1,16 @@
+//! Pools of slots, by name: one is always there, and an addition for which memory is reserved wants none.
+#![tactic(auto)]
+
+mod fault;
+pub mod laws;
+mod occupant;
+mod pool;
+mod pools;
+
+pub use fault::PoolFault;
+pub use occupant::Occupant;
+pub use pool::Pool;
+pub use pools::Pools;
+
+#[cfg(test)]
+mod tests;

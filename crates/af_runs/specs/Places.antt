@@ -1,0 +1,14 @@
+-- Where the row of a run stands.
+use Rattle.std.specs.Prelude.{ℕ, ◌≡◌, ◌≢◌, ◌<◌, List, true, false, length, slice_index_or}
+use Rattle.af_runs.specs.declared.run.Run.{Run}
+use Rattle.af_runs.specs.Runs.{is_numbered}
+
+-- the row at this place has the number, and no other row has it
+pub record StandsAt (runs : List Run) (number place : ℕ) : Type 0 where
+  pub within : place < length runs
+  pub here : (d : Run) → is_numbered number (slice_index_or runs place d) ≡ true
+  pub alone : (other : ℕ) (d : Run) → other < length runs → other ≢ place → is_numbered number (slice_index_or runs other d) ≡ false
+
+-- no row has the number
+pub record StandsNowhere (runs : List Run) (number : ℕ) : Type 0 where
+  pub none : (other : ℕ) (d : Run) → other < length runs → is_numbered number (slice_index_or runs other d) ≡ false

@@ -1,0 +1,26 @@
+//! Runs of DAGs with their task instances, in order of a number that is never used again: an addition for which memory
+//! is reserved wants none.
+#![tactic(auto)]
+
+mod instance;
+mod instances;
+mod interval;
+mod new_run;
+mod run;
+mod run_fault;
+mod run_state;
+mod run_type;
+mod runs;
+
+pub use instance::Instance;
+pub use instances::Instances;
+pub use interval::Interval;
+pub use new_run::NewRun;
+pub use run::Run;
+pub use run_fault::RunFault;
+pub use run_state::RunState;
+pub use run_type::RunType;
+pub use runs::Runs;
+
+#[cfg(test)]
+mod tests;

@@ -1,0 +1,69 @@
+ghost use Rattle.std.specs.Prelude.{◌≡◌};
+ghost use Rattle.af_runs.specs.Runs.{is_of, is_run, is_dated, queued_run};
+
+use crate::instances::Instances;
+use crate::interval::Interval;
+use crate::new_run::NewRun;
+use crate::run_state::RunState;
+use crate::run_type::RunType;
+use af_names::{DagId, Instant, RunId};
+
+/// A run of a DAG, with its instances.
+#[derive(Drop)]
+pub struct Run {
+    /// From 1 on, in the order in which runs were added; no number is used again.
+    pub number: u64,
+    pub dag_id: DagId,
+    /// Of the DAG's runs this one alone has this id.
+    pub run_id: RunId,
+    /// Of the DAG's runs this one alone has this logical date.
+    pub logical_date: Instant,
+    pub interval: Interval,
+    pub run_type: RunType,
+    pub state: RunState,
+    pub start_date: Option<Instant>,
+    pub end_date: Option<Instant>,
+    /// Those it was added with, but for changes: to be one for each task of the DAG, in the order of the definition.
+    pub instances: Instances,
+}
+
+impl Run {
+    /// The row of a new run: queued, without start and end.
+    pub(crate) fn queued(number: u64, new: NewRun) -> Run
+        ensures { result ≡ queued_run number new }
+    {
+        Run {
+            number,
+            dag_id: new.dag_id,
+            run_id: new.run_id,
+            logical_date: new.logical_date,
+            interval: new.interval,
+            run_type: new.run_type,
+            state: RunState::Queued,
+            start_date: None,
+            end_date: None,
+            instances: new.instances,
+        }
+    }
+
+    /// Whether it is a run of the DAG of this id.
+    pub(crate) fn is_of(&self, dag_id: &DagId) -> bool
+        ensures { result ≡ is_of dag_id.now self.now }
+    {
+        self.dag_id == *dag_id
+    }
+
+    /// Whether it is the run of these ids.
+    pub(crate) fn has_ids(&self, dag_id: &DagId, run_id: &RunId) -> bool
+        ensures { result ≡ is_run dag_id.now run_id.now self.now }
+    {
+        self.is_of(dag_id) && self.run_id == *run_id
+    }
+
+    /// Whether it is the DAG's run of this logical date.
+    pub(crate) fn has_date(&self, dag_id: &DagId, logical_date: Instant) -> bool
+        ensures { result ≡ is_dated dag_id.now logical_date self.now }
+    {
+        self.is_of(dag_id) && self.logical_date == logical_date
+    }
+}

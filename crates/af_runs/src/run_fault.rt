@@ -1,0 +1,26 @@
+use crate::run::Run;
+use std::alloc::AllocFailed;
+
+/// Why a run is not added, in the order in which faults are told.
+#[derive(Clone, Copy, Debug, PartialEq, Eq)]
+pub enum RunFault {
+    /// The DAG has a run of that id.
+    RunExists,
+    /// The DAG has a run of that logical date.
+    DateTaken,
+    /// The DAG has 65,536 runs, or no run number is left.
+    Full,
+    /// A growth of memory was refused.
+    OutOfMemory,
+}
+
+impl From<AllocFailed<Run>> for RunFault {
+    ghost use Rattle.std.specs.Prelude.{◌≡◌};
+    ghost use Rattle.af_runs.specs.declared.run_fault.RunFault.TheVariants.{OutOfMemory};
+
+    ghost from_gives = { λ _ e. e ≡ OutOfMemory };
+
+    fn from(_error: AllocFailed<Run>) -> RunFault {
+        RunFault::OutOfMemory
+    }
+}

@@ -1,0 +1,227 @@
+ghost use Rattle.std.specs.Prelude.{◌≡◌, ◌≢◌, ◌+◌, ◌<◌, ◌≤◌, [], Err, IfOk, IfSome, IsNone, MatchOption, OnOk, OnErr, option_copied, length, nat_le, ◌^◌, IsOk, is_ok, if◌then◌else◌};
+ghost use Rattle.af_runs.specs.Runs.{AreRuns, Adds, SameRuns, IsOkOrOutOfMemory, add_fault, refusal, run_of, run_at, instances_of, unfinished_after, with_state, with_instance, is_full, is_run, is_dated, runs_of};
+ghost use Rattle.std.specs.List.{list_any};
+ghost use Rattle.af_runs.specs.Places.{StandsAt, StandsNowhere};
+
+use crate::instance::Instance;
+use crate::new_run::NewRun;
+use crate::run::Run;
+use crate::run_fault::RunFault;
+use crate::run_state::RunState;
+use af_names::{DagId, Instant, RunId};
+use std::alloc::{AllocError, Global};
+use std::marker::Model;
+
+/// The most runs that a DAG has.
+const MOST_RUNS: usize = 65_536;
+
+/// The runs of all DAGs, in order of number. Contracts see them as that list of rows, each with its instances, beside
+/// the number that the next run gets and the number of rows for which memory is reserved.
+#[derive(Drop)]
+pub struct Runs {
+    rows: Vec<Run>,
+    last: u64,
+}
+
+impl Model for Runs {
+    ghost use Rattle.std.specs.Prelude.{◌+◌, ◌-◌, vec_len, vec_capacity};
+    ghost use Rattle.af_runs.specs.Runs.{RunRows, AreRuns};
+
+    ghost Value = { RunRows };
+
+    ghost view = { λ runs. record {
+      rows = runs.rows.items;
+      next = runs.last + 1;
+      spare = vec_capacity runs.rows - vec_len runs.rows;
+    } };
+
+    ghost invariant = { λ runs. AreRuns runs.rows.items (runs.last + 1) };
+}
+
+impl Runs {
+    /// No runs; the first gets number 1.
+    pub fn new(alloc: Global) -> Runs
+        ensures rows { result.rows ≡ [] }
+        ensures next { result.next ≡ 1 }
+    {
+        Runs {
+            rows: Vec::new(alloc),
+            last: 0,
+        }
+    }
+
+    /// The rows, in order of number.
+    pub fn rows(&self) -> &[Run]
+        ensures rows { result.now ≡ self.now.rows }
+        ensures kept { AreRuns self.now.rows self.now.next }
+    {
+        self.rows.as_slice()
+    }
+
+    /// For how many more runs memory is reserved.
+    pub fn spare(&self) -> usize
+        ensures { result ≡ self.now.spare }
+    {
+        self.rows.capacity() - self.rows.len()
+    }
+
+    /// Reserves memory for that many more runs. `AllocError` only where a growth was refused, so never where there is
+    /// room already; then as before.
+    pub fn reserve(&mut self, additional: usize) -> Result<(), AllocError>
+        ensures ok { OnOk result (additional ≤ self.new.spare) }
+        ensures roomy { additional ≤ self.old.spare → IsOk result }
+        ensures err { OnErr result (self.new.spare ≡ self.old.spare) }
+        ensures rows { SameRuns self.old self.new }
+        ensures spare { self.old.spare ≤ self.new.spare }
+    {
+        self.rows.reserve(additional)
+    }
+
+    /// The run of these ids.
+    pub fn find(&self, dag_id: &DagId, run_id: &RunId) -> Option<&Run>
+        ensures { option_copied result ≡ run_of self.now.rows dag_id.now run_id.now }
+    {
+        self.rows.iter().find(|run| run.has_ids(dag_id, run_id))
+    }
+
+    /// The run of this number.
+    pub fn get(&self, number: u64) -> Option<&Run>
+        ensures { option_copied result ≡ run_at self.now.rows number }
+    {
+        let place = self.place_of(number)?;
+        Some(&self.rows[place])
+    }
+
+    /// The instances of the run of these ids, in the order of the definition.
+    pub fn instances(&self, dag_id: &DagId, run_id: &RunId) -> Option<&[Instance]>
+        ensures { option_copied result ≡ instances_of self.now.rows dag_id.now run_id.now }
+    {
+        self.find(dag_id, run_id)
+            .map(|run| run.instances.as_slice())
+    }
+
+    /// The first run after this number that has not ended: by it a tick goes over the runs that it may move on.
+    pub fn unfinished_after(&self, number: u64) -> Option<&Run>
+        ensures { option_copied result ≡ unfinished_after self.now.rows number }
+    {
+        self.rows
+            .iter()
+            .find(|run| number < run.number && !run.state.is_finished())
+    }
+
+    /// Why a run of these ids and this logical date would not be added, memory aside: `RunExists` where the DAG has a
+    /// run of that id; `DateTaken` where it has one of that logical date; `Full` where it has 65,536 runs or no number
+    /// is left.
+    pub fn add_fault(
+        &self,
+        dag_id: &DagId,
+        run_id: &RunId,
+        logical_date: Instant,
+    ) -> Option<RunFault>
+        ensures { result ≡ add_fault self.now.rows self.now.next dag_id.now run_id.now logical_date }
+    {
+        if self.has_ids(dag_id, run_id) {
+            Some(RunFault::RunExists)
+        } else if self.has_date(dag_id, logical_date) {
+            Some(RunFault::DateTaken)
+        } else if self.is_full(dag_id) {
+            Some(RunFault::Full)
+        } else {
+            None
+        }
+    }
+
+    /// Adds a run, queued, and tells its number. Its faults are those of `add_fault`, and `OutOfMemory`, only where a
+    /// growth was refused and never where memory is reserved. A fault leaves the runs as they were.
+    pub fn add_run(&mut self, new: NewRun) -> Result<u64, RunFault>
+        ensures refused { IfSome (refusal self.old new) (λ fault. result ≡ Err fault) }
+        ensures accepted { IsNone (refusal self.old new) → IsOkOrOutOfMemory result }
+        ensures ok { IfOk result (Adds self.old self.new new) }
+        ensures err { OnErr result (SameRuns self.old self.new) }
+        ensures roomy { 0 < self.old.spare → result ≢ Err RunFault.OutOfMemory }
+        ensures spare { self.old.spare ≤ self.new.spare + (if is_ok result then 1 else 0) }
+    {
+        if let Some(fault) = self.add_fault(&new.dag_id, &new.run_id, new.logical_date) {
+            return Err(fault);
+        }
+        let number = self.last + 1;
+        self.rows.push(Run::queued(number, new))?;
+        self.last = number;
+        Ok(number)
+    }
+
+    /// Puts the run of this number into a state, with its start and its end. Where there is no such run nothing changes.
+    pub fn set_state(
+        &mut self,
+        number: u64,
+        state: RunState,
+        start_date: Option<Instant>,
+        end_date: Option<Instant>,
+    )
+        ensures { self.new ≡ record self.old {
+          rows = with_state self.old.rows number state start_date end_date;
+        } }
+    {
+        if let Some(place) = self.place_of(number) {
+            let run = &mut self.rows[place];
+            run.state = state;
+            run.start_date = start_date;
+            run.end_date = end_date;
+        }
+    }
+
+    /// Replaces the instance at a place of the run of this number. Where there is no such run or place nothing changes.
+    pub fn set_instance(&mut self, number: u64, place: usize, instance: Instance)
+        ensures { self.new ≡ record self.old {
+          rows = with_instance self.old.rows number place instance;
+        } }
+    {
+        if let Some(row) = self.place_of(number) {
+            self.rows[row].instances.set(place, instance);
+        }
+    }
+
+    /// Where the row of the run of this number stands.
+    fn place_of(&self, number: u64) -> Option<usize>
+        ensures { MatchOption result (StandsNowhere self.now.rows number) (StandsAt self.now.rows number) }
+    {
+        self.rows
+            .binary_search_by_key(&number, |run| run.number)
+            .ok()
+    }
+
+    fn has_ids(&self, dag_id: &DagId, run_id: &RunId) -> bool
+        ensures { result ≡ list_any (is_run dag_id.now run_id.now) self.now.rows }
+    {
+        self.rows.iter().any(|run| run.has_ids(dag_id, run_id))
+    }
+
+    fn has_date(&self, dag_id: &DagId, logical_date: Instant) -> bool
+        ensures { result ≡ list_any (is_dated dag_id.now logical_date) self.now.rows }
+    {
+        self.rows
+            .iter()
+            .any(|run| run.has_date(dag_id, logical_date))
+    }
+
+    /// Whether the DAG has as many runs as it may have, or no number is left for another.
+    fn is_full(&self, dag_id: &DagId) -> bool
+        ensures { result ≡ is_full self.now.rows self.now.next dag_id.now }
+    {
+        self.count_of(dag_id) >= MOST_RUNS || self.is_spent()
+    }
+
+    /// How many runs the DAG has.
+    fn count_of(&self, dag_id: &DagId) -> usize
+        ensures { result ≡ length (runs_of self.now.rows dag_id.now) }
+    {
+        self.rows.iter().filter(|run| run.is_of(dag_id)).count()
+    }
+
+    /// Whether no number is left for another run.
+    fn is_spent(&self) -> bool
+        ensures { result ≡ nat_le (2 ^ 64) self.now.next }
+    {
+        self.last == u64::MAX
+    }
+}

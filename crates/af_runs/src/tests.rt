@@ -1,0 +1,195 @@
+use crate::{Instance, Instances, Interval, NewRun, Run, RunFault, RunState, RunType, Runs};
+use af_graph::{Dag, DagSpec, Rule, TaskIds, TaskSpec, TaskSpecs, TaskState};
+use af_names::{DagId, Instant, PoolName, RunId, TaskId};
+use std::alloc::Global;
+use std::test::Fail;
+
+type Row<'a> = (u64, &'a str, &'a str, RunState);
+
+fn has_rows(rows: &[Run], wanted: &[Row<'_>]) -> bool {
+    rows.len() == wanted.len() && rows.iter().zip(wanted).all(|(run, want)| is_row(run, want))
+}
+
+fn is_row(run: &Run, wanted: &Row<'_>) -> bool {
+    run.number == wanted.0
+        && run.dag_id.as_str() == wanted.1
+        && run.run_id.as_str() == wanted.2
+        && run.state == wanted.3
+}
+
+fn moment(micros: u64) -> Result<Instant, Fail> {
+    Ok(Instant::of_micros(micros).ok_or("past the end")?)
+}
+
+fn untried() -> Instance {
+    Instance {
+        state: TaskState::NoStatus,
+        try_number: 0,
+        max_tries: 1,
+        start_date: None,
+        end_date: None,
+        retry_at: None,
+    }
+}
+
+/// A run of two tasks.
+fn new_run(alloc: Global, dag_id: &str, run_id: &str, date: u64) -> Result<NewRun, Fail> {
+    let at = moment(date)?;
+    let items = vec![in alloc; untried(), untried()]?;
+    Ok(NewRun {
+        dag_id: DagId::parse(alloc, dag_id)?,
+        run_id: RunId::parse(alloc, run_id)?,
+        logical_date: at,
+        interval: Interval { start: at, end: at },
+        run_type: RunType::Manual,
+        instances: Instances::of(items),
+    })
+}
+
+#[test]
+fn runs_of_two_dags(rt: HostRuntime) -> Result<(), Fail> {
+    use RunState::{Queued, Running, Success};
+    let alloc = rt.alloc();
+    let mut runs = Runs::new(alloc);
+    assert!(rt;
+        runs.add_run(new_run(alloc, "a", "r1", 1)?) == Ok(1),
+        "the first of a"
+    );
+    assert!(rt;
+        runs.add_run(new_run(alloc, "b", "r2", 2)?) == Ok(2),
+        "the first of b"
+    );
+    let both = runs.add_run(new_run(alloc, "a", "r1", 1)?);
+    assert!(rt; both == Err(RunFault::RunExists), "the id before the date");
+    let dated = runs.add_run(new_run(alloc, "a", "r3", 1)?);
+    assert!(rt; dated == Err(RunFault::DateTaken), "the date of r1");
+    assert!(rt;
+        runs.add_run(new_run(alloc, "b", "r1", 1)?) == Ok(3),
+        "id and date of another DAG"
+    );
+    let added = [
+        (1, "a", "r1", Queued),
+        (2, "b", "r2", Queued),
+        (3, "b", "r1", Queued),
+    ];
+    assert!(rt; has_rows(runs.rows(), &added), "in order of number");
+
+    let b = DagId::parse(alloc, "b")?;
+    let r1 = RunId::parse(alloc, "r1")?;
+    let r3 = RunId::parse(alloc, "r3")?;
+    assert!(rt;
+        runs.find(&b, &r1).is_some_and(|run| run.number == 3),
+        "r1 of b"
+    );
+    assert!(rt; runs.find(&b, &r3).is_none(), "b has no r3");
+    assert!(rt;
+        runs.get(2).is_some_and(|run| is_row(run, &added[1])),
+        "number 2"
+    );
+    assert!(rt; runs.get(4).is_none(), "no number 4");
+    let full = runs.add_fault(&b, &r3, moment(2)?);
+    assert!(rt; full == Some(RunFault::DateTaken), "the date of r2");
+
+    let at = Some(moment(9)?);
+    runs.set_state(2, Running, at, None);
+    runs.set_state(1, Success, at, at);
+    runs.set_state(7, Success, at, at);
+    let changed = [
+        (1, "a", "r1", Success),
+        (2, "b", "r2", Running),
+        (3, "b", "r1", Queued),
+    ];
+    assert!(rt; has_rows(runs.rows(), &changed), "the rows of 1 and 2");
+    assert!(rt;
+        runs.get(2)
+            .is_some_and(|run| run.start_date == at && run.end_date.is_none()),
+        "start"
+    );
+    assert!(rt;
+        runs.unfinished_after(0).is_some_and(|run| run.number == 2),
+        "1 has ended"
+    );
+    assert!(rt; runs.unfinished_after(3).is_none(), "none after 3");
+
+    let failed = Instance {
+        state: TaskState::Failed,
+        try_number: 1,
+        ..untried()
+    };
+    runs.set_instance(3, 1, failed);
+    runs.set_instance(3, 2, failed);
+    let of_b = runs.instances(&b, &r1);
+    assert!(rt;
+        of_b == Some([untried(), failed].as_slice()),
+        "the second of run 3"
+    );
+    let of_a = runs.instances(&DagId::parse(alloc, "a")?, &r1);
+    assert!(rt;
+        of_a == Some([untried(), untried()].as_slice()),
+        "run 1 as it was"
+    );
+    Ok(())
+}
+
+#[test]
+fn a_refused_growth_leaves_the_runs(rt: HostRuntime) -> Result<(), Fail> {
+    let alloc = rt.alloc();
+    let mut runs = Runs::new(alloc);
+    let first = new_run(alloc, "a", "r1", 1)?;
+    let second = new_run(alloc, "a", "r2", 2)?;
+    let third = new_run(alloc, "a", "r3", 3)?;
+    if runs.reserve(2).is_err() {
+        assert!(rt; runs.rows().is_empty(), "nothing reserved");
+        return Ok(());
+    }
+    assert!(rt; runs.spare() >= 2, "room for two");
+    assert!(rt;
+        runs.add_run(first) == Ok(1) && runs.add_run(second) == Ok(2),
+        "two in reserve"
+    );
+    let rows = [
+        (1, "a", "r1", RunState::Queued),
+        (2, "a", "r2", RunState::Queued),
+    ];
+    if runs.add_run(third) == Err(RunFault::OutOfMemory) {
+        assert!(rt; has_rows(runs.rows(), &rows), "as before");
+    }
+    assert!(rt; runs.rows().len() >= 2, "both are there");
+    Ok(())
+}
+
+fn task(alloc: Global, task_id: &str, retries: u32) -> Result<TaskSpec, Fail> {
+    Ok(TaskSpec {
+        task_id: TaskId::parse(alloc, task_id)?,
+        upstream: TaskIds::of(Vec::new(alloc)),
+        pool: PoolName::parse(alloc, "default_pool")?,
+        pool_slots: 1,
+        priority_weight: 1,
+        retries,
+        retry_delay: 300,
+        trigger_rule: Rule::AllSuccess,
+    })
+}
+
+#[test]
+fn each_task_has_an_instance(rt: HostRuntime) -> Result<(), Fail> {
+    let alloc = rt.alloc();
+    let spec = DagSpec {
+        dag_id: DagId::parse(alloc, "a")?,
+        tasks: TaskSpecs::of(vec![in alloc; task(alloc, "x", 1)?, task(alloc, "y", 3)?]?),
+        schedule: None,
+        catchup: true,
+        max_active_runs: 16,
+    };
+    let instances = Instances::of_dag(alloc, &Dag::new(alloc, spec)?)?;
+    let patient = Instance {
+        max_tries: 3,
+        ..untried()
+    };
+    assert!(rt;
+        instances.as_slice() == [untried(), patient].as_slice(),
+        "in order"
+    );
+    assert!(rt; instances.into_vec().len() == 2, "given back");
+    Ok(())
+}
