@@ -184,10 +184,12 @@ fn no_task(rt: HostRuntime) -> Result<(), Fail> {
 #[test]
 fn an_id_repeated_at_a_distance(rt: HostRuntime) -> Result<(), Fail> {
     let alloc = rt.alloc();
-    let rows: [(&str, &[&str]); 3] = [("a", &["nobody"]), ("b", &[]), ("a", &[])];
+    let mut tasks = tasks(alloc, &[("a", &["nobody"])])?;
+    tasks.push(task(alloc, "b", &[])?)?;
+    tasks.push(task(alloc, "a", &[])?)?;
     let duplicate = DagFault::Duplicate(TaskId::parse(alloc, "a")?);
     assert_eq!(rt;
-        told(alloc, tasks(alloc, &rows)?)?,
+        told(alloc, tasks)?,
         Some(duplicate),
         "before the unknown id"
     );
