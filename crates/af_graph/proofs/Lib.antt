@@ -5,4 +5,5 @@ pub mod RowLemmas
 pub mod TakingLemmas
 pub mod WiringLemmas
 pub mod OrderLemmas
+pub mod ScheduleLemmas
 pub mod DagLemmas

@@ -3,6 +3,7 @@ pub mod Graph
 pub mod Laws
 pub mod Order
 pub mod Rows
+pub mod Schedules
 pub mod States
 pub mod Steps
 pub mod TriggerRules

@@ -9,6 +9,7 @@ mod index;
 mod laws;
 mod links;
 mod misfit;
+mod multiples;
 mod rule;
 mod schedule;
 mod taking;

@@ -1,3 +1,5 @@
+mod schedules;
+
 use super::*;
 use af_names::{DagId, PoolName, TaskId};
 use std::alloc::Global;
