@@ -4,4 +4,3 @@ pub mod UserLemmas
 pub mod ViewLemmas
 pub mod DraftLemmas
 pub mod GrantLemmas
-mod Worked

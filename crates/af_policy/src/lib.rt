@@ -13,6 +13,7 @@ mod row_fault;
 mod user;
 mod user_table;
 mod view;
+mod worked;
 
 pub use dag_rows::NamesDag;
 pub use draft::{NoAdmin, PolicyDraft};
@@ -22,6 +23,10 @@ pub use reader::Reader;
 pub use row_fault::RowFault;
 pub use user::User;
 pub use view::PolicyView;
+pub use worked::{
+    bearers_by_the_rule, denials_by_the_rule, grants_by_the_rule, readers_by_the_rule,
+    rows_by_the_rule,
+};
 
 #[cfg(test)]
 mod tests;

@@ -9,6 +9,7 @@ mod pair;
 mod permissions;
 mod resource;
 mod role;
+mod worked;
 
 pub use action::Action;
 pub use actions::Actions;
@@ -18,6 +19,10 @@ pub use pair::Pair;
 pub use permissions::Permissions;
 pub use resource::{Resource, ResourceKind};
 pub use role::Role;
+pub use worked::{
+    default_roles_by_the_rule, needs_by_the_rule, pairs_by_the_rule, single_dags_by_the_rule,
+    texts_by_the_rule,
+};
 
 #[cfg(test)]
 mod tests;

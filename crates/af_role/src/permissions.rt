@@ -64,13 +64,13 @@ impl Permissions {
     pub fn has_on_kind(&self, action: Action, kind: ResourceKind) -> bool
         ensures { result ≡ contains_pair self.now (on_kind action kind) }
     {
-        self.pairs.iter().any(|own| own.is_on_kind(action, kind))
+        self.iter().any(|own| own.is_on_kind(action, kind))
     }
 
     /// Whether an action on one DAG is among them.
     pub fn has_on_dag(&self, action: Action, dag: &DagId) -> bool
         ensures { result ≡ contains_pair self.now (on_dag action dag.now) }
     {
-        self.pairs.iter().any(|own| own.is_on_dag(action, dag))
+        self.iter().any(|own| own.is_on_dag(action, dag))
     }
 }
