@@ -1,3 +1,2 @@
-pub mod OrderLemmas
 pub mod PoolLemmas
 pub mod SlotLemmas

@@ -14,7 +14,7 @@ use Rattle.std.proofs.Math.ListN.{length-set}
 use Rattle.af_pool.specs.declared.pool.Pool.{Pool}
 use Rattle.af_pool.specs.Pools.{ArePools, is_named, pool_of, with_pool, with_slots, without_pool, default_name}
 use Rattle.af_pool.specs.Places.{StandsAt, FitsAt}
-use Rattle.af_pool.proofs.OrderLemmas.{rows_before, rows_after, order-inserted, order-filter, list_any-inserted, All-inserted, list_any-map, length-filter_le, map-only, filter-only, list_any-only, list_any-none, find-only, find-none, search_alone, search_rises, search_none}
+use Rattle.af_names.proofs.OrderLemmas.{rows_before, rows_after, order-inserted, order-filter, list_any-inserted, All-inserted, list_any-map, length-filter_le, map-only, filter-only, list_any-only, list_any-none, find-only, find-none, search_alone, search_rises, search_none}
 
 abbrev name_of : Pool → List ℕ
 name_of pool = pool.name

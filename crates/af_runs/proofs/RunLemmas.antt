@@ -23,7 +23,7 @@ use Rattle.af_runs.specs.declared.run_fault.RunFault.TheVariants.{RunExists, Dat
 use Rattle.af_runs.specs.declared.run_state.RunState.{RunState}
 use Rattle.af_runs.specs.Runs.{AreRuns, is_of, is_run, is_dated, is_numbered, run_at, runs_of, is_full, add_fault, queued_run, same_ids, same_date, with_state, with_instance}
 use Rattle.af_runs.specs.Places.{StandsAt, StandsNowhere}
-use Rattle.af_runs.proofs.OrderLemmas.{order-push, map-only, map-none, find-only, find-none, search_alone, search_none, search_rises}
+use Rattle.af_names.proofs.OrderLemmas.{order-push, map-only, map-none, find-only, find-none, search_alone, search_none, search_rises}
 
 abbrev number_of : Run → ℕ
 number_of run = run.number
