@@ -1,2 +1,4 @@
+mod DagLemmas
+mod LawLemmas
 mod PageLemmas
 mod TokenLemmas

@@ -1,7 +1,7 @@
 -- A list of tokens that grows at its end, and the text that it prints.
-use Rattle.std.proofs.Common.{◌≡◌, ℕ, Result, Ok, subst, codes, decimal, List, [], ◌∷◌, ◌++◌, map, flat_map, refl, sym, ◌∙◌, ap, append_assoc}
+use Rattle.std.proofs.Common.{◌≡◌, Result, Ok, subst, codes, decimal, List, [], ◌∷◌, ◌++◌, map, flat_map, refl, ◌∙◌, ap, append_assoc}
 use Rattle.json.specs.Token.{Token, begin_object, end_object, begin_array, end_array, key, number}
-use Rattle.json.specs.Tree.{json_tokens, items_tokens}
+use Rattle.json.specs.Tree.{items_tokens}
 use Rattle.json.specs.Print.{print}
 use Rattle.json.specs.Written.{Written, Writes}
 use Rattle.af_ops.specs.Writing.{Adds}
@@ -9,7 +9,6 @@ use Rattle.serde_json.specs.Data.{Data}
 use Rattle.serde_json.specs.View.{items_of}
 use Rattle.serde_json.specs.Written.{items_outline, compact_text}
 use Rattle.serde_json.proofs.Texts.{print-outline}
-use Rattle.af_ops.specs.declared.dag_row.DagRow.{DagRow}
 use Rattle.af_ops.specs.Pages.{ListedDags}
 use Rattle.af_ops.specs.Replies.{tokens_of, dag_data, dags_data}
 

@@ -1,6 +1,9 @@
+pub mod Effects
 pub mod Endpoints
+pub mod Laws
 pub mod Listings
 pub mod Pages
+pub mod Places
 pub mod Replies
 pub mod Requirements
 pub mod Results
@@ -10,4 +13,5 @@ pub mod Statuses
 pub mod Steps
 pub mod Tellings
 pub mod Verdicts
+pub mod Worked
 pub mod Writing

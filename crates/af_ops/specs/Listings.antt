@@ -2,7 +2,6 @@
 -- API": collections are cut by `limit` and `offset`, and `total_entries` counts them before the cut).
 use Rattle.std.specs.Prelude.{ℕ, List, take, drop, filter, Bool}
 use Rattle.af_ops.specs.declared.dag_row.DagRow.{DagRow}
-use Rattle.af_ops.specs.Rows.{StateRows}
 
 -- the rows whose DAG the user reads, in their order
 abbrev pub shown_dags : (List ℕ → Bool) → List DagRow → List DagRow

@@ -4,6 +4,7 @@
 mod answer;
 mod body;
 mod dag_row;
+pub mod laws;
 mod needs_of;
 mod op;
 mod prepared;
@@ -15,6 +16,7 @@ mod status;
 mod telling;
 #[cfg(test)]
 mod tests;
+mod worked;
 mod writing;
 
 pub use answer::{Answer, CallFault, OpFault, Under};
@@ -29,3 +31,6 @@ pub use shown_answer::Shown;
 pub use state::{State, StateFault};
 pub use status::Status;
 pub use telling::{shown, shown_version};
+pub use worked::{
+    additions_by_the_rule, faults_by_the_rule, messages_by_the_rule, verdicts_by_the_rule,
+};

@@ -1,5 +1,5 @@
-ghost use Rattle.std.specs.Prelude.{◌≡◌, false, IfOk, OnOk, length};
-ghost use Rattle.af_ops.specs.Verdicts.{reply_to, listed_dags};
+ghost use Rattle.std.specs.Prelude.{◌≡◌, None, IfOk, OnOk, length};
+ghost use Rattle.af_ops.specs.Effects.{effect_of, is_change, after};
 ghost use Rattle.af_ops.specs.Listings.{shown_dags, page, default_limit};
 ghost use Rattle.af_ops.specs.Steps.{TakesRow};
 
@@ -16,26 +16,35 @@ use std::marker::Model;
 /// How many rows a listing tells where no limit is given.
 const LIMIT: usize = 100;
 
-/// An operation that can be committed without memory. Contracts see the reply that it will give.
+/// An operation that can be committed without memory. Contracts see its effect: the reply that it will give, and the state
+/// that it will leave, or none where it leaves the state as it is.
 #[derive(Drop)]
 pub struct Prepared {
     reply: Reply,
+    next: Option<State>,
 }
 
 impl Model for Prepared {
-    ghost use Rattle.af_ops.specs.declared.reply.Reply.{Reply};
+    ghost use Rattle.af_ops.specs.Effects.{Effect};
 
-    ghost Value = { Reply };
+    ghost Value = { Effect };
 
-    ghost view = { λ p. p.reply };
+    ghost view = { λ p. record { reply = p.reply; next = p.next } };
 }
 
 impl Prepared {
-    /// Whether it will change the state. The operations so far change nothing.
-    pub fn changes(&self) -> bool
-        ensures { result ≡ false }
+    /// What gives this reply and leaves the state as it is.
+    fn reading(reply: Reply) -> Prepared
+        ensures { result ≡ record { reply = reply; next = None } }
     {
-        false
+        Prepared { reply, next: None }
+    }
+
+    /// Whether it will change the state.
+    pub fn changes(&self) -> bool
+        ensures { result ≡ is_change self.now }
+    {
+        self.next.is_some()
     }
 }
 
@@ -48,17 +57,13 @@ pub fn prepare<R: Reader>(
     reader: &R,
     _now: Instant,
 ) -> Result<Prepared, OpFault>
-    ensures ok { IfOk result (λ prepared. prepared ≡ reply_to (R.reads reader.now) state.old op.now) }
+    ensures ok { IfOk result (λ prepared. prepared ≡ effect_of (R.reads reader.now) state.old op.now) }
     ensures same { state.new ≡ state.old }
 {
     match op {
-        Op::Version => Ok(Prepared {
-            reply: Reply::Version,
-        }),
+        Op::Version => Ok(Prepared::reading(Reply::Version)),
         Op::ListDags => match list_dags(alloc, state.dags(), reader) {
-            Ok(page) => Ok(Prepared {
-                reply: Reply::Dags(page),
-            }),
+            Ok(page) => Ok(Prepared::reading(Reply::Dags(page))),
             Err(_) => Err(OpFault::OutOfMemory),
         },
     }
@@ -66,10 +71,13 @@ pub fn prepare<R: Reader>(
 
 /// Does a prepared operation, on the state that it was prepared on, and gives its reply. It takes no memory.
 pub fn commit(state: &mut State, prepared: Prepared) -> Reply
-    ensures reply { result ≡ prepared }
-    ensures same { state.new ≡ state.old }
+    ensures reply { result ≡ prepared.reply }
+    ensures next { state.new ≡ after prepared state.old }
 {
-    let Prepared { reply } = prepared;
+    let Prepared { reply, next } = prepared;
+    if let Some(next) = next {
+        *state = next;
+    }
     reply
 }
 

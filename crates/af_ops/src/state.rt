@@ -1,10 +1,11 @@
-ghost use Rattle.std.specs.Prelude.{◌≡◌, [], Err, OnOk, OnErr, IsNone, IfSome};
+ghost use Rattle.std.specs.Prelude.{◌≡◌, [], true, Err, Some, OnOk, OnErr, IfOk, IfErr, IsNone, IfSome, MatchResult};
 ghost use Rattle.af_ops.specs.Results.{IsOkOr};
-ghost use Rattle.af_ops.specs.Rows.{StateRows, with_dag, has_dag, place_of};
+ghost use Rattle.af_ops.specs.Rows.{StateRows, AreDags, with_dag, has_dag};
+ghost use Rattle.af_ops.specs.Places.{FitsAt, CanAdd};
 
 use crate::dag_row::DagRow;
 use af_names::DagId;
-use std::alloc::Global;
+use std::alloc::{AllocFailed, Global};
 use std::marker::Model;
 
 /// How many DAGs there may be.
@@ -17,11 +18,13 @@ pub struct State {
 }
 
 impl Model for State {
-    ghost use Rattle.af_ops.specs.Rows.{StateRows};
+    ghost use Rattle.af_ops.specs.Rows.{StateRows, AreDags};
 
     ghost Value = { StateRows };
 
     ghost view = { λ s. record { dags = s.dags.items } };
+
+    ghost invariant = { λ s. AreDags s.dags.items };
 }
 
 /// Why a DAG is not added, in the order in which the reasons are told.
@@ -33,6 +36,17 @@ pub enum StateFault {
     TooMany,
     /// A growth was refused.
     OutOfMemory,
+}
+
+impl From<AllocFailed<DagRow>> for StateFault {
+    ghost use Rattle.std.specs.Prelude.{◌≡◌};
+    ghost use Rattle.af_ops.specs.declared.state.StateFault.TheVariants.{OutOfMemory};
+
+    ghost from_gives = { λ _ e. e ≡ OutOfMemory };
+
+    fn from(_error: AllocFailed<DagRow>) -> StateFault {
+        StateFault::OutOfMemory
+    }
 }
 
 impl State {
@@ -47,9 +61,10 @@ impl State {
         }
     }
 
-    /// Its DAGs, in byte order of their ids.
+    /// Its DAGs, at most 1,024, in byte order of their ids, each id once.
     pub fn dags(&self) -> &[DagRow]
-        ensures { result.now ≡ self.now.dags }
+        ensures rows { result.now ≡ self.now.dags }
+        ensures kept { AreDags self.now.dags }
     {
         self.dags.as_slice()
     }
@@ -61,28 +76,27 @@ impl State {
         ensures ok { OnOk result (self.new.dags ≡ with_dag row self.old.dags) }
         ensures err { OnErr result (self.new ≡ self.old) }
     {
-        if has_dag(self.dags.as_slice(), &row.dag_id) {
-            return Err(StateFault::Exists);
-        }
-        if self.dags.len() >= DAGS {
-            return Err(StateFault::TooMany);
-        }
-        let place = place_of(self.dags.as_slice(), &row.dag_id);
-        match self.dags.insert(place, row) {
-            Ok(()) => Ok(()),
-            Err(_) => Err(StateFault::OutOfMemory),
+        let place = self.place_to_add(&row.dag_id)?;
+        self.dags.insert(place, row)?;
+        Ok(())
+    }
+
+    /// Where the row of a DAG that may be added goes.
+    fn place_to_add(&self, id: &DagId) -> Result<usize, StateFault>
+        ensures ok { IfOk result (CanAdd self.now.dags id.now) }
+        ensures err { IfErr result (λ fault. add_fault id.now self.now ≡ Some fault) }
+    {
+        match self.place_of(id) {
+            Ok(_) => Err(StateFault::Exists),
+            Err(_) if self.dags.len() >= DAGS => Err(StateFault::TooMany),
+            Err(place) => Ok(place),
         }
     }
-}
 
-fn has_dag(dags: &[DagRow], id: &DagId) -> bool
-    ensures { result ≡ has_dag id.now dags.now }
-{
-    dags.iter().any(|row| row.dag_id == *id)
-}
-
-fn place_of(dags: &[DagRow], id: &DagId) -> usize
-    ensures { result ≡ place_of id.now dags.now }
-{
-    dags.iter().take_while(|row| row.dag_id < *id).count()
+    /// Where the row of the DAG of this id stands, or where it would.
+    fn place_of(&self, id: &DagId) -> Result<usize, usize>
+        ensures { MatchResult result (λ _. has_dag id.now self.now.dags ≡ true) (FitsAt self.now.dags id.now) }
+    {
+        self.dags.binary_search_by(|row| row.dag_id.cmp(id))
+    }
 }

@@ -54,12 +54,9 @@ fn only(id: &'static str) -> Reads {
     Reads { all: false, id }
 }
 
-fn add(alloc: Global, state: &mut State, id: &str, is_paused: bool) -> Result<(), StateFault> {
-    let Ok(dag_id) = DagId::parse(alloc, id) else {
-        return Err(StateFault::OutOfMemory);
-    };
-    state.add_dag(DagRow {
-        dag_id,
+fn row(alloc: Global, id: &str, is_paused: bool) -> Result<DagRow, Fail> {
+    Ok(DagRow {
+        dag_id: DagId::parse(alloc, id)?,
         is_paused,
         max_active_runs: 16,
     })
@@ -68,23 +65,14 @@ fn add(alloc: Global, state: &mut State, id: &str, is_paused: bool) -> Result<()
 fn three(alloc: Global) -> Result<State, Fail> {
     let mut state = State::empty(alloc);
     for (id, is_paused) in [("b", false), ("c", false), ("a", true)] {
-        if add(alloc, &mut state, id, is_paused).is_err() {
-            return Err(Fail::new(format_args!("{id} is not added")));
-        }
+        state.add_dag(row(alloc, id, is_paused)?)?;
     }
     Ok(state)
 }
 
 fn list(alloc: Global, state: &mut State, reader: &Reads) -> Result<Shown, Fail> {
-    let Ok(prepared) = prepare(
-        alloc,
-        state,
-        &Op::ListDags,
-        reader,
-        Instant::read("2024-01-01T00:00:00Z")?,
-    ) else {
-        return Err(Fail::new("no memory"));
-    };
+    let now = Instant::read("2024-01-01T00:00:00Z")?;
+    let prepared = prepare(alloc, state, &Op::ListDags, reader, now)?;
     if prepared.changes() {
         return Err(Fail::new("a listing changes nothing"));
     }
@@ -159,18 +147,14 @@ fn a_page_has_a_hundred_rows(rt: HostRuntime) -> Result<(), Fail> {
     let mut state = State::empty(rt.alloc());
     for n in 0..1024 {
         let id = format!(in rt.alloc(); "dag{n}")?;
-        assert_eq!(rt;
-            add(rt.alloc(), &mut state, id.as_str(), false),
-            Ok(()),
-            "{n}"
-        );
+        state.add_dag(row(rt.alloc(), id.as_str(), false)?)?;
     }
     assert_eq!(rt;
-        add(rt.alloc(), &mut state, "dag7", true),
+        state.add_dag(row(rt.alloc(), "dag7", true)?),
         Err(StateFault::Exists)
     );
     assert_eq!(rt;
-        add(rt.alloc(), &mut state, "other", true),
+        state.add_dag(row(rt.alloc(), "other", true)?),
         Err(StateFault::TooMany)
     );
     let told = list(rt.alloc(), &mut state, &all())?;

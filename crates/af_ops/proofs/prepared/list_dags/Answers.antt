@@ -1,5 +1,4 @@
-use Rattle.std.proofs.Common.{◌≡◌, Bool, List, ◌≤◌, ◌<◌, ◌+◌, ◌∷◌, [], ◌∙◌, ap, sym, arith, take, length, length-append}
-use Rattle.std.proofs.lemmas.Grind.{common_steps}
+use Rattle.std.proofs.Common.{Bool, List, ◌+◌, ◌∷◌, [], ◌∙◌, ap, sym, arith, take, length, length-append}
 use Rattle.af_ops.specs.declared.dag_row.DagRow.{DagRow}
 use Rattle.af_ops.specs.Listings.{shown_dags}
 use Rattle.af_ops.proofs.PageLemmas.{shown_more, hidden_more, shown_few}

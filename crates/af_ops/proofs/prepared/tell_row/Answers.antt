@@ -1,4 +1,4 @@
-use Rattle.std.proofs.Common.{◌++◌, ◌∷◌, [], ◌<◌, ◌≤◌, ◌∙◌, ap, sym, subst, arith}
+use Rattle.std.proofs.Common.{◌++◌, ◌∷◌, [], ◌∙◌, ap, arith}
 use Rattle.af_ops.proofs.PageLemmas.{page_takes, page_is_full}
 use Rattle.af_ops.proofs.prepared.tell_row.Goals as goal
 
