@@ -5,5 +5,6 @@ pub mod SendLemmas
 pub mod AnswerLemmas
 pub mod RouteLemmas
 pub mod TurnLemmas
+pub mod ReadLemmas
 pub mod RunLemmas
 pub mod LawLemmas

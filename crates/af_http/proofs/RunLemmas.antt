@@ -1,5 +1,5 @@
 -- A run, one turn at a time.
-use Rattle.std.proofs.Common.{◌≡◌, ◌<◌, ◌≤◌, ◌+◌, ◌||◌, ◌==◌, ◌⊎◌, inl, inr, ℕ, zero, suc, Bool, true, false, cond, List, [], ◌∷◌, ◌++◌, map, length, refl, sym, ap, ◌∙◌, subst, Option, Some, None, arith}
+use Rattle.std.proofs.Common.{◌≡◌, ◌<◌, ◌≤◌, ◌+◌, ◌*◌, ◌||◌, ◌==◌, ◌⊎◌, inl, inr, ℕ, zero, suc, Bool, true, false, cond, List, [], ◌∷◌, ◌++◌, map, length, refl, sym, ap, ◌∙◌, subst, Option, Some, None, arith}
 use Rattle.std.specs.Prelude.{Result, Ok, Err}
 use Rattle.std.proofs.lemmas.List.{append-nil, append_assoc, length_push, map-append}
 use Rattle.std.proofs.lemmas.Bool.{eq-eqb, cases_eq}
@@ -10,8 +10,10 @@ use Rattle.af_http.specs.Replies.{wants_memory}
 use Rattle.af_http.specs.Answers.{memory_text}
 use Rattle.af_http.specs.Reading.{Begins, Stand, closes_after}
 use Rattle.af_http.specs.Run.{Exchange, asked_in, exchange_text, exchanges_text, end_by, end_after, AllGoOn, LastEnds, Ends, IsWritten, Makes, Answered, Run}
+use Rattle.af_http.specs.Reads.{Awaited, Reads}
 use Rattle.af_http.specs.Sending.{Sent, Place, Puts, started}
 use Rattle.af_http.specs.Turns.{Outcome, EndsSo, CountsRead, CountsReadFault, CountsWriteFault, Stops, Exchanges, Turned, Ran, IsMemoryText}
+use Rattle.af_http.proofs.ReadLemmas.{asked_push, awaited_push, reads_none, reads_anyway, reads_at, reads_then}
 use Rattle.af_http.specs.declared.stream.Failed.{Failed}
 use Rattle.af_http.specs.declared.ended.Ended.{Ended}
 use Rattle.af_http.specs.declared.ended.Ended.TheVariants as end
@@ -117,6 +119,11 @@ never_write_by true c e is same = cc
 never_write_by false true e is same = cc
 never_write_by false false e is same = cc
 
+never_turns_by : (w c : Bool) (e : Ended) → Some e ≡ end_by w c → e ≡ end.Turns → ⊥
+never_turns_by true c e is same = cc
+never_turns_by false true e is same = cc
+never_turns_by false false e is same = cc
+
 -- an end at a request, or none
 at_request : (xs : List Exchange) (x : Exchange) → AllGoOn 0 xs → (o : Option Ended) → end_after (0 + length xs) x ≡ o
     → AllGoOn 0 (xs ++ x ∷ []) ⊎ ((e : Ended) × LastEnds 0 (xs ++ x ∷ []) e)
@@ -154,6 +161,38 @@ cut end.ReadFault text all out left is same = (left, sym is ∙ same)
 cut (end.Refused status) text all out left is same = (left, sym is ∙ same)
 cut end.Turns text all out left is same = (left, sym is ∙ same)
 cut end.NoMemory text all out left is same = (left, sym is ∙ same)
+
+stand_more : (xs : List Exchange) (x : Exchange) (before more held left tail : List ℕ)
+    → Stand (before ++ (more ++ tail)) (asked_in xs) (held ++ (more ++ tail)) → Begins ((held ++ more) ++ tail) x.asked (left ++ tail)
+    → Stand ((before ++ more) ++ tail) (asked_in (xs ++ x ∷ [])) (left ++ tail)
+stand_more xs x before more held left tail was b =
+    let P : List ℕ → Type 0 = λ t. Begins t x.asked (left ++ tail) in
+    let Q : List ℕ → Type 0 = λ t. Stand t (asked_in xs ++ x.asked ∷ []) (left ++ tail) in
+    let R : List Asked → Type 0 = λ q. Stand ((before ++ more) ++ tail) q (left ++ tail) in
+    subst R (sym (asked_push xs x))
+    (subst Q (sym (append_assoc before more tail))
+    (stand_push (before ++ (more ++ tail)) (asked_in xs) (held ++ (more ++ tail)) x.asked (left ++ tail) was (subst P (append_assoc held more tail) b)))
+
+begins_now : (held more left : List ℕ) (asked : Asked) → ((tail : List ℕ) → Begins ((held ++ more) ++ tail) asked (left ++ tail)) → Begins (held ++ more) asked left
+begins_now held more left asked b =
+    let P : List ℕ → Type 0 = λ t. Begins t asked (left ++ []) in
+    let Q : List ℕ → Type 0 = λ t. Begins (held ++ more) asked t in
+    subst Q (append-nil left) (subst P (append-nil (held ++ more)) (b []))
+
+-- the same where nothing follows
+stand_here : (xs : List Exchange) (x : Exchange) (before more held left : List ℕ)
+    → ((tail : List ℕ) → Stand (before ++ tail) (asked_in xs) (held ++ tail)) → ((tail : List ℕ) → Begins ((held ++ more) ++ tail) x.asked (left ++ tail))
+    → Stand (before ++ more) (asked_in (xs ++ x ∷ [])) (left ++ [])
+stand_here xs x before more held left was b =
+    let P : List ℕ → Type 0 = λ t. Stand t (asked_in (xs ++ x ∷ [])) (left ++ []) in
+    subst P (append-nil (before ++ more)) (stand_more xs x before more held left [] (was (more ++ [])) (b []))
+
+put_push : (xs : List Exchange) (x : Exchange) (count : ℕ) (start taken left all : List ℕ) → length xs ≡ count → all ≡ exchange_text count x
+    → Sent start taken left (exchanges_text 0 xs ++ all) → Sent start taken left (exchanges_text 0 (xs ++ x ∷ []))
+put_push xs x count start taken left all counted is s =
+    let P : List ℕ → Type 0 = λ t. Sent start taken left t in
+    let k : count ≡ 0 + length xs = omega (arith, counted) in
+    subst P (ap (λ t. exchanges_text 0 xs ++ t) (is ∙ ap (λ n. exchange_text n x) k) ∙ sym (text_push 0 xs x)) s
 
 module _ {S : Type 0} (answers : S → Option (List ℕ) → Op → Served → S → Type 0) where
   answered_push : (old : S) (xs : List Exchange) (mid : S) (x : Exchange) (new : S) → Answered answers old xs mid → Makes answers mid x.asked x.reply new
@@ -194,94 +233,80 @@ module _ {S : Type 0} (answers : S → Option (List ℕ) → Op → Served → S
       wrote end.Turns is = absurd is
       wrote (end.Refused status) is = absurd is
 
+module _ {S R : Type 0} (answers : S → Option (List ℕ) → Op → Served → S → Type 0) (given : R → List ℕ) (reads : R → ℕ) where
   -- so far: these bytes came, and were read as requests, whatever follows; what answers them was put
-  pub record Begun (count : ℕ) (old now : S) (given given' held start taken left : List ℕ) : Type 0 where
+  pub record Begun (count : ℕ) (old now : S) (first before : R) (held start taken left : List ℕ) : Type 0 where
     pub more : List ℕ
     pub exchanges : List Exchange
-    pub came : given' ≡ given ++ more
+    pub came : given before ≡ given first ++ more
     pub counted : length exchanges ≡ count
     pub stand : (tail : List ℕ) → Stand (more ++ tail) (asked_in exchanges) (held ++ tail)
+    pub awaited : Awaited given reads first [] (asked_in exchanges) before held
+    pub onward : reads first ≤ reads before
+    pub few : reads before ≤ reads first + 65536 * count
     pub answered : Answered answers old exchanges now
     pub on : AllGoOn 0 exchanges
     pub went : Sent start taken left (exchanges_text 0 exchanges)
 
-  pub begun_none : (old : S) (given taken held left : List ℕ) → held ≡ [] → left ≡ [] → Begun 0 old old given given held taken taken left
-  begun_none old given taken held left empty none = record {
+  pub begun_none : (old : S) (first : R) (taken held left : List ℕ) → held ≡ [] → left ≡ [] → Begun 0 old old first first held taken taken left
+  begun_none old first taken held left empty none = record {
     more = [];
     exchanges = [];
-    came = sym (append-nil given);
+    came = sym (append-nil (given first));
     counted = refl;
     stand = λ tail. ap (λ t. t ++ tail) (sym empty);
+    awaited = (refl, empty);
+    onward = omega arith;
+    few = omega arith;
     answered = refl;
     on = tt;
     went = record { front = []; taken_is = sym (append-nil taken); text_is = sym none };
   }
 
-  asked_push : (xs : List Exchange) (x : Exchange) → asked_in (xs ++ x ∷ []) ≡ asked_in xs ++ x.asked ∷ []
-  asked_push xs x = map-append (λ (y : Exchange). y.asked) xs (x ∷ [])
-
-  stand_more : (xs : List Exchange) (x : Exchange) (before more held left tail : List ℕ)
-      → Stand (before ++ (more ++ tail)) (asked_in xs) (held ++ (more ++ tail)) → Begins ((held ++ more) ++ tail) x.asked (left ++ tail)
-      → Stand ((before ++ more) ++ tail) (asked_in (xs ++ x ∷ [])) (left ++ tail)
-  stand_more xs x before more held left tail was b =
-      let P : List ℕ → Type 0 = λ t. Begins t x.asked (left ++ tail) in
-      let Q : List ℕ → Type 0 = λ t. Stand t (asked_in xs ++ x.asked ∷ []) (left ++ tail) in
-      let R : List Asked → Type 0 = λ q. Stand ((before ++ more) ++ tail) q (left ++ tail) in
-      subst R (sym (asked_push xs x))
-      (subst Q (sym (append_assoc before more tail))
-      (stand_push (before ++ (more ++ tail)) (asked_in xs) (held ++ (more ++ tail)) x.asked (left ++ tail) was (subst P (append_assoc held more tail) b)))
-
-  -- the same where nothing follows
-  stand_here : (xs : List Exchange) (x : Exchange) (before more held left : List ℕ)
-      → ((tail : List ℕ) → Stand (before ++ tail) (asked_in xs) (held ++ tail)) → ((tail : List ℕ) → Begins ((held ++ more) ++ tail) x.asked (left ++ tail))
-      → Stand (before ++ more) (asked_in (xs ++ x ∷ [])) (left ++ [])
-  stand_here xs x before more held left was b =
-      let P : List ℕ → Type 0 = λ t. Stand t (asked_in (xs ++ x ∷ [])) (left ++ []) in
-      subst P (append-nil (before ++ more)) (stand_more xs x before more held left [] (was (more ++ [])) (b []))
-
-  put_push : (xs : List Exchange) (x : Exchange) (count : ℕ) (start taken left all : List ℕ) → length xs ≡ count → all ≡ exchange_text count x
-      → Sent start taken left (exchanges_text 0 xs ++ all) → Sent start taken left (exchanges_text 0 (xs ++ x ∷ []))
-  put_push xs x count start taken left all counted is s =
-      let P : List ℕ → Type 0 = λ t. Sent start taken left t in
-      let k : count ≡ 0 + length xs = omega (arith, counted) in
-      subst P (ap (λ t. exchanges_text 0 xs ++ t) (is ∙ ap (λ n. exchange_text n x) k) ∙ sym (text_push 0 xs x)) s
-
-  pub begun_more : (count : ℕ) (ended : Bool) (old now new : S) (given given' given2 held held2 start taken taken2 left left2 more all : List ℕ) (n n2 : ℕ)
-      → Begun count old now given given' held start taken left
-      → Turned answers count now ended given' given2 held held2 more all new (Ok None)
+  pub begun_more : (count : ℕ) (ended : Bool) (old now new : S) (first before after : R) (held held2 start taken taken2 left left2 more all : List ℕ) (n n2 : ℕ)
+      → Begun count old now first before held start taken left
+      → Turned answers given reads count now ended before after held held2 more all new (Ok None)
       → Puts {B = Option Ended} (record { taken = taken; held = left; failures = n }) (record { taken = taken2; held = left2; failures = n2 }) all started (Ok None)
-      → Begun (count + 1) old new given given2 held2 start taken2 left2
-  begun_more count ended old now new given given' given2 held held2 start taken taken2 left left2 more all n n2 b t p = by t.turn
+      → Begun (count + 1) old new first after held2 start taken2 left2
+  begun_more count ended old now new first before after held held2 start taken taken2 left left2 more all n n2 b t p = by t.turn
     where
       by : Exchanges answers count now (held ++ more) held2 all new (Ok None) ⊎ (Stops ended (held ++ more) all (Ok None) × (new ≡ now))
-          → Begun (count + 1) old new given given2 held2 start taken2 left2
+          → Begun (count + 1) old new first after held2 start taken2 left2
       by (inr s) = absurd s.0
       by (inl x) =
           let k : count ≡ 0 + length b.exchanges = omega (arith, b.counted) in
           record {
             more = b.more ++ more;
             exchanges = b.exchanges ++ x.exchange ∷ [];
-            came = t.came ∙ ap (λ u. u ++ more) b.came ∙ append_assoc given b.more more;
+            came = t.awaits.came_is ∙ ap (λ u. u ++ more) b.came ∙ append_assoc (given first) b.more more;
             counted = length_push b.exchanges x.exchange ∙ ap (λ u. u + 1) b.counted;
             stand = λ tail. stand_more b.exchanges x.exchange b.more more held held2 tail (b.stand (more ++ tail)) (x.begins tail);
-            answered = answered_push old b.exchanges now x.exchange new b.answered x.makes;
+            awaited =
+                let P : List Asked → Type 0 = λ q. Awaited given reads first [] q after held2 in
+                let q = begins_now held more held2 x.exchange.asked x.begins in
+                subst P (sym (asked_push b.exchanges x.exchange))
+                (awaited_push given reads first [] (asked_in b.exchanges) before held after more held2 x.exchange.asked b.awaited t.awaits q);
+            onward = let k = b.onward in let m = t.awaits.onward in omega (arith, k, m);
+            few = let k = b.few in let m = t.awaits.few in omega (arith, k, m);
+            answered = answered_push answers old b.exchanges now x.exchange new b.answered x.makes;
             on = on_push 0 b.exchanges x.exchange b.on (ap (λ u. end_after u x.exchange) (sym k) ∙ sym x.ends);
             went = put_push b.exchanges x.exchange count start taken2 left2 all b.counted x.all_is (p.sent start (exchanges_text 0 b.exchanges) b.went);
           }
 
-  pub begun_ends : (count : ℕ) (ended : Bool) (old now new : S) (given given' given2 held held2 start taken taken2 left left2 more all : List ℕ) (n n2 : ℕ) (e : Ended)
-      → Begun count old now given given' held start taken left
-      → Turned answers count now ended given' given2 held held2 more all new (Ok (Some e))
+  pub begun_ends : (count : ℕ) (ended : Bool) (old now new : S) (first before after : R) (held held2 start taken taken2 left left2 more all : List ℕ) (n n2 : ℕ) (e : Ended)
+      → Begun count old now first before held start taken left
+      → Turned answers given reads count now ended before after held held2 more all new (Ok (Some e))
       → Puts {B = Option Ended} (record { taken = taken; held = left; failures = n }) (record { taken = taken2; held = left2; failures = n2 }) all started (Ok (Some e))
-      → (text : List ℕ) × (given2 ≡ given ++ text) × Ran answers old ended text start taken2 left2 new (Ok e)
-  begun_ends count ended old now new given given' given2 held held2 start taken taken2 left left2 more all n n2 e b t p = (
+      → (e ≡ end.Turns → reads after ≡ reads before + 65536)
+      → (text : List ℕ) × (given after ≡ given first ++ text) × Ran answers given reads old ended first after text start taken2 left2 new (Ok e)
+  begun_ends count ended old now new first before after held held2 start taken taken2 left left2 more all n n2 e b t p many = (
     b.more ++ more,
-    t.came ∙ ap (λ u. u ++ more) b.came ∙ append_assoc given b.more more,
+    t.awaits.came_is ∙ ap (λ u. u ++ more) b.came ∙ append_assoc (given first) b.more more,
     by t.turn,
   )
     where
       by : Exchanges answers count now (held ++ more) held2 all new (Ok (Some e)) ⊎ (Stops ended (held ++ more) all (Ok (Some e)) × (new ≡ now))
-          → Ran answers old ended (b.more ++ more) start taken2 left2 new (Ok e)
+          → Ran answers given reads old ended first after (b.more ++ more) start taken2 left2 new (Ok e)
       by (inl x) =
           let xs = b.exchanges ++ x.exchange ∷ [] in
           let k : count ≡ 0 + length b.exchanges = omega (arith, b.counted) in
@@ -292,13 +317,16 @@ module _ {S : Type 0} (answers : S → Option (List ℕ) → Op → Served → S
               rest = held2 ++ [];
               closing = [];
               stand = stand_here b.exchanges x.exchange b.more more held held2 b.stand x.begins;
-              answered = answered_push old b.exchanges now x.exchange new b.answered x.makes;
+              answered = answered_push answers old b.exchanges now x.exchange new b.answered x.makes;
               ends = ends_last xs ended (b.more ++ more) (held2 ++ []) e (wants_memory x.exchange.reply) (closes_after count x.exchange.asked) x.ends
                   (last_push 0 b.exchanges x.exchange e b.on is);
               written = all_written e (exchanges_text 0 xs ++ []) (exchanges_text 0 xs) (sym (append-nil (exchanges_text 0 xs)));
             },
             put_push b.exchanges x.exchange count start taken2 left2 all b.counted x.all_is (p.sent start (exchanges_text 0 b.exchanges) b.went),
             never_write_by (wants_memory x.exchange.reply) (closes_after count x.exchange.asked) e x.ends,
+            reads_at given reads first before after b.exchanges count x.exchange held more held2 e b.awaited t.awaits
+                (begins_now held more held2 x.exchange.asked x.begins) b.counted b.few
+                (never_turns_by (wants_memory x.exchange.reply) (closes_after count x.exchange.asked) e x.ends),
           )
       by (inr s) =
           let P : S → Type 0 = λ u. Answered answers old b.exchanges u in (
@@ -314,21 +342,22 @@ module _ {S : Type 0} (answers : S → Option (List ℕ) → Op → Served → S
             },
             p.sent start (exchanges_text 0 b.exchanges) b.went,
             never_write ended (held ++ more) all e s.0,
+            reads_then given reads first before after b.exchanges count held more e b.awaited t.awaits b.counted b.few many,
           )
 
-  pub begun_fails : (count : ℕ) (ended : Bool) (old now new : S) (given given' given2 held held2 start taken taken2 left left2 more all : List ℕ) (n n2 : ℕ) (f g : Failed)
-      → Begun count old now given given' held start taken left
-      → Turned answers count now ended given' given2 held held2 more all new (Err f)
+  pub begun_fails : (count : ℕ) (ended : Bool) (old now new : S) (first before after : R) (held held2 start taken taken2 left left2 more all : List ℕ) (n n2 : ℕ) (f g : Failed)
+      → Begun count old now first before held start taken left
+      → Turned answers given reads count now ended before after held held2 more all new (Err f)
       → Puts {B = Option Ended} (record { taken = taken; held = left; failures = n }) (record { taken = taken2; held = left2; failures = n2 }) all started (Err f)
-      → (text : List ℕ) × (given2 ≡ given ++ text) × Ran answers old ended text start taken2 left2 new (Err g)
-  begun_fails count ended old now new given given' given2 held held2 start taken taken2 left left2 more all n n2 f g b t p = (
+      → (text : List ℕ) × (given after ≡ given first ++ text) × Ran answers given reads old ended first after text start taken2 left2 new (Err g)
+  begun_fails count ended old now new first before after held held2 start taken taken2 left left2 more all n n2 f g b t p = (
     b.more ++ more,
-    t.came ∙ ap (λ u. u ++ more) b.came ∙ append_assoc given b.more more,
+    t.awaits.came_is ∙ ap (λ u. u ++ more) b.came ∙ append_assoc (given first) b.more more,
     by t.turn,
   )
     where
       by : Exchanges answers count now (held ++ more) held2 all new (Err f) ⊎ (Stops ended (held ++ more) all (Err f) × (new ≡ now))
-          → Ran answers old ended (b.more ++ more) start taken2 left2 new (Err g)
+          → Ran answers given reads old ended first after (b.more ++ more) start taken2 left2 new (Err g)
       by (inl x) =
           let xs = b.exchanges ++ x.exchange ∷ [] in
           let s = p.sent start (exchanges_text 0 b.exchanges) b.went in (
@@ -338,11 +367,13 @@ module _ {S : Type 0} (answers : S → Option (List ℕ) → Op → Served → S
               rest = held2 ++ [];
               closing = [];
               stand = stand_here b.exchanges x.exchange b.more more held held2 b.stand x.begins;
-              answered = answered_push old b.exchanges now x.exchange new b.answered x.makes;
+              answered = answered_push answers old b.exchanges now x.exchange new b.answered x.makes;
               ends = inl (at_request b.exchanges x.exchange b.on (end_after (0 + length b.exchanges) x.exchange) refl, refl);
               written = all_written end.WriteFault (exchanges_text 0 xs ++ []) (exchanges_text 0 xs) (sym (append-nil (exchanges_text 0 xs)));
             },
             (s.0, put_push b.exchanges x.exchange count start taken2 s.0 all b.counted x.all_is s.1),
+            reads_at given reads first before after b.exchanges count x.exchange held more held2 end.WriteFault b.awaited t.awaits
+                (begins_now held more held2 x.exchange.asked x.begins) b.counted b.few (λ same. cc),
           )
       by (inr s) =
           let P : S → Type 0 = λ u. Answered answers old b.exchanges u in (
@@ -357,31 +388,58 @@ module _ {S : Type 0} (answers : S → Option (List ℕ) → Op → Served → S
               written = all_written end.WriteFault (exchanges_text 0 b.exchanges ++ all) (exchanges_text 0 b.exchanges ++ all) refl;
             },
             p.sent start (exchanges_text 0 b.exchanges) b.went,
+            reads_then given reads first before after b.exchanges count held more end.WriteFault b.awaited t.awaits b.counted b.few (λ same. cc),
           )
 
+  -- a run without memory to begin with reads nothing
+  pub turned_away : (ended : Bool) (old : S) (r : R) (e : Ended) (out : List ℕ) → IsMemoryText e out → (e ≡ end.Turns → ⊥)
+      → (run : Run answers old ended [] e out old) × Reads given reads r r run.exchanges e
+  unfolding no_memory
+  turned_away ended old r e out is other = (no_memory answers ended old e out is, reads_none given reads r e other)
+
   -- a whole run, when all that waits has been written
-  pub ran_whole : {B : Type 0} (old : S) (ended : Bool) (text start taken taken2 held held2 : List ℕ) (n n2 : ℕ) (new : S) (e : Ended) (y : B)
-      → Ran answers old ended text start taken held new (Ok e) → held2 ≡ []
+  pub ran_whole : {B : Type 0} (old : S) (ended : Bool) (first after : R) (text start taken taken2 held held2 : List ℕ) (n n2 : ℕ) (new : S) (e : Ended) (y : B)
+      → Ran answers given reads old ended first after text start taken held new (Ok e) → held2 ≡ []
       → Puts (record { taken = taken; held = held; failures = n }) (record { taken = taken2; held = held2; failures = n2 }) [] started (Ok y)
-      → (out : List ℕ) × (taken2 ≡ start ++ out) × Run answers old ended text e out new
-  ran_whole old ended text start taken taken2 held held2 n n2 new e y (all, run, sent, other) none p =
+      → (out : List ℕ) × (taken2 ≡ start ++ out) × (run : Run answers old ended text e out new) × Reads given reads first after run.exchanges e
+  ran_whole old ended first after text start taken taken2 held held2 n n2 new e y (all, run, sent, other, read) none p =
       let s = p.sent start all sent in
-      let P : List ℕ → Type 0 = λ t. Run answers old ended text e t new in
-      (s.front, s.taken_is, subst P (sym (append-nil all) ∙ s.text_is ∙ ap (λ h. s.front ++ h) none ∙ append-nil s.front) run)
+      let same : all ≡ s.front = sym (append-nil all) ∙ s.text_is ∙ ap (λ h. s.front ++ h) none ∙ append-nil s.front in
+      let W : List ℕ → Type 0 = λ t. IsWritten e (exchanges_text 0 run.exchanges ++ run.closing) t in (
+        s.front,
+        s.taken_is,
+        record {
+          exchanges = run.exchanges;
+          rest = run.rest;
+          closing = run.closing;
+          stand = run.stand;
+          answered = run.answered;
+          ends = run.ends;
+          written = subst W same run.written;
+        },
+        read,
+      )
 
   -- or when writing it fails
-  pub ran_short : (old : S) (ended : Bool) (text start taken taken2 held held2 : List ℕ) (n n2 : ℕ) (new : S) (e : Ended) (f : Failed)
-      → Ran answers old ended text start taken held new (Ok e)
+  pub ran_short : (old : S) (ended : Bool) (first after : R) (text start taken taken2 held held2 : List ℕ) (n n2 : ℕ) (new : S) (e : Ended) (f : Failed)
+      → Ran answers given reads old ended first after text start taken held new (Ok e)
       → Puts {B = Unit {0}} (record { taken = taken; held = held; failures = n }) (record { taken = taken2; held = held2; failures = n2 }) [] started (Err f)
-      → (out : List ℕ) × (taken2 ≡ start ++ out) × Run answers old ended text end.WriteFault out new
-  ran_short old ended text start taken taken2 held held2 n n2 new e f (all, run, sent, other) p =
-      let s = p.sent start all sent in
-      (s.1.front, s.1.taken_is, run_cut old ended text e all s.1.front s.0 new run (sym (append-nil all) ∙ s.1.text_is))
+      → (out : List ℕ) × (taken2 ≡ start ++ out) × (run : Run answers old ended text end.WriteFault out new) × Reads given reads first after run.exchanges end.WriteFault
+  unfolding run_cut
+  ran_short old ended first after text start taken taken2 held held2 n n2 new e f (all, run, sent, other, read) p =
+      let s = p.sent start all sent in (
+        s.1.front,
+        s.1.taken_is,
+        run_cut answers old ended text e all s.1.front s.0 new run (sym (append-nil all) ∙ s.1.text_is),
+        reads_anyway given reads first after run.exchanges e read,
+      )
 
-  pub ran_failed : (old : S) (ended : Bool) (text start taken held : List ℕ) (new : S) (f : Failed) → Ran answers old ended text start taken held new (Err f)
-      → (out : List ℕ) × (taken ≡ start ++ out) × Run answers old ended text end.WriteFault out new
-  ran_failed old ended text start taken held new f (all, run, (left, s)) =
-      (s.front, s.taken_is, run_cut old ended text end.WriteFault all s.front left new run s.text_is)
+  pub ran_failed : (old : S) (ended : Bool) (first after : R) (text start taken held : List ℕ) (new : S) (f : Failed)
+      → Ran answers given reads old ended first after text start taken held new (Err f)
+      → (out : List ℕ) × (taken ≡ start ++ out) × (run : Run answers old ended text end.WriteFault out new) × Reads given reads first after run.exchanges end.WriteFault
+  unfolding run_cut
+  ran_failed old ended first after text start taken held new f (all, run, (left, s), read) =
+      (s.front, s.taken_is, run_cut answers old ended text end.WriteFault all s.front left new run s.text_is, read)
 
 -- a failed read of the last turn is one of the run
 pub count_run : (e : Ended) (a b c : ℕ) → b ≡ a → CountsRead (Ok (Some e)) b c → CountsReadFault e a c
@@ -394,6 +452,15 @@ count_run end.WriteFault a b c p q = absurd q
 
 abbrev fine : {A : Type 0} → A → Result A Failed
 fine x = Ok x
+
+pub fine_is : {a b : Ended} → a ≡ b → fine a ≡ fine b
+fine_is e = ap fine e
+
+pub faults_of : (o : Option Ended) (e : Ended) → o ≡ Some e → fine e ≡ fine end.ReadFault → fine o ≡ fine (Some end.ReadFault)
+faults_of o e p q = ap fine (p ∙ ap Some (fine_same e end.ReadFault q))
+  where
+    fine_same : (a b : Ended) → fine a ≡ fine b → a ≡ b
+    fine_same a b p = cc
 
 pub turns_of : (o : Option Ended) (e : Ended) → o ≡ Some e → fine e ≡ fine end.Turns → fine o ≡ fine (Some end.Turns)
 turns_of o e p q = ap fine (p ∙ ap Some (fine_same e end.Turns q))
@@ -410,10 +477,11 @@ counts_write end.Turns a b other p = p
 counts_write end.NoMemory a b other p = p
 counts_write end.WriteFault a b other p = absurd (other refl)
 
-pub read_at_least : (e : Ended) (a b : ℕ) → CountsReadFault e a b → a ≤ b
-read_at_least end.ReadFault a b p = omega (arith, p)
-read_at_least end.Closed a b p = omega (arith, p)
-read_at_least (end.Refused status) a b p = omega (arith, p)
-read_at_least end.Turns a b p = omega (arith, p)
-read_at_least end.NoMemory a b p = omega (arith, p)
-read_at_least end.WriteFault a b p = p
+-- a run whose last write fails had no failed read: after one nothing waits to be written
+pub read_fine : (e : Ended) (a b : ℕ) → (e ≡ end.ReadFault → false ≡ true) → CountsReadFault e a b → b ≡ a
+read_fine end.ReadFault a b other p = let no : false ≡ true = other refl in cc
+read_fine end.Closed a b other p = p
+read_fine (end.Refused status) a b other p = p
+read_fine end.Turns a b other p = p
+read_fine end.NoMemory a b other p = p
+read_fine end.WriteFault a b other p = p

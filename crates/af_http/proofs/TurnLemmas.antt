@@ -1,5 +1,5 @@
 -- A turn over the bytes that are held is one over the text.
-use Rattle.std.proofs.Common.{◌≡◌, ◌+◌, ◌⊎◌, inl, inr, ℕ, Bool, true, false, cond, List, [], ◌∷◌, ◌++◌, length, take, drop, refl, sym, ap, ◌∙◌, subst, Option, Some, None}
+use Rattle.std.proofs.Common.{◌≡◌, ◌≤◌, ◌+◌, ◌⊎◌, inl, inr, arith, ℕ, Bool, true, false, cond, List, [], ◌∷◌, ◌++◌, length, take, drop, refl, sym, ap, ◌∙◌, subst, Option, Some, None}
 use Rattle.std.specs.Prelude.{Result, Ok, Err}
 use Rattle.std.proofs.lemmas.List.{append-nil, append_assoc}
 use Rattle.httparse.specs.Grammar.{RequestHead}
@@ -7,15 +7,19 @@ use Rattle.af_ops.specs.declared.op.Op.{Op}
 use Rattle.af_ops.specs.declared.served.Served.{Served}
 use Rattle.af_ops.specs.declared.status.Status.{Status}
 use Rattle.af_http.specs.Fronts.{nothing, part, large, whole, front_of}
-use Rattle.af_http.specs.Extents.{open_front}
-use Rattle.af_http.specs.Gathering.{Holds}
+use Rattle.af_http.specs.Extents.{open_front, IsExtent}
+use Rattle.af_http.specs.Gathering.{Holds, CountsReads}
 use Rattle.af_http.specs.Requests.{Asked, asked_by, is_head}
 use Rattle.af_http.specs.Replies.{reply_text, wants_memory}
 use Rattle.af_http.specs.Reading.{Begins, IsRefused, IsOpen, closes_after, refusal_text, status_of}
 use Rattle.af_http.specs.Run.{Exchange, exchange_text, end_by, end_after, Makes}
+use Rattle.af_http.specs.Reads.{Awaits}
 use Rattle.af_http.specs.Sending.{Place, Puts, started}
 use Rattle.af_http.specs.Turns.{Outcome, EndsSo, CountsRead, Stops, Answers, Refuses, Heads, Exchanges, Turns, Turned}
 use Rattle.af_http.specs.declared.stream.Failed.{Failed}
+use Rattle.af_http.specs.declared.extent.Extent.TheVariants.{Part}
+use Rattle.af_http.specs.declared.gathering.Gathered.{Gathered}
+use Rattle.af_http.specs.declared.gathering.Gathered.TheVariants as gathered
 use Rattle.af_http.specs.declared.reply.Reply.{Reply}
 use Rattle.af_http.specs.declared.refusal.Refusal.{Refusal}
 use Rattle.af_http.specs.declared.refusal.Refusal.TheVariants.{BadHead, Incomplete, HeadTooLarge}
@@ -58,6 +62,48 @@ is_open text (b ∷ u) e = inr e
 
 pub open_now : {held more held' : List ℕ} → Same held more held' → front_of held' ≡ open_front held' → IsOpen (held ++ more)
 open_now {held} {more} {held'} s e = is_open (held ++ more) held' (front_now s ∙ e)
+
+-- reads that were counted are few
+counted_few : (g : Gathered) (a b : ℕ) → CountsReads g a b → (a ≤ b) × (b ≤ a + 65536)
+counted_few (gathered.Head n) a b k = k
+counted_few gathered.Large a b k = k
+counted_few gathered.Closed a b k = k
+counted_few gathered.Incomplete a b k = k
+counted_few gathered.Failed a b k = k
+counted_few gathered.Turns a b k = (omega (arith, k), omega (arith, k))
+
+module _ {R : Type 0} (given : R → List ℕ) (reads : R → ℕ) where
+  -- where nothing is awaited
+  pub awaits_none : (r : R) (left : List ℕ) → Awaits given reads r r left []
+  awaits_none r left = record { came_is = sym (append-nil (given r)); onward = omega arith; few = omega arith; needed = inl refl }
+
+  -- what stands at the front is known without a read
+  pub not_gathered : (r : R) (held settled : List ℕ) → ((tail : List ℕ) → front_of (held ++ tail) ≡ front_of (settled ++ tail))
+      → (more : List ℕ) × Holds (given r) (given r) held settled more × Awaits given reads r r held more
+  not_gathered r held settled same = (
+    [],
+    record {
+      came = sym (append-nil (given r));
+      same = λ tail. ap (λ (t : List ℕ). front_of (t ++ tail)) (append-nil held) ∙ same tail;
+    },
+    awaits_none r held,
+  )
+
+  -- or it is read on, from less than a head
+  pub gathered_more : (before after : R) (held settled now : List ℕ) (g : Gathered) → ((tail : List ℕ) → front_of (held ++ tail) ≡ front_of (settled ++ tail))
+      → IsExtent settled Part → (more : List ℕ) × Holds (given before) (given after) settled now more → CountsReads g (reads before) (reads after)
+      → (more : List ℕ) × Holds (given before) (given after) held now more × Awaits given reads before after held more
+  gathered_more before after held settled now g same extent (more, h) counts =
+      let few = counted_few g (reads before) (reads after) counts in
+      let front : front_of held ≡ front_of settled = ap front_of (sym (append-nil held)) ∙ same [] ∙ ap front_of (append-nil settled) in (
+        more,
+        record {
+          came = h.came;
+          same = λ tail.
+              ap front_of (append_assoc held more tail) ∙ same (more ++ tail) ∙ ap front_of (sym (append_assoc settled more tail)) ∙ h.same tail;
+        },
+        record { came_is = h.came; onward = few.0; few = few.1; needed = inr (is_open held settled (front ∙ extent.0)) },
+      )
 
 both : {A B C : Type 0} (f : A → B → C) {a b : A} {x y : B} → a ≡ b → x ≡ y → f a x ≡ f b y
 both f {a} {b} {x} {y} p q = ap (λ t. f t x) p ∙ ap (f b) q
@@ -138,3 +184,9 @@ module _ {S : Type 0} (answers : S → Option (List ℕ) → Op → Served → S
   heads_turns count old head all new (inl (h, parses, taken, a)) =
       elim (never_faults (wants_memory a.exchange.reply) (closes_after count a.exchange.asked) end.Turns a.ends) [ inl p ↦ cc | inr p ↦ cc ]
   heads_turns count old head all new (inr r) = let e : Some end.Turns ≡ Some (end.Refused (status_of (BadHead r.head_only))) = r.ends in cc
+
+  -- nor with a failed read
+  pub heads_fault : (count : ℕ) (old : S) (head all : List ℕ) (new : S) → Heads answers count old head all new (Ok (Some end.ReadFault)) → ⊥
+  heads_fault count old head all new (inl (h, parses, taken, a)) =
+      elim (never_faults (wants_memory a.exchange.reply) (closes_after count a.exchange.asked) end.ReadFault a.ends) [ inl p ↦ cc | inr p ↦ cc ]
+  heads_fault count old head all new (inr r) = let e : Some end.ReadFault ≡ Some (end.Refused (status_of (BadHead r.head_only))) = r.ends in cc

@@ -1,6 +1,8 @@
 -- The bytes of an answer (RFC 9112, section 4; RFC 9110, sections 8.3, 8.6, 10.2.1 and 11.6.1; RFC 9457; this product's own order of fields).
 use Rattle.std.specs.Prelude.{◌≡◌, ℕ, Bool, true, false, cond, List, [], ◌∷◌, ◌++◌, length, Option, Some, None, codes, decimal}
 use Rattle.std.specs.Option.{option_copied}
+use Rattle.serde_json.specs.Written.{compact_text}
+use Rattle.af_ops.specs.Replies.{fault_data}
 use Rattle.af_ops.specs.Statuses.{code_of, reason_of, is_fault_status}
 use Rattle.af_ops.specs.declared.status.Status.{Status}
 use Rattle.af_ops.specs.declared.status.Status.TheVariants as status
@@ -74,10 +76,9 @@ body_text head_only (Some body) = cond head_only [] body
 abbrev pub answer_text : Told → Bool → Bool → List ℕ
 answer_text told head_only closes = head_text told closes ++ body_text head_only told.body
 
--- the body of a fault: its detail, and its status with the title
-abbrev pub problem_body : Status → List ℕ → List ℕ
-problem_body s detail =
-    codes "{\"detail\":\"" ++ detail ++ codes "\",\"status\":" ++ decimal (code_of s) ++ codes ",\"title\":\"" ++ reason_of s ++ codes "\",\"type\":\"about:blank\"}"
+-- the body of a fault: the compact text of its JSON value
+unfoldable pub problem_body : Status → List ℕ → List ℕ
+problem_body s detail = compact_text (fault_data s detail)
 
 -- a fault that was decided under no policy version
 abbrev pub problem : Status → Option Allow → List ℕ → Told

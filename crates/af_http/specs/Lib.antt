@@ -10,6 +10,7 @@ pub mod Answers
 pub mod Replies
 pub mod Reading
 pub mod Run
+pub mod Reads
 pub mod Sending
 pub mod Gathering
 pub mod Turns

@@ -7,6 +7,7 @@ use Rattle.af_http.specs.Requests.{Asked, asked_by, fields_of, is_taken}
 use Rattle.af_http.specs.Reading.{Begins, Parses, IsBadHead, IsRefused, IsOver, IsOpen, refusal_text, status_of}
 use Rattle.af_http.specs.Answers.{memory_text}
 use Rattle.af_http.specs.Run.{Exchange, exchange_text, end_after, Makes, Run}
+use Rattle.af_http.specs.Reads.{Awaits, Reads}
 use Rattle.af_http.specs.Sending.{Sent}
 use Rattle.af_http.specs.declared.stream.Failed.{Failed}
 use Rattle.af_http.specs.declared.refusal.Refusal.{Refusal}
@@ -34,10 +35,10 @@ CountsRead (Ok (Some end.Turns)) old new = new ≡ old
 CountsRead (Ok (Some end.NoMemory)) old new = new ≡ old
 CountsRead (Err failed) old new = new ≡ old
 
--- the same of a whole run; where a write failed, nothing is said of a failed read before
+-- the same of a whole run, which ends at its first fault
 abbrev pub CountsReadFault : Ended → ℕ → ℕ → Type 0
 CountsReadFault end.ReadFault old new = old < new
-CountsReadFault end.WriteFault old new = old ≤ new
+CountsReadFault end.WriteFault old new = new ≡ old
 CountsReadFault end.Closed old new = new ≡ old
 CountsReadFault (end.Refused status) old new = new ≡ old
 CountsReadFault end.Turns old new = new ≡ old
@@ -112,14 +113,17 @@ module _ {S : Type 0} (answers : S → Option (List ℕ) → Op → Served → S
   Turns count old ended text left all new outcome =
       Exchanges count old text left all new outcome ⊎ (Stops ended text all outcome × (new ≡ old))
 
-  -- a turn, in which more bytes came
-  pub record Turned (count : ℕ) (old : S) (ended : Bool) (given given' held held' more all : List ℕ) (new : S) (outcome : Outcome) : Type 0 where
-    pub came : given' ≡ given ++ more
-    pub turn : Turns count old ended (held ++ more) held' all new outcome
+module _ {S R : Type 0} (answers : S → Option (List ℕ) → Op → Served → S → Type 0) (given : R → List ℕ) (reads : R → ℕ) where
+  -- a turn from one moment of the reader to another, in which more bytes came
+  pub record Turned (count : ℕ) (old : S) (ended : Bool) (before after : R) (held held' more all : List ℕ) (new : S) (outcome : Outcome) : Type 0 where
+    pub awaits : Awaits given reads before after held more
+    pub turn : Turns answers count old ended (held ++ more) held' all new outcome
 
   -- A run over a text that was put: what is left of it is held, or was given up.
-  abbrev pub Ran : S → Bool → List ℕ → List ℕ → List ℕ → List ℕ → S → Result Ended Failed → Type 0
-  Ran old ended text start taken held new (Ok e) =
-      (all : List ℕ) × Run answers old ended text e all new × Sent start taken held all × (e ≡ end.WriteFault → ⊥)
-  Ran old ended text start taken held new (Err failed) =
-      (all : List ℕ) × Run answers old ended text end.WriteFault all new × ((left : List ℕ) × Sent start taken left all)
+  abbrev pub Ran : S → Bool → R → R → List ℕ → List ℕ → List ℕ → List ℕ → S → Result Ended Failed → Type 0
+  Ran old ended before after text start taken held new (Ok e) =
+      (all : List ℕ) × (run : Run answers old ended text e all new) × Sent start taken held all × (e ≡ end.WriteFault → ⊥)
+      × Reads given reads before after run.exchanges e
+  Ran old ended before after text start taken held new (Err failed) =
+      (all : List ℕ) × (run : Run answers old ended text end.WriteFault all new) × ((left : List ℕ) × Sent start taken left all)
+      × Reads given reads before after run.exchanges end.WriteFault

@@ -1,4 +1,4 @@
-ghost use Rattle.std.specs.Prelude.{◌≡◌, ℕ, ◌+◌, ◌≤◌, List, ◌++◌, length};
+ghost use Rattle.std.specs.Prelude.{◌≡◌, ℕ, ◌+◌, ◌≤◌, List, [], ◌++◌, length};
 ghost use Rattle.af_http.specs.Fronts.{front_of};
 ghost use Rattle.af_http.specs.Extents.{IsExtent, open_front};
 ghost use Rattle.af_http.specs.Gathering.{IsGathered, Holds, CountsFailure, CountsReads};
@@ -6,6 +6,7 @@ ghost use Rattle.af_http.specs.Gathering.{IsGathered, Holds, CountsFailure, Coun
 use crate::extent::Extent;
 use crate::incoming::Incoming;
 use crate::lines::{blanks_len, extent_of};
+use crate::outgoing::Outgoing;
 use crate::stream::Source;
 
 /// The most reads for one request.
@@ -37,8 +38,9 @@ pub fn settle(incoming: &mut Incoming) -> Extent
     extent_of(incoming.as_slice())
 }
 
-/// Reads until a head is held, or none can be.
-pub fn gather<R: Source>(reader: &mut R, incoming: &mut Incoming) -> Gathered
+/// Reads until a head is held, or none can be. A read may wait for the client, so no byte may wait for the writer.
+pub fn gather<R: Source>(reader: &mut R, incoming: &mut Incoming, waiting: &Outgoing) -> Gathered
+    requires idle { waiting.now ≡ [] }
     requires open { front_of incoming.old ≡ open_front incoming.old }
     requires short { length incoming.old ≤ 16384 }
     ensures holds { (more : List ℕ) × Holds (R.given reader.old) (R.given reader.new) incoming.old incoming.new more }
@@ -47,7 +49,7 @@ pub fn gather<R: Source>(reader: &mut R, incoming: &mut Incoming) -> Gathered
     ensures reads { CountsReads result (R.reads reader.old) (R.reads reader.new) }
 {
     for _ in 0..READ_LIMIT {
-        match incoming.fill(reader) {
+        match incoming.fill(reader, waiting) {
             Ok(true) => {}
             Ok(false) => {
                 if incoming.as_slice().is_empty() {

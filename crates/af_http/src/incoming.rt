@@ -1,6 +1,7 @@
 ghost use Rattle.std.specs.Prelude.{◌≡◌, ℕ, ◌+◌, ◌<◌, ◌≤◌, List, [], ◌++◌, length, take, drop, IfOk, OnOk, OnErr, true, false};
 ghost use Rattle.af_http.specs.Gathering.{Fills};
 
+use crate::outgoing::Outgoing;
 use crate::stream::{Failed, Source};
 use std::alloc::{AllocError, Global};
 use std::marker::Model;
@@ -61,9 +62,11 @@ impl Incoming {
         self.start += n;
     }
 
-    /// Reads once, and says whether bytes came.
-    pub fn fill<R: Source>(&mut self, reader: &mut R) -> Result<bool, Failed>
-        requires { length self.old ≤ 16384 }
+    /// Reads once, and says whether bytes came. No other function reads, and a read may wait for the client: so none is
+    /// made while a byte waits for the writer.
+    pub fn fill<R: Source>(&mut self, reader: &mut R, _waiting: &Outgoing) -> Result<bool, Failed>
+        requires idle { _waiting.now ≡ [] }
+        requires few { length self.old ≤ 16384 }
         ensures ok { IfOk result (λ some. (more : List ℕ) × Fills (R.given reader.old) (R.given reader.new) self.old self.new more
             × (some ≡ false → (more ≡ []) × (R.ended reader.new ≡ true))) }
         ensures fine { OnOk result (R.failures reader.new ≡ R.failures reader.old) }

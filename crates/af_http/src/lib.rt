@@ -24,6 +24,7 @@ mod routes;
 mod service;
 mod serving;
 mod stream;
+mod turn;
 mod wording;
 mod writing;
 

@@ -1,4 +1,4 @@
-ghost use Rattle.std.specs.Prelude.{◌≡◌, ℕ, ◌+◌, ◌≤◌, List, [], ◌++◌, length, IfOk, OnOk};
+ghost use Rattle.std.specs.Prelude.{◌≡◌, ℕ, ◌+◌, ◌≤◌, List, [], ◌++◌, length, IfOk, OnOk, IsOk};
 ghost use Rattle.af_http.specs.Sending.{Puts, started};
 
 use crate::stream::{Failed, Sink};
@@ -52,6 +52,7 @@ impl Outgoing {
             (record { taken = W.taken writer.new; held = self.new; failures = W.failures writer.new })
             [] started result }
         ensures none_waits { OnOk result (self.new ≡ []) }
+        ensures idle { self.old ≡ [] → IsOk result }
     {
         write_all(writer, self.bytes.as_slice())?;
         self.bytes.clear();

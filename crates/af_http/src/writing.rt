@@ -1,4 +1,4 @@
-ghost use Rattle.std.specs.Prelude.{◌≡◌};
+ghost use Rattle.std.specs.Prelude.{◌≡◌, [], IsOk};
 ghost use Rattle.af_http.specs.Sending.{Writes, Counts};
 
 use crate::stream::{Failed, Sink};
@@ -6,6 +6,7 @@ use crate::stream::{Failed, Sink};
 /// Writes all of the bytes. A write that takes none of them is a failure.
 pub fn write_all<W: Sink>(writer: &mut W, bytes: &[u8]) -> Result<(), Failed>
     ensures sent { Writes (W.taken writer.old) (W.taken writer.new) bytes.now result }
+    ensures none { bytes.now ≡ [] → IsOk result }
     ensures counted { Counts (W.failures writer.old) (W.failures writer.new) result }
 {
     let mut rest = bytes;

@@ -1,55 +1,124 @@
+ghost use Rattle.std.specs.Prelude.{◌<◌};
+
+use crate::tests::messages::{INCOMPLETE, LAST_VERSION_ANSWER, NO_PATH, VERSION_ANSWER};
 use crate::tests::tools::{Fixed, Paper, Pieces, run};
 use crate::{Counted, Ended, serve};
+use af_ops::Status;
+use std::alloc::Global;
 use std::test::Fail;
 
+/// A request of 41 bytes, one of 31, and a part of a third of 36.
 const INPUT: &[u8] =
     b"GET /api/v1/version HTTP/1.1\r\nHost: h\r\n\r\nGET /nope HTTP/1.1\r\nHost: h\r\n\r\nGET /api/v1/dags HTTP/1.1\r\nHost: h\r\n";
 
 const MEMORY: &str =
     "HTTP/1.1 503 Service Unavailable\r\nContent-Type: application/problem+json\r\nContent-Length: 90\r\nConnection: close\r\n\r\n{\"detail\":\"out of memory\",\"status\":503,\"title\":\"Service Unavailable\",\"type\":\"about:blank\"}";
 
-/// A reader that fails at a call: the requests that came whole are answered, and nothing else is written.
+/// What answers the whole input, to the byte.
+fn whole(alloc: Global) -> Result<Vec<u8>, Fail> {
+    let mut text = Vec::from_slice(alloc, VERSION_ANSWER.as_bytes())?;
+    text.extend_from_slice(NO_PATH.as_bytes())?;
+    text.extend_from_slice(INCOMPLETE.as_bytes())?;
+    Ok(text)
+}
+
+/// How many bytes answer the requests that are whole in so many bytes of the input.
+fn answered(came: usize) -> usize {
+    if came < 41 {
+        0
+    } else if came < 72 {
+        VERSION_ANSWER.len()
+    } else {
+        VERSION_ANSWER.len().saturating_add(NO_PATH.len())
+    }
+}
+
+/// A reader that fails at each call in turn: the requests that came whole are answered, to the byte, and nothing else.
 #[test]
 fn readers_that_fail(rt: HostRuntime) -> Result<(), Fail> {
     let alloc = rt.alloc();
-    let (_, whole, _) = run(alloc, Pieces::of(INPUT, 1000), Paper::new(alloc)?);
-    for call in 1..=11usize {
-        let mut pieces = Pieces::of(INPUT, 10);
-        pieces.fails_at = Some(call);
-        let (ended, paper, calls) = run(alloc, pieces, Paper::new(alloc)?);
-        assert_eq!(rt; ended, Ended::ReadFault, "call {call}");
-        assert!(rt;
-            whole.bytes.as_slice().starts_with(paper.bytes.as_slice()),
-            "call {call}"
-        );
-        assert_eq!(rt; calls, if call > 5 { 1 } else { 0 }, "call {call}");
-        assert_eq!(rt; paper.bytes.is_empty(), calls == 0, "call {call}");
+    let wanted = whole(alloc)?;
+    assert_eq!(rt; INPUT.len(), 108);
+    for (size, last) in [(1usize, 109usize), (2, 55), (3, 37), (10, 12)] {
+        for call in 1..=last {
+            let mut pieces = Pieces::of(INPUT, size);
+            pieces.fails_at = Some(call);
+            let (ended, paper, calls) = run(alloc, pieces, Paper::new(alloc)?);
+            let count = answered(size.saturating_mul(call.saturating_sub(1)));
+            let (text, _) = wanted.as_slice().split_at(count.min(wanted.len()));
+            assert_eq!(rt; ended, Ended::ReadFault, "pieces of {size}, call {call}");
+            assert_eq!(rt;
+                paper.bytes.as_slice(),
+                text,
+                "pieces of {size}, call {call}"
+            );
+            assert_eq!(rt; calls == 1, count > 0, "pieces of {size}, call {call}");
+        }
     }
     Ok(())
 }
 
-/// A writer that fails, or takes no byte, at a call: what it took before is a front of the whole.
+/// How many bytes a writer took in so many calls: first what answers the two requests, which leaves before the read that
+/// finds the end, and then the refusal.
+fn taken(size: usize, calls: usize) -> usize
+    requires { 0 < size }
+{
+    let first = answered(72);
+    let refused = calls.saturating_sub(first.div_ceil(size));
+    size.saturating_mul(calls)
+        .min(first)
+        .saturating_add(size.saturating_mul(refused).min(INCOMPLETE.len()))
+}
+
+/// A writer that fails, or takes no byte, at each call in turn: it took all that the calls before it were given.
 #[test]
 fn writers_that_fail(rt: HostRuntime) -> Result<(), Fail> {
     let alloc = rt.alloc();
-    let (_, whole, _) = run(alloc, Pieces::of(INPUT, 1000), Paper::new(alloc)?);
-    for call in 1..=5usize {
-        for stalls in [false, true] {
-            let mut paper = Paper::new(alloc)?;
-            paper.size = 40;
-            if stalls {
-                paper.stalls_at = Some(call);
-            } else {
-                paper.fails_at = Some(call);
+    let wanted = whole(alloc)?;
+    let first = answered(72);
+    for size in [3usize, 40] {
+        let last = first
+            .div_ceil(size)
+            .saturating_add(INCOMPLETE.len().div_ceil(size));
+        for call in 1..=last {
+            for stalls in [false, true] {
+                let mut paper = Paper::new(alloc)?;
+                paper.size = size;
+                if stalls {
+                    paper.stalls_at = Some(call);
+                } else {
+                    paper.fails_at = Some(call);
+                }
+                let (ended, paper, _) = run(alloc, Pieces::of(INPUT, 1000), paper);
+                let count = taken(size, call.saturating_sub(1));
+                let (text, _) = wanted.as_slice().split_at(count.min(wanted.len()));
+                assert_eq!(rt; ended, Ended::WriteFault, "pieces of {size}, call {call}");
+                assert_eq!(rt;
+                    paper.bytes.as_slice(),
+                    text,
+                    "pieces of {size}, call {call}"
+                );
             }
-            let (ended, paper, _) = run(alloc, Pieces::of(INPUT, 1000), paper);
-            assert_eq!(rt; ended, Ended::WriteFault, "call {call}");
-            assert_eq!(rt; paper.bytes.len() + 40, 40 * call, "call {call}");
-            assert!(rt;
-                whole.bytes.as_slice().starts_with(paper.bytes.as_slice()),
-                "call {call}"
-            );
         }
+    }
+    Ok(())
+}
+
+/// A writer that takes few bytes a call takes all of them.
+#[test]
+fn writers_that_take_little(rt: HostRuntime) -> Result<(), Fail> {
+    let alloc = rt.alloc();
+    let wanted = whole(alloc)?;
+    for size in [1usize, 2, 3, 7, 40] {
+        let mut paper = Paper::new(alloc)?;
+        paper.size = size;
+        let (ended, paper, calls) = run(alloc, Pieces::of(INPUT, size), paper);
+        assert_eq!(rt; (ended, calls), (Ended::Refused(Status::BadRequest), 1));
+        assert_eq!(rt;
+            paper.bytes.as_slice(),
+            wanted.as_slice(),
+            "pieces of {size}"
+        );
     }
     Ok(())
 }
@@ -90,22 +159,26 @@ fn long_answers(rt: HostRuntime) -> Result<(), Fail> {
     Ok(())
 }
 
-/// Where memory is refused, the fixed answer is given, and never anything between.
+/// Where memory is refused, the fixed answer is given, at the opening or to the request that wanted it, and never
+/// anything between.
 #[test]
 fn memory_refused(rt: HostRuntime) -> Result<(), Fail> {
     let alloc = rt.alloc();
-    let input = b"GET /api/v1/version HTTP/1.1\r\nHost: h\r\nConnection: close\r\n\r\n";
-    let wanted =
-        "HTTP/1.1 200 OK\r\nContent-Type: application/json\r\nContent-Length: 42\r\nConnection: close\r\n\r\n{\"git_version\":null,\"version\":\"afplane 1\"}";
+    let input =
+        b"GET /api/v1/version HTTP/1.1\r\nHost: h\r\n\r\nGET /api/v1/version HTTP/1.1\r\nHost: h\r\nConnection: close\r\n\r\n";
     let Ok(paper) = Paper::new(alloc) else {
         return Ok(());
     };
-    let (ended, paper, _) = run(alloc, Pieces::of(input, 1000), paper);
-    let text = match ended {
+    let (ended, paper, calls) = run(alloc, Pieces::of(input, 1000), paper);
+    let before = if calls == 2 { VERSION_ANSWER } else { "" };
+    let last = match ended {
         Ended::NoMemory => MEMORY,
-        _ => wanted,
+        _ => LAST_VERSION_ANSWER,
     };
-    assert_eq!(rt; str::from_utf8(paper.bytes.as_slice()), Ok(text));
-    assert!(rt; ended == Ended::NoMemory || ended == Ended::Closed);
+    let written = paper.bytes.as_slice();
+    let (front, back) = written.split_at(before.len().min(written.len()));
+    assert_eq!(rt; str::from_utf8(front), Ok(before));
+    assert_eq!(rt; str::from_utf8(back), Ok(last));
+    assert!(rt; ended == Ended::NoMemory || (ended == Ended::Closed && calls == 2));
     Ok(())
 }

@@ -6,13 +6,13 @@ use std::test::Fail;
 
 const VERSION: &[u8] = b"GET /api/v1/version HTTP/1.1\r\nHost: h\r\n\r\n";
 
-const VERSION_ANSWER: &str =
+pub const VERSION_ANSWER: &str =
     "HTTP/1.1 200 OK\r\nContent-Type: application/json\r\nContent-Length: 42\r\n\r\n{\"git_version\":null,\"version\":\"afplane 1\"}";
 
-const LAST_VERSION_ANSWER: &str =
+pub const LAST_VERSION_ANSWER: &str =
     "HTTP/1.1 200 OK\r\nContent-Type: application/json\r\nContent-Length: 42\r\nConnection: close\r\n\r\n{\"git_version\":null,\"version\":\"afplane 1\"}";
 
-const INCOMPLETE: &str =
+pub const INCOMPLETE: &str =
     "HTTP/1.1 400 Bad Request\r\nContent-Type: application/problem+json\r\nContent-Length: 87\r\nConnection: close\r\n\r\n{\"detail\":\"incomplete request\",\"status\":400,\"title\":\"Bad Request\",\"type\":\"about:blank\"}";
 
 const BAD_HEAD: &str =
@@ -24,7 +24,7 @@ const BAD_HEAD_OF_HEAD: &str =
 const TOO_LARGE: &str =
     "HTTP/1.1 431 Request Header Fields Too Large\r\nContent-Type: application/problem+json\r\nContent-Length: 111\r\nConnection: close\r\n\r\n{\"detail\":\"request head too large\",\"status\":431,\"title\":\"Request Header Fields Too Large\",\"type\":\"about:blank\"}";
 
-const NO_PATH: &str =
+pub const NO_PATH: &str =
     "HTTP/1.1 404 Not Found\r\nContent-Type: application/problem+json\r\nContent-Length: 79\r\n\r\n{\"detail\":\"no such path\",\"status\":404,\"title\":\"Not Found\",\"type\":\"about:blank\"}";
 
 const BAD_METHOD: &str =

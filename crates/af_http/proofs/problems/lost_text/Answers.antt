@@ -1,8 +1,9 @@
 use Rattle.std.proofs.Common.{refl}
 use Rattle.std.specs.Fmt.{digits}
-use Rattle.af_http.specs.Answers.{lost_text}
+use Rattle.json.specs.Print.{escape_byte}
+use Rattle.af_http.specs.Answers.{problem_body, lost_text}
 use Rattle.af_http.proofs.problems.lost_text.Goals as goal
 
 pub returns : goal.returns
-unfolding digits lost_text
+unfolding digits escape_byte problem_body lost_text
 returns c = refl

@@ -1,8 +1,9 @@
 use Rattle.std.proofs.Common.{refl}
 use Rattle.std.specs.Fmt.{digits}
-use Rattle.af_http.specs.Answers.{memory_text}
+use Rattle.json.specs.Print.{escape_byte}
+use Rattle.af_http.specs.Answers.{problem_body, memory_text}
 use Rattle.af_http.proofs.problems.memory_text.Goals as goal
 
 pub returns : goal.returns
-unfolding digits memory_text
+unfolding digits escape_byte problem_body memory_text
 returns c = refl

@@ -4,9 +4,7 @@ use Rattle.af_http.proofs.serving.serve_each.Given as goal
 
 abbrev pub invariant-loop-count : goal.invariant-loop-count
 invariant-loop-count g l =
-    Begun g.S.Service.answers l.count l.fn.service l.service (g.R.Source.given l.fn.reader) (g.R.Source.given l.reader) l.incoming
+    Begun g.S.Service.answers g.R.Source.given g.R.Source.reads l.count l.fn.service l.service l.fn.reader l.reader l.incoming
     (g.W.Sink.taken l.fn.writer) (g.W.Sink.taken l.writer) l.outgoing
     × (g.R.Source.failures l.reader ≡ g.R.Source.failures l.fn.reader)
     × (g.W.Sink.failures l.writer ≡ g.W.Sink.failures l.fn.writer)
-    × (g.R.Source.reads l.fn.reader ≤ g.R.Source.reads l.reader)
-    × (g.R.Source.reads l.reader ≤ g.R.Source.reads l.fn.reader + 65536 * l.count)

@@ -2,7 +2,7 @@ use Rattle.std.proofs.Common.{refl}
 use Rattle.af_http.specs.Requests.{seen}
 use Rattle.af_http.specs.Replies.{reply_text}
 use Rattle.af_http.proofs.TurnLemmas.{put_ok, put_err, text_is, end_is}
-use Rattle.af_http.proofs.serving.answer_request.Goals as goal
+use Rattle.af_http.proofs.turn.answer_request.Goals as goal
 
 pub returns-in-Ok : goal.returns-in-Ok
 returns-in-Ok g c =
