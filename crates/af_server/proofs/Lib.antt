@@ -1,2 +1,3 @@
 mod ConversationLemmas
 mod VerdictLemmas
+mod MemberLemmas

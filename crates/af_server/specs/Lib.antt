@@ -1,2 +1,5 @@
 pub mod Conversations
 pub mod Grants
+pub mod Reasons
+pub mod Members
+pub mod Configurations

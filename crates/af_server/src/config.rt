@@ -1,6 +1,7 @@
 // The configuration: a JSON object of roles, users and DAGs.
 
 mod dags;
+mod names;
 mod roles;
 mod users;
 

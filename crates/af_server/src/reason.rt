@@ -1,3 +1,7 @@
+ghost use Rattle.std.specs.Prelude.{◌≡◌};
+ghost use Rattle.af_server.specs.declared.reason.Reason.TheVariants.{Memory};
+ghost use Rattle.af_server.specs.Reasons.{name_reason, reason_text, row_reason, state_reason};
+
 use af_names::NameError;
 use af_ops::StateFault;
 use af_policy::RowFault;
@@ -34,7 +38,9 @@ pub enum Reason {
 
 impl Reason {
     /// The word that tells it.
-    pub fn text(&self) -> &'static str {
+    pub fn text(&self) -> &'static str
+        ensures { result.now ≡ reason_text self.now }
+    {
         match self {
             Reason::Unreadable => "unreadable",
             Reason::Syntax => "syntax",
@@ -53,18 +59,24 @@ impl Reason {
 }
 
 impl From<AllocError> for Reason {
+    ghost from_gives = { λ _ reason. reason ≡ Memory };
+
     fn from(_error: AllocError) -> Reason {
         Reason::Memory
     }
 }
 
 impl<T: Drop> From<AllocFailed<T>> for Reason {
+    ghost from_gives = { λ _ reason. reason ≡ Memory };
+
     fn from(_error: AllocFailed<T>) -> Reason {
         Reason::Memory
     }
 }
 
 impl From<NameError> for Reason {
+    ghost from_gives = { λ error reason. reason ≡ name_reason error };
+
     fn from(error: NameError) -> Reason {
         match error {
             NameError::OutOfMemory => Reason::Memory,
@@ -74,6 +86,8 @@ impl From<NameError> for Reason {
 }
 
 impl From<RowFault> for Reason {
+    ghost from_gives = { λ fault reason. reason ≡ row_reason fault };
+
     fn from(fault: RowFault) -> Reason {
         match fault {
             RowFault::UnknownRole => Reason::Role,
@@ -85,6 +99,8 @@ impl From<RowFault> for Reason {
 }
 
 impl From<StateFault> for Reason {
+    ghost from_gives = { λ fault reason. reason ≡ state_reason fault };
+
     fn from(fault: StateFault) -> Reason {
         match fault {
             StateFault::Exists => Reason::Duplicate,

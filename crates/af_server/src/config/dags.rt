@@ -1,8 +1,12 @@
 // A DAG of the configuration: `dag_id`, `max_active_runs` and `is_paused`. A schedule can't be had yet.
+ghost use Rattle.std.specs.Prelude.{◌≡◌, codes};
+ghost use Rattle.serde_json.specs.View.{view};
+ghost use Rattle.af_server.specs.Configurations.{OrMemory, dag_in, no_schedule};
+ghost use Rattle.af_server.specs.Members.{member_of};
 
-use crate::members::{member, number_or, text, truth_or};
+use super::names::name;
+use crate::members::{member, number_or, truth_or};
 use crate::reason::Reason;
-use af_names::DagId;
 use af_ops::DagRow;
 use serde_json::Value;
 use std::alloc::Global;
@@ -11,11 +15,11 @@ use std::alloc::Global;
 const RUNS: (u16, u16) = (1, 1000);
 
 /// Reads a DAG.
-pub fn read_dag(alloc: Global, row: &Value) -> Result<DagRow, Reason> {
-    let dag_id = DagId::parse(alloc, text(row, "dag_id")?)?;
-    if member(row, "schedule").is_some() {
-        return Err(Reason::Schedule);
-    }
+pub fn read_dag(alloc: Global, row: &Value) -> Result<DagRow, Reason>
+    ensures { OrMemory (dag_in (view row.now)) result }
+{
+    let dag_id = name(alloc, row, "dag_id")?;
+    test_schedule(row)?;
     let max_active_runs = number_or(row, "max_active_runs", RUNS, 16)?;
     let is_paused = truth_or(row, "is_paused", false)?;
     Ok(DagRow {
@@ -23,4 +27,14 @@ pub fn read_dag(alloc: Global, row: &Value) -> Result<DagRow, Reason> {
         is_paused,
         max_active_runs,
     })
+}
+
+/// Refuses a row that asks for a schedule.
+fn test_schedule(row: &Value) -> Result<(), Reason>
+    ensures { result ≡ no_schedule (member_of (codes "schedule") (view row.now)) }
+{
+    match member(row, "schedule") {
+        Some(_) => Err(Reason::Schedule),
+        None => Ok(()),
+    }
 }

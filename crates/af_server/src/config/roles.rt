@@ -1,4 +1,8 @@
 // A role of the configuration: `name`, and `actions` as the API shows them.
+ghost use Rattle.std.specs.Prelude.{◌≡◌};
+ghost use Rattle.serde_json.specs.View.{view};
+ghost use Rattle.af_server.specs.Members.{seen};
+ghost use Rattle.af_server.specs.Configurations.{OrMemory, action_in, pair_in, texts_in};
 
 use crate::members::{list, object, text};
 use crate::reason::Reason;
@@ -25,18 +29,24 @@ pub fn read_role(alloc: Global, row: &Value) -> Result<Role, Reason> {
 }
 
 /// The texts of an action and of a resource, as in `{"action":{"name":..},"resource":{"name":..}}`.
-fn read_texts(item: &Value) -> Result<(&str, &str), Reason> {
+fn read_texts(item: &Value) -> Result<(&str, &str), Reason>
+    ensures { seen (λ texts. (texts.0.now, texts.1.now)) result ≡ texts_in (view item.now) }
+{
     let action = text(object(item, "action")?, "name")?;
     let resource = text(object(item, "resource")?, "name")?;
     Ok((action, resource))
 }
 
-fn read_action(item: &Value) -> Result<Action, Reason> {
+fn read_action(item: &Value) -> Result<Action, Reason>
+    ensures { result ≡ action_in (view item.now) }
+{
     let (action, _) = read_texts(item)?;
     Action::read(action).ok_or(Reason::Action)
 }
 
-fn read_pair(alloc: Global, item: &Value) -> Result<Pair, Reason> {
+fn read_pair(alloc: Global, item: &Value) -> Result<Pair, Reason>
+    ensures { OrMemory (pair_in (view item.now)) result }
+{
     let (_, resource) = read_texts(item)?;
     let action = read_action(item)?;
     match Resource::read(alloc, resource)? {

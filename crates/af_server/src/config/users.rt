@@ -1,4 +1,6 @@
 // A user of the configuration: `username`, `roles` by name, and `token_sha256`.
+ghost use Rattle.std.specs.Prelude.{◌≡◌};
+ghost use Rattle.af_server.specs.Configurations.{digest_of};
 
 use crate::members::{list, text};
 use crate::reason::Reason;
@@ -28,6 +30,11 @@ fn read_roles(alloc: Global, items: &[Value]) -> Result<Vec<RoleName>, Reason> {
 }
 
 /// 64 hexadecimal digits, in either case.
-fn read_digest(text: &str) -> Result<[u8; 32], Reason> {
-    <[u8; 32] as FromHex>::from_hex(text).map_err(|_| Reason::Shape)
+fn read_digest(text: &str) -> Result<[u8; 32], Reason>
+    ensures { result ≡ digest_of text.now }
+{
+    match <[u8; 32] as FromHex>::from_hex(text) {
+        Ok(digest) => Ok(digest),
+        Err(_) => Err(Reason::Shape),
+    }
 }
