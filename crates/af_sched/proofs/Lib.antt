@@ -1,0 +1,6 @@
+pub mod FinishLemmas
+pub mod PlacedLemmas
+pub mod QueueLemmas
+pub mod SettleLemmas
+pub mod StartLemmas
+pub mod StateLemmas

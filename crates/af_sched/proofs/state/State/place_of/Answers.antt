@@ -1,0 +1,13 @@
+use Rattle.std.proofs.Common.{rules}
+use Rattle.std.specs.Ordering.{nat_cmp}
+use Rattle.std.specs.Cmp.Lexicographic.{slice_cmp}
+use Rattle.std.proofs.lemmas.Fn.{always_returns_same}
+use Rattle.af_sched.proofs.StateLemmas.{place_from_search}
+use Rattle.af_sched.proofs.state.State.place_of.Goals as goal
+
+-- the closure gives how a row's id stands to the id sought
+pub returns : goal.returns
+returns c =
+    let facts = c.binary_search_by.ensures in
+    let by_id = facts.position (λ row. slice_cmp nat_cmp row.dag.dag_id c.args.dag_id.now) (always_returns_same _ _ _ (λ a r f' called. search rules)) in
+    rw (← c.self.view_is, ← c.deref.ensures.value) (place_from_search _ c.self.inside.runs.rows _ _ (rw c.deref.ensures.value c.self.invariant) facts.bound by_id)

@@ -1,0 +1,21 @@
+-- Laws about ticks, in words of their own.
+use Rattle.std.specs.Prelude.{ℕ, ◌≡◌, List, None, length}
+use Rattle.af_graph.specs.Definition.{fault_of}
+use Rattle.af_graph.specs.declared.task_spec.TaskSpec.{TaskSpec}
+use Rattle.af_runs.specs.declared.instance.Instance.{Instance}
+use Rattle.af_sched.specs.Queue.{Queues}
+use Rattle.af_sched.specs.Settle.{SettlesInstances, Settles}
+use Rattle.af_sched.specs.State.{StateRows, AreRows}
+
+-- since a definition without a fault has no cycle, the rules leave one way in which a run's instances may be settled
+abbrev pub SettlingIsOne : Type 0
+SettlingIsOne =
+    (t : ℕ) (tasks : List TaskSpec) (old one other : List Instance) → fault_of tasks ≡ None → length old ≡ length tasks → SettlesInstances t tasks old one → SettlesInstances t tasks old other → one ≡ other
+
+-- the third phase leaves one state
+abbrev pub SettledStateIsOne : Type 0
+SettledStateIsOne = (t : ℕ) (old one other : StateRows) → AreRows old.dags old.runs → Settles t old one → Settles t old other → one ≡ other
+
+-- the fourth phase leaves one state: what is queued at an instance goes by what is queued before it
+abbrev pub QueuedStateIsOne : Type 0
+QueuedStateIsOne = (old one other : StateRows) → AreRows old.dags old.runs → Queues old one → Queues old other → one ≡ other

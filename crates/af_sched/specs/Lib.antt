@@ -1,0 +1,15 @@
+pub mod Additions
+pub mod Claims
+pub mod Create
+pub mod Due
+pub mod Finish
+pub mod Laws
+pub mod Placed
+pub mod Queue
+pub mod Reports
+pub mod Scripts
+pub mod Settle
+pub mod Start
+pub mod State
+pub mod Steps
+pub mod Tick

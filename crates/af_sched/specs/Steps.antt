@@ -1,0 +1,23 @@
+-- What the steps of the calls keep. No public contract cites this file.
+use Rattle.std.specs.Prelude.{ℕ, ◌≡◌, ◌++◌, Bool, List, Option, Some, None, slice_index_or, slice_set, if◌then◌else◌}
+use Rattle.af_graph.specs.declared.task_spec.TaskSpec.{TaskSpec}
+use Rattle.af_runs.specs.declared.instance.Instance.{Instance}
+use Rattle.af_sched.specs.Settle.{settled_instance, verdict_at}
+use Rattle.af_sched.specs.Placed.{Placed, comes_before, IsFirstOf}
+
+-- of two instances that come first, the one that does
+abbrev pub earlier : Option Placed → Placed → Placed
+earlier None next = next
+earlier (Some first) next = if comes_before next first then next else first
+
+-- the first instance that passes the test, once one more has been seen
+abbrev pub first_with : (Placed → Bool) → Option Placed → Placed → Option Placed
+first_with test first next = if test next then Some (earlier first next) else first
+
+-- where one instance is the first of a list, the other is the first of the list with these after it
+abbrev pub Continues : (Placed → Bool) → List Placed → Option Placed → Option Placed → Type 0
+Continues test more one other = (seen : List Placed) → IsFirstOf test seen one → IsFirstOf test (seen ++ more) other
+
+-- the instance at a place is settled, by what its rule decides on the states that those upstream of it have
+abbrev pub SetsSettled : ℕ → List TaskSpec → ℕ → List Instance → List Instance → Type 0
+SetsSettled t tasks place old new = (d : Instance) → new ≡ slice_set old place (settled_instance t (verdict_at tasks old place) (slice_index_or old place d))

@@ -1,0 +1,16 @@
+ghost use Rattle.af_sched.specs.Laws.{QueuedStateIsOne, SettlingIsOne, SettledStateIsOne};
+
+/// The trigger rules decide in one way what becomes of a run's instances, since no definition has a cycle.
+pub fn settling_is_one()
+    ensures { SettlingIsOne }
+{}
+
+/// The third phase of a tick leaves one state.
+pub fn the_settled_state_is_one()
+    ensures { SettledStateIsOne }
+{}
+
+/// The fourth phase of a tick leaves one state.
+pub fn the_queued_state_is_one()
+    ensures { QueuedStateIsOne }
+{}

@@ -1,0 +1,33 @@
+//! What one tick does to a scheduler's state at a moment, and how an executor claims instances and reports outcomes.
+#![tactic(auto)]
+
+mod add_dag_fault;
+mod claim;
+mod dag_row;
+mod executor;
+mod finishing;
+pub mod laws;
+mod outcome;
+mod phases;
+mod placed;
+mod report_fault;
+mod script;
+mod scripted;
+mod settling;
+mod starting;
+mod state;
+
+pub use add_dag_fault::AddDagFault;
+pub use claim::Claim;
+pub use dag_row::DagRow;
+pub use executor::Executor;
+pub use outcome::Outcome;
+pub use phases::{finish_all, settle_all};
+pub use report_fault::ReportFault;
+pub use script::Script;
+pub use scripted::Scripted;
+pub use starting::start_all;
+pub use state::State;
+
+#[cfg(test)]
+mod tests;

@@ -1,0 +1,83 @@
+ghost use Rattle.std.specs.Prelude.{◌≡◌, [], ◌∷◌, IfOk};
+ghost use Rattle.af_pool.specs.Pools.{ArePools, default_name};
+ghost use Rattle.af_runs.specs.Runs.{AreRuns};
+ghost use Rattle.af_sched.specs.State.{AreRows};
+
+use crate::dag_row::DagRow;
+use af_pool::{Pool, Pools};
+use af_runs::{Run, Runs};
+use std::alloc::{AllocError, Global};
+use std::marker::Model;
+
+mod adding;
+mod claiming;
+mod reporting;
+
+/// The scheduler's state: its DAGs, their runs with the instances, and the pools. Contracts see the lists of rows,
+/// beside the numbers of runs and pools for which memory is reserved.
+#[derive(Drop)]
+pub struct State {
+    dags: Vec<DagRow>,
+    runs: Runs,
+    pools: Pools,
+}
+
+impl Model for State {
+    ghost use Rattle.af_sched.specs.State.{AreRows, StateWithRoom};
+
+    ghost Value = { StateWithRoom };
+
+    ghost view = { λ state. record {
+      rows = record {
+        dags = state.dags.items;
+        runs = state.runs.rows;
+        next_run = state.runs.next;
+        pools = state.pools.rows;
+      };
+      spare_runs = state.runs.spare;
+      spare_pools = state.pools.spare;
+    } };
+
+    ghost invariant = { λ state. AreRows state.dags.items state.runs.rows };
+}
+
+impl State {
+    /// No DAGs and no runs; of pools the default one alone. `AllocError` only where a growth was refused.
+    pub fn new(alloc: Global) -> Result<State, AllocError>
+        ensures dags { IfOk result (λ state. state.rows.dags ≡ []) }
+        ensures runs { IfOk result (λ state. state.rows.runs ≡ []) }
+        ensures next { IfOk result (λ state. state.rows.next_run ≡ 1) }
+        ensures pools { IfOk result (λ state. state.rows.pools ≡ record { name = default_name; slots = 128 } ∷ []) }
+    {
+        let pools = Pools::new(alloc)?;
+        Ok(State {
+            dags: Vec::new(alloc),
+            runs: Runs::new(alloc),
+            pools,
+        })
+    }
+
+    /// The DAGs, by id.
+    pub fn dags(&self) -> &[DagRow]
+        ensures rows { result.now ≡ self.now.rows.dags }
+        ensures kept { AreRows self.now.rows.dags self.now.rows.runs }
+    {
+        self.dags.as_slice()
+    }
+
+    /// The runs of all DAGs, by number.
+    pub fn runs(&self) -> &[Run]
+        ensures rows { result.now ≡ self.now.rows.runs }
+        ensures kept { AreRuns self.now.rows.runs self.now.rows.next_run }
+    {
+        self.runs.rows()
+    }
+
+    /// The pools, by name.
+    pub fn pools(&self) -> &[Pool]
+        ensures rows { result.now ≡ self.now.rows.pools }
+        ensures kept { ArePools self.now.rows.pools }
+    {
+        self.pools.rows()
+    }
+}

@@ -1,0 +1,90 @@
+ghost use Rattle.std.specs.Prelude.{◌≡◌, Err, Some, IfOk, IfErr, IfSome, IsNone, OnOk, OnErr, IsOk, MatchResult, true};
+ghost use Rattle.af_pool.specs.Pools as pools;
+ghost use Rattle.af_runs.specs.Runs as runs;
+ghost use Rattle.af_sched.specs.Additions.{AddsRun, IsOkOrOutOfMemory, IsWholeNew};
+ghost use Rattle.af_sched.specs.State.{CanAdd, FitsAt, dag_fault, has_dag, with_dag};
+
+use crate::add_dag_fault::AddDagFault;
+use crate::dag_row::DagRow;
+use crate::state::State;
+use af_graph::DagSpec;
+use af_names::{DagId, PoolName};
+use af_pool::PoolFault;
+use af_runs::{NewRun, RunFault};
+
+/// The most DAGs that there are.
+const MOST_DAGS: usize = 1_024;
+
+impl State {
+    /// Adds a DAG. `Exists` where a DAG has the id; `Full` at 1,024 DAGs; `OutOfMemory` only where a growth was refused.
+    /// A fault leaves the state as it was.
+    pub fn add_dag(&mut self, row: DagRow) -> Result<(), AddDagFault>
+        ensures refused { IfSome (dag_fault self.old.rows.dags row.dag.dag_id) (λ fault. result ≡ Err fault) }
+        ensures accepted { IsNone (dag_fault self.old.rows.dags row.dag.dag_id) → IsOkOrOutOfMemory result }
+        ensures ok { OnOk result (self.new ≡ record self.old {
+          rows = record self.old.rows { dags = with_dag self.old.rows.dags row };
+        }) }
+        ensures err { OnErr result (self.new ≡ self.old) }
+    {
+        let place = self.place_to_add(row.dag.definition())?;
+        self.dags.insert(place, row)?;
+        Ok(())
+    }
+
+    /// Where the row of a DAG that may be added goes.
+    fn place_to_add(&self, dag: &DagSpec) -> Result<usize, AddDagFault>
+        ensures ok { IfOk result (CanAdd self.now.rows.dags dag.now.dag_id) }
+        ensures err { IfErr result (λ fault. dag_fault self.now.rows.dags dag.now.dag_id ≡ Some fault) }
+    {
+        match self.place_of(&dag.dag_id) {
+            Ok(_) => Err(AddDagFault::Exists),
+            Err(_) if self.dags.len() >= MOST_DAGS => Err(AddDagFault::Full),
+            Err(place) => Ok(place),
+        }
+    }
+
+    /// Where the row of the DAG of this id stands, or where it would.
+    fn place_of(&self, dag_id: &DagId) -> Result<usize, usize>
+        ensures { MatchResult result (λ _. has_dag self.now.rows.dags dag_id.now ≡ true) (FitsAt self.now.rows.dags dag_id.now) }
+    {
+        self.dags
+            .binary_search_by(|row| row.dag.dag_id().cmp(dag_id))
+    }
+
+    /// Adds a run, queued, and tells its number. Its faults are those of `Runs::add_run`; a fault leaves the rows as they
+    /// were, and `OutOfMemory` comes only where a growth was refused.
+    pub fn add_run(&mut self, new: NewRun) -> Result<u64, RunFault>
+        requires { IsWholeNew self.old.rows new }
+        ensures refused { IfSome (runs.add_fault self.old.rows.runs self.old.rows.next_run new.dag_id new.run_id new.logical_date) (λ fault. result ≡ Err fault) }
+        ensures accepted { IsNone (runs.add_fault self.old.rows.runs self.old.rows.next_run new.dag_id new.run_id new.logical_date) → runs.IsOkOrOutOfMemory result }
+        ensures ok { IfOk result (AddsRun self.old.rows self.new.rows new) }
+        ensures err { OnErr result (self.new.rows ≡ self.old.rows) }
+    {
+        self.runs.add_run(new)
+    }
+
+    /// Adds a pool. Its faults are those of `Pools::add`; a fault leaves the rows as they were, and `OutOfMemory` comes
+    /// only where a growth was refused.
+    pub fn add_pool(&mut self, name: PoolName, slots: u64) -> Result<(), PoolFault>
+        ensures refused { IfSome (pools.add_fault self.old.rows.pools name slots) (λ fault. result ≡ Err fault) }
+        ensures accepted { IsNone (pools.add_fault self.old.rows.pools name slots) → pools.IsOkOrOutOfMemory result }
+        ensures ok { OnOk result (self.new.rows ≡ record self.old.rows {
+          pools = pools.with_pool self.old.rows.pools record { name = name; slots = slots };
+        }) }
+        ensures err { OnErr result (self.new.rows ≡ self.old.rows) }
+    {
+        self.pools.add(name, slots)
+    }
+
+    /// Gives a pool other slots. Its faults are those of `Pools::set_slots`; a fault leaves the state as it was.
+    pub fn set_slots(&mut self, name: &PoolName, slots: u64) -> Result<(), PoolFault>
+        ensures refused { IfSome (pools.set_fault self.old.rows.pools name.now slots) (λ fault. result ≡ Err fault) }
+        ensures accepted { IsNone (pools.set_fault self.old.rows.pools name.now slots) → IsOk result }
+        ensures ok { OnOk result (self.new ≡ record self.old {
+          rows = record self.old.rows { pools = pools.with_slots self.old.rows.pools name.now slots };
+        }) }
+        ensures err { OnErr result (self.new ≡ self.old) }
+    {
+        self.pools.set_slots(name, slots)
+    }
+}

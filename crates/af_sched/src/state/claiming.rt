@@ -1,0 +1,112 @@
+ghost use Rattle.std.specs.Prelude.{◌≡◌, IfOk, OnErr, MatchOption, true};
+ghost use Rattle.af_sched.specs.Claims.{is_claimable, Claims, ClaimsNone, claim_of};
+ghost use Rattle.af_sched.specs.Placed.{IsFirstOf, placed_of, placed_in};
+ghost use Rattle.af_sched.specs.State.{tasks_of};
+ghost use Rattle.af_sched.specs.Steps.{Continues, first_with};
+
+use crate::claim::Claim;
+use crate::dag_row::DagRow;
+use crate::phases::dag_of;
+use crate::placed::PlacedInstance;
+use crate::state::State;
+use af_graph::TaskSpec;
+use af_names::{DagId, Instant};
+use af_runs::Run;
+use std::alloc::{AllocError, Global};
+
+impl State {
+    /// Claims the first queued instance, of all runs, by falling weight, then by run number, then by place: it is
+    /// running from this moment on. None where none is queued; one that was tried 4,294,967,295 times is passed over.
+    /// `AllocError` only where a growth was refused; then the state is as before.
+    pub fn claim(&mut self, alloc: Global, at: Instant) -> Result<Option<Claim>, AllocError>
+        ensures ok { IfOk result (λ claim. MatchOption claim (ClaimsNone self.old.rows self.new.rows) (Claims at self.old.rows self.new.rows)) }
+        ensures err { OnErr result (self.new ≡ self.old) }
+        ensures spare_runs { self.new.spare_runs ≡ self.old.spare_runs }
+        ensures spare_pools { self.new.spare_pools ≡ self.old.spare_pools }
+    {
+        let Some(first) = first_claimable(self.dags.as_slice(), self.runs.rows()) else {
+            return Ok(None);
+        };
+        let claim = claim_of(alloc, &first)?;
+        let place = first.place;
+        let instance = first.claimed(at);
+        self.runs.set_instance(claim.run_number, place, instance);
+        Ok(Some(claim))
+    }
+}
+
+/// Of the instances that may be claimed, the first in the order.
+fn first_claimable<'a>(dags: &'a [DagRow], runs: &'a [Run]) -> Option<PlacedInstance<'a>>
+    ensures { IsFirstOf is_claimable (placed_in dags.now runs.now) result }
+{
+    let mut first = None;
+    for run in runs {
+        first = first_after_run(first, tasks_of(dags, &run.dag_id), run);
+    }
+    first
+}
+
+/// The first in the order, once the instances of this run have been seen too.
+fn first_after_run<'a>(
+    so_far: Option<PlacedInstance<'a>>,
+    tasks: &'a [TaskSpec],
+    run: &'a Run,
+) -> Option<PlacedInstance<'a>>
+    ensures { Continues is_claimable (placed_of tasks.now run.now) so_far.entry result }
+{
+    let instances = run.instances.as_slice();
+    let mut first = so_far;
+    for place in 0..tasks.len().min(instances.len()) {
+        let next = PlacedInstance {
+            run,
+            place,
+            task: &tasks[place],
+            instance: &instances[place],
+        };
+        first = first_with(first, next);
+    }
+    first
+}
+
+/// The first in the order, once this instance has been seen too.
+fn first_with<'a>(
+    first: Option<PlacedInstance<'a>>,
+    next: PlacedInstance<'a>,
+) -> Option<PlacedInstance<'a>>
+    ensures { result ≡ first_with is_claimable first.entry next.entry }
+{
+    if !next.is_claimable() {
+        return first;
+    }
+    match first {
+        Some(first) if !next.comes_before(&first) => Some(first),
+        _ => Some(next),
+    }
+}
+
+/// The tasks of the DAG of this id; none where it is not there.
+pub(crate) fn tasks_of<'a>(dags: &'a [DagRow], dag_id: &DagId) -> &'a [TaskSpec]
+    ensures { result.now ≡ tasks_of dags.now dag_id.now }
+{
+    match dag_of(dags, dag_id) {
+        Some(row) => row.dag.tasks(),
+        None => &[],
+    }
+}
+
+/// What the executor is told of an instance that it claims. `AllocError` only where a growth was refused.
+fn claim_of(alloc: Global, placed: &PlacedInstance<'_>) -> Result<Claim, AllocError>
+    requires { is_claimable placed.now ≡ true }
+    ensures { IfOk result (λ claim. claim ≡ claim_of placed.now) }
+{
+    let dag_id = placed.run.dag_id.copied(alloc)?;
+    let run_id = placed.run.run_id.copied(alloc)?;
+    let task_id = placed.task.task_id.copied(alloc)?;
+    Ok(Claim {
+        run_number: placed.run.number,
+        dag_id,
+        run_id,
+        task_id,
+        try_number: placed.instance.try_number + 1,
+    })
+}
