@@ -1,0 +1,119 @@
+#!/usr/bin/env python3
+"""Refuses each allocation of afplane in turn, and looks at what it does then.
+
+  python3 bench/refusals.py                           the examples: a viewer, one team, a denial, a wrong token
+  python3 bench/refusals.py --program 'PATH/PROGRAM'
+
+A run is refused its first allocation, the next its second, and so on, until a run meets none to refuse. Each is to end in
+one of three ways: as the run with all its memory does; with some of its answers, whole and in order, and then the fixed
+503, status 1; or with the configuration refused for want of memory, status 3, and nothing on standard output. The last
+line is `N runs as they must be, M not`, and the status 0 only where M is 0. It wants a C compiler (`cc`).
+"""
+import argparse
+import os
+import shlex
+import subprocess
+import sys
+
+ROOT = os.path.dirname(os.path.dirname(os.path.realpath(__file__)))
+PROGRAM = os.path.join(ROOT, "crates", "af_server", "out", "af_server")
+OUT = os.path.join(ROOT, "bench", "out")
+NOW = "2024-01-01T00:00:00Z"
+BODY = b'{"detail":"out of memory","status":503,"title":"Service Unavailable","type":"about:blank"}'
+NO_MEMORY = (
+    b"HTTP/1.1 503 Service Unavailable\r\nContent-Type: application/problem+json\r\nContent-Length: 90\r\nConnection: close\r\n\r\n" + BODY
+)
+REFUSED = b"afplane: configuration refused: memory\n"
+MOST = 100_000
+INPUTS = [("base.json", "viewer.http"), ("team.json", "one-team.http"), ("team.json", "denied.http"), ("team.json", "wrong-token.http")]
+
+
+def build():
+    """The library that refuses, compiled into bench/out/."""
+    os.makedirs(OUT, exist_ok=True)
+    library = os.path.join(OUT, "refuse.so")
+    subprocess.run(["cc", "-O1", "-shared", "-fPIC", "-o", library, os.path.join(ROOT, "bench", "refuse.c"), "-ldl"], check=True)
+    return library
+
+
+def answers_in(text):
+    """Where each answer of an output ends, in order, the beginning counted too."""
+    ends, at = [0], 0
+    while at < len(text):
+        head = text.index(b"\r\n\r\n", at) + 4
+        lengths = [line for line in text[at:head].split(b"\r\n") if line.lower().startswith(b"content-length:")]
+        at = head + int(lengths[0].split(b":")[1])
+        ends.append(at)
+    return ends
+
+
+def run(program, words, data, library=None, number=0):
+    """Exit status, standard output, standard error, and whether the allocation of that number was asked for."""
+    if library is None:
+        it = subprocess.run([*program, *words], input=data, capture_output=True, timeout=30)
+        return it.returncode, it.stdout, it.stderr, False
+    reader, writer = os.pipe()
+    env = {"LD_PRELOAD": library, "REFUSE": str(number), "REFUSE_FD": str(writer)}
+    try:
+        it = subprocess.run([*program, *words], input=data, capture_output=True, timeout=30, env=env, pass_fds=[writer])
+    finally:
+        os.close(writer)
+    with os.fdopen(reader, "rb") as pipe:
+        met = pipe.read() != b""
+    return it.returncode, it.stdout, it.stderr, met
+
+
+def refuse_program(program, library):
+    """The same of all inputs."""
+    if not os.path.exists(program[0]):
+        sys.exit(f"refusals: there is no program {program[0]}; ./afplane once builds it")
+    right = wrong = 0
+    for config, requests in INPUTS:
+        one, other = refuse_each(program, library, config, requests)
+        right, wrong = right + one, wrong + other
+    return right, wrong
+
+
+def is_right(whole, fronts, status, out, err):
+    if (status, out, err) == whole or (status, out, err) == (3, b"", REFUSED):
+        return True
+    return status == 1 and err == b"" and out.endswith(NO_MEMORY) and out[: -len(NO_MEMORY)] in fronts
+
+
+def refuse_each(program, library, config, requests):
+    """How many runs ended as they must, and how many did not."""
+    words = ["once", os.path.join(ROOT, "examples", config), NOW]
+    with open(os.path.join(ROOT, "examples", requests), "rb") as file:
+        data = file.read()
+    *whole, _ = run(program, words, data)
+    whole = tuple(whole)
+    if b"\r\n\r\n" not in whole[1]:
+        sys.exit(f"refusals: {config} with {requests} gives no answer: status {whole[0]}, {whole[2]!r}")
+    fronts = [whole[1][:end] for end in answers_in(whole[1])]
+    right, wrong, kinds = 0, 0, {}
+    for number in range(1, MOST):
+        status, out, err, met = run(program, words, data, library, number)
+        if not met:
+            break
+        if is_right(whole, fronts, status, out, err):
+            right += 1
+            kinds[status] = kinds.get(status, 0) + 1
+        else:
+            wrong += 1
+            print(f"{config} {requests}, allocation {number} refused: status {status}, {out[-200:]!r}, {err!r}")
+    told = ", ".join(f"{count} with status {status}" for status, count in sorted(kinds.items()))
+    print(f"{config} {requests}: {right} runs as they must be ({told}), {wrong} not")
+    return right, wrong
+
+
+def main():
+    parser = argparse.ArgumentParser(description=__doc__.split("\n")[0])
+    parser.add_argument("--program", default=PROGRAM, help="the program and its first words, as a shell would read them")
+    program = shlex.split(parser.parse_args().program)
+    right, wrong = refuse_program(program, build())
+    print(f"{right} runs as they must be, {wrong} not")
+    sys.exit(1 if wrong or not right else 0)
+
+
+if __name__ == "__main__":
+    main()
