@@ -1,4 +1,4 @@
-ghost use Rattle.std.specs.Prelude.{◌≡◌, ◌+◌, ◌++◌, length, take};
+ghost use Rattle.std.specs.Prelude.{◌≡◌, ◌+◌, ◌++◌, [], false, length, take};
 ghost use Rattle.af_http.specs.Streams.{bytes_of};
 
 use crate::stream::{Failed, Sink, Source};
@@ -19,7 +19,12 @@ pub struct Counted<T> {
 
 impl<T> Counted<T> {
     /// Nothing was read or written yet.
-    pub fn new(inner: T) -> Counted<T> {
+    pub fn new(inner: T) -> Counted<T>
+        ensures open { result.ended ≡ false }
+        ensures moved { bytes_of result.moved.items ≡ [] }
+        ensures calls { length result.calls.items ≡ 0 }
+        ensures failures { length result.failures.items ≡ 0 }
+    {
         Counted {
             inner,
             ended: false,
@@ -30,7 +35,9 @@ impl<T> Counted<T> {
     }
 
     /// The reader or writer itself.
-    pub fn into_inner(self) -> T {
+    pub fn into_inner(self) -> T
+        ensures { result ≡ self.inner }
+    {
         let Counted { inner, .. } = self;
         inner
     }
