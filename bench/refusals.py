@@ -3,14 +3,18 @@
 
   python3 bench/refusals.py                           the examples: a viewer, one team, a denial, a wrong token
   python3 bench/refusals.py --program 'PATH/PROGRAM'
+  python3 bench/refusals.py --tests                   each test of each crate whose tests `rt test` has built
 
 A run is refused its first allocation, the next its second, and so on, until a run meets none to refuse. Each is to end in
 one of three ways: as the run with all its memory does; with some of its answers, whole and in order, and then the fixed
-503, status 1; or with the configuration refused for want of memory, status 3, and nothing on standard output. The last
-line is `N runs as they must be, M not`, and the status 0 only where M is 0. It wants a C compiler (`cc`).
+503, status 1; or with the configuration refused for want of memory, status 3, and nothing on standard output. A test is to
+pass, or to end in the fault for want of memory and in no other. The last line is `N runs as they must be, M not`, and the
+status 0 only where M is 0. It wants a C compiler (`cc`).
 """
 import argparse
+import glob
 import os
+import re
 import shlex
 import subprocess
 import sys
@@ -63,8 +67,45 @@ def run(program, words, data, library=None, number=0):
     return it.returncode, it.stdout, it.stderr, met
 
 
+def run_test(program, name, library, number):
+    """Exit status and output of a test, and whether the allocation of that number was asked for."""
+    status, out, err, met = run([program], [name], b"", library, number)
+    return status, out + err, met
+
+
+WANT_OF_MEMORY = re.compile(rb"([Ee]rror: (\w+\()*(OutOfMemory|AllocError|AllocFailed|Memory)\b|left: \S*(OutOfMemory|Memory|AllocError))")
+
+
+def refuse_each_of_test(program, name, library):
+    """How many runs of a test ended as they must, and how many did not."""
+    right = wrong = 0
+    for number in range(1, MOST):
+        status, text, met = run_test(program, name, library, number)
+        if not met:
+            break
+        if (status == 0 and b"test result: ok" in text) or (status in (101, -6) and WANT_OF_MEMORY.search(text)):
+            right += 1
+        else:
+            wrong += 1
+            print(f"{name}, allocation {number} refused: status {status}, {text[-300:]!r}")
+    return right, wrong
+
+
+def refuse_tests(library):
+    """The same of all tests that are built."""
+    right = wrong = 0
+    for program in sorted(glob.glob(os.path.join(ROOT, "crates", "*", "out", "*_tests"))):
+        listed = subprocess.run([program, "--list"], capture_output=True, timeout=30, text=True).stdout
+        names = [line[: -len(": test")] for line in listed.splitlines() if line.endswith(": test")]
+        counts = [refuse_each_of_test(program, name, library) for name in names]
+        one, other = sum(count[0] for count in counts), sum(count[1] for count in counts)
+        print(f"{os.path.basename(program)}: {len(names)} tests, {one} runs as they must be, {other} not", flush=True)
+        right, wrong = right + one, wrong + other
+    return right, wrong
+
+
 def refuse_program(program, library):
-    """The same of all inputs."""
+    """The same of the program, on the examples."""
     if not os.path.exists(program[0]):
         sys.exit(f"refusals: there is no program {program[0]}; ./afplane once builds it")
     right = wrong = 0
@@ -109,8 +150,10 @@ def refuse_each(program, library, config, requests):
 def main():
     parser = argparse.ArgumentParser(description=__doc__.split("\n")[0])
     parser.add_argument("--program", default=PROGRAM, help="the program and its first words, as a shell would read them")
-    program = shlex.split(parser.parse_args().program)
-    right, wrong = refuse_program(program, build())
+    parser.add_argument("--tests", action="store_true", help="the tests of the crates in place of the program")
+    asked = parser.parse_args()
+    library = build()
+    right, wrong = refuse_tests(library) if asked.tests else refuse_program(shlex.split(asked.program), library)
     print(f"{right} runs as they must be, {wrong} not")
     sys.exit(1 if wrong or not right else 0)
 

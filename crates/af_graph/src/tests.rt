@@ -51,10 +51,11 @@ fn tasks(alloc: Global, rows: &[(&str, &[&str])]) -> Result<Vec<TaskSpec>, Fail>
     Ok(tasks)
 }
 
-/// What is told of these tasks, if they are no DAG.
+/// What is told of these tasks, if they are no DAG. Want of memory ends the test.
 fn told(alloc: Global, tasks: Vec<TaskSpec>) -> Result<Option<DagFault>, Fail> {
     match Dag::new(alloc, spec(alloc, tasks)?) {
         Ok(_) => Ok(None),
+        Err(DagFault::OutOfMemory) => Err(DagFault::OutOfMemory.into()),
         Err(fault) => Ok(Some(fault)),
     }
 }
