@@ -1,17 +1,17 @@
 -- The order of a graph's places: it is one, and there is no other.
-use Rattle.std.proofs.Common.{◌≡◌, ◌<◌, ◌≤◌, ◌+◌, ℕ, Bool, true, false, eqb, ltb, not, ◌&&◌, ◌⊎◌, List, [], ◌∷◌, ◌++◌, Some, None, Option, length, get_or, take, sym, refl, ap, ◌∙◌, subst, ⊎_elim, inl, inr, append-nil, add-one, ◌||◌, arith, zero, suc}
-use Rattle.std.specs.Prelude.{All, Any, Contains}
+use Rattle.std.proofs.Common.{◌≡◌, ◌<◌, ◌≤◌, ℕ, Bool, true, false, eqb, not, ◌⊎◌, List, [], ◌∷◌, ◌++◌, Some, None, Option, length, get_or, take, sym, refl, ap, ◌∙◌, subst, ⊎_elim, inl, inr, append-nil, add-one, ◌||◌, arith, zero, suc}
+use Rattle.std.specs.Prelude.{Any, Contains}
 use Rattle.std.specs.List.{find, list_any, list_all, IsDistinct}
 use Rattle.std.specs.Option.{option_to_list}
-use Rattle.std.proofs.lemmas.Bool.{cases_Bool, cases_lt, cases_eq, true≢false, false≢true, eqb-true, eq-eqb, ne_eqb, and_parts, and_from, and_cases, or_cases, not-true, not_from_false, false_from_ne_true}
-use Rattle.std.proofs.lemmas.List.{take-append-le, take_at, take_all, take_more_same, get_or_append_left, get_or_push, get_or_default, length_push}
+use Rattle.std.proofs.lemmas.Bool.{cases_lt, cases_eq, true≢false, false≢true, eqb-true, eq-eqb, ne_eqb, and_parts, and_from, and_cases, or_cases, not-true, not_from_false, false_from_ne_true}
+use Rattle.std.proofs.lemmas.List.{take-append-le, take_at, take_all, take_more_same, get_or_append_left, get_or_push, length_push}
 use Rattle.std.proofs.lemmas.List.Elements.{All-weaker, All-contains}
 use Rattle.std.proofs.lemmas.List.Folds.{list_any_at}
 use Rattle.std.proofs.lemmas.List.Sums.{AllPass-from_list_all, list_all-from_AllPass}
 use Rattle.std.proofs.lemmas.Map.Keys.{IsDistinct-push}
 use Rattle.std.proofs.lemmas.Map.Steps.{length-le_from_distinct_below}
 use Rattle.af_graph.specs.Rows.{places, row_at, is_among}
-use Rattle.af_graph.specs.Order.{is_free, one_more, taken_in, order_of, IsFree, IsNext, IsOrder}
+use Rattle.af_graph.specs.Order.{is_free, taken_in, order_of, IsFree, IsNext, IsOrder}
 use Rattle.std.specs.Cmp.{nat_eq_equiv}
 use Rattle.std.proofs.lemmas.Option.{none-some}
 use Rattle.af_graph.proofs.PlaceLemmas.{find_some, find_nothing}

@@ -1,11 +1,9 @@
 -- Facts on taking one place more: what is ready, what waits, and which place comes next.
-use Rattle.std.proofs.Common.{◌≡◌, ◌<◌, ◌≤◌, ◌+◌, ℕ, Bool, true, false, eqb, ltb, leb, not, ◌&&◌, ◌||◌, cond, List, [], ◌∷◌, ◌++◌, Some, None, Option, length, get_or, take, vec_len, sym, refl, ap, ◌∙◌, subst, ⊎_elim, zero-add, add-one, suc, append-nil, arith}
-use Rattle.std.specs.Prelude.{All, IsTrue}
+use Rattle.std.proofs.Common.{◌≡◌, ◌<◌, ◌≤◌, ◌+◌, ℕ, Bool, true, false, eqb, ltb, not, ◌&&◌, ◌||◌, cond, List, [], ◌∷◌, ◌++◌, None, length, get_or, vec_len, sym, refl, ap, ◌∙◌, subst, ⊎_elim, add-one, suc, append-nil, arith}
 use Rattle.std.specs.Ordering.{is_eq, is_gt, nat_cmp}
-use Rattle.std.specs.BTreeSet as sorted
 use Rattle.std.specs.List.{filter, find, list_any, range_with_len}
 use Rattle.std.specs.Option.{option_to_list}
-use Rattle.std.proofs.lemmas.Bool.{cases_Bool, cases_eq, cases_lt, lt-ltb, le-ltb, le-leb, ltb-true, eqb-true, eq-eqb, ne_eqb, and_parts, and_from, and_left, and_right, or_cases, or_right, not-true, not_from_false, false≢true, false_from_ne_true}
+use Rattle.std.proofs.lemmas.Bool.{lt-ltb, le-leb, ltb-true, eqb-true, and_parts, and_from, or_cases, not-true, false≢true, false_from_ne_true}
 use Rattle.std.proofs.lemmas.Bool.Decides.{nat_tests}
 use Rattle.std.proofs.lemmas.List.FromFn.{length-range_with_len}
 use Rattle.std.proofs.lemmas.List.Sums.{length-filter, count_by-le-length}
@@ -14,8 +12,8 @@ use Rattle.af_graph.specs.Order.{is_free, one_more, taken_in}
 use Rattle.af_graph.specs.Steps.{left_of, is_ready, KeepsPace, IsReleased, IsPair}
 use Rattle.af_graph.specs.declared.taking.Taking.{Taking}
 use Rattle.af_graph.proofs.PlaceLemmas.{find_first, find_none}
-use Rattle.af_graph.proofs.RowLemmas.{length-turned, row_at-turned, among-turned, among-filter, among-push, among-range, below_all}
-use Rattle.af_graph.proofs.TakingLemmas.{all_from_among, row_once, left_less, free_is, ready_step}
+use Rattle.af_graph.proofs.RowLemmas.{length-turned, row_at-turned, among-filter, among-push, below_all}
+use Rattle.af_graph.proofs.TakingLemmas.{left_less, free_is, ready_step}
 
 -- ---- a graph and the graph turned
 

@@ -1,11 +1,11 @@
 -- Facts on rows of places: how many there are, what is among them, and that turning them twice arranges them.
-use Rattle.std.proofs.Common.{◌≤◌, ◌-◌, ◌++◌, ◌||◌, cond, Some, set, ⊎_elim, append-nil, ◌≡◌, ◌<◌, ◌+◌, ℕ, Bool, true, false, eqb, ltb, leb, ◌&&◌, List, [], ◌∷◌, length, get_or, map, sym, refl, ap, ◌∙◌, subst, zero-add, arith, rules, zero, suc, inl, inr}
-use Rattle.std.specs.List.{filter, list_any, range_with_len, slice_get}
+use Rattle.std.proofs.Common.{◌≤◌, ◌-◌, ◌++◌, ◌||◌, cond, Some, set, ⊎_elim, append-nil, ◌≡◌, ◌<◌, ◌+◌, ℕ, Bool, true, false, eqb, ltb, leb, ◌&&◌, List, [], ◌∷◌, length, get_or, sym, refl, ap, ◌∙◌, subst, zero-add, arith, zero, suc}
+use Rattle.std.specs.List.{filter, range_with_len, slice_get}
 use Rattle.std.specs.Option.{option_map_or}
 use Rattle.std.proofs.lemmas.Option.{slice_get-get_or}
 use Rattle.std.proofs.lemmas.List.Elements.{filter-append}
 use Rattle.std.proofs.lemmas.List.Folds.{list_any-append}
-use Rattle.std.proofs.lemmas.Bool.{cases_Bool, cases_lt, eqb-true, eq-eqb, ne_eqb, cases_eq, ltb-true, le-ltb, and_parts, and_right, or_left, or_right, or_parts, cond-true, cond-false}
+use Rattle.std.proofs.lemmas.Bool.{cases_lt, eqb-true, eq-eqb, ne_eqb, cases_eq, ltb-true, le-ltb, and_parts, and_right, or_left, or_right, or_parts, cond-true, cond-false}
 use Rattle.std.proofs.lemmas.List.FromFn.{length-map-range_with_len, get_or-map-range_with_len, map-range_with_len_more}
 use Rattle.std.proofs.lemmas.Grind.{common_steps}
 use Rattle.std.proofs.lemmas.Bool.Decides.{nat_tests}

@@ -1,5 +1,5 @@
 -- What is told of the next and the last of a set of instants is the next and the last.
-use Rattle.std.proofs.Common.{◌≡◌, ℕ, ◌+◌, ◌-◌, ◌<◌, ◌≤◌, arith, refl, ap, sym, subst, ◌∙◌, Bool, true, Option, Some, None, IfSome, IfNone, IsTrue}
+use Rattle.std.proofs.Common.{◌≡◌, ℕ, ◌+◌, ◌-◌, ◌<◌, ◌≤◌, arith, refl, ap, Bool, true, Option, Some, None, IfSome, IfNone, IsTrue}
 use Rattle.std.specs.Option.{MatchOption}
 use Rattle.std.specs.List.{find, range_with_len}
 use Rattle.af_names.specs.Instants.{last_micros}

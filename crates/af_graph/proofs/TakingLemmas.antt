@@ -1,17 +1,14 @@
 -- Facts on what is left of a row, and on one step of taking places.
-use Rattle.std.proofs.Common.{◌≡◌, ◌<◌, ◌≤◌, ◌+◌, ℕ, Bool, true, false, eqb, ltb, leb, not, ◌&&◌, ◌||◌, cond, List, [], ◌∷◌, ◌++◌, Some, None, Option, length, get_or, take, sym, refl, ap, ◌∙◌, subst, ⊎_elim, add-one, zero-add, arith, zero, suc}
+use Rattle.std.proofs.Common.{◌≡◌, ◌<◌, ◌+◌, ℕ, Bool, true, false, eqb, ltb, leb, not, ◌&&◌, ◌||◌, cond, List, [], ◌∷◌, ◌++◌, length, get_or, take, sym, refl, ap, ◌∙◌, subst, ⊎_elim, arith, zero, suc}
 use Rattle.std.specs.Prelude.{All}
-use Rattle.std.specs.Ordering.{is_eq, is_gt, nat_cmp}
-use Rattle.std.specs.List.{filter, list_all, find, range_with_len}
-use Rattle.std.specs.Option.{option_to_list}
-use Rattle.std.proofs.lemmas.Bool.{cases_Bool, cases_eq, cases_lt, cond-true, cond-false, lt-ltb, le-ltb, ltb-true, eq-eqb, ne_eqb, eqb-true, and_parts, and_right, or_left, or_right, or_from, or_cases, cond_both, not_from_true, not_from_false, not-true, false≢true, false_from_ne_true}
+use Rattle.std.specs.List.{filter, list_all, range_with_len}
+use Rattle.std.proofs.lemmas.Bool.{cases_Bool, cases_eq, eq-eqb, ne_eqb, and_right, or_left, or_right, or_from, cond_both, not_from_true, not_from_false, false≢true}
 use Rattle.std.proofs.lemmas.Bool.Decides.{nat_tests}
 use Rattle.std.proofs.lemmas.List.Folds.{list_any_at}
-use Rattle.std.proofs.lemmas.List.Elements.{All-nil, All-cons, All-append}
-use Rattle.af_graph.specs.Rows.{places, row_at, is_among, turned}
-use Rattle.af_graph.specs.Order.{is_free, one_more, taken_in, order_of}
+use Rattle.std.proofs.lemmas.List.Elements.{All-nil, All-cons}
+use Rattle.af_graph.specs.Rows.{row_at, is_among}
+use Rattle.af_graph.specs.Order.{is_free}
 use Rattle.af_graph.specs.Steps.{left_of}
-use Rattle.af_graph.proofs.PlaceLemmas.{find_first, find_none, find_some}
 use Rattle.af_graph.proofs.RowLemmas.{among-filter, among-range, among-push}
 
 or_none : (b : Bool) → (b || false) ≡ b

@@ -1,16 +1,16 @@
 -- Facts on the rows of a definition, and on which fault is told.
-use Rattle.std.proofs.Common.{◌≡◌, ◌<◌, ◌≤◌, ◌+◌, ℕ, Bool, true, false, eqb, ltb, leb, not, ◌&&◌, cond, List, [], ◌∷◌, Some, None, Option, length, get_or, map, sym, refl, ap, ◌∙◌, subst, zero, suc, arith}
+use Rattle.std.proofs.Common.{◌≡◌, ◌<◌, ◌≤◌, ℕ, Bool, true, false, eqb, ltb, leb, List, [], ◌∷◌, Some, None, Option, length, get_or, sym, refl, ap, ◌∙◌, subst, zero, suc, arith}
 use Rattle.std.specs.Prelude.{All}
 use Rattle.std.specs.Option.{option_map, option_to_list}
 use Rattle.std.specs.List.{filter, filter_map, cons_option, find, range_with_len}
-use Rattle.std.proofs.lemmas.Bool.{ltb-true, and_parts, cond-true, cond-false, eq-eqb, ne_eqb, lt-ltb, le-ltb}
+use Rattle.std.proofs.lemmas.Bool.{ltb-true, and_parts, cond-true, cond-false, lt-ltb, le-ltb}
 use Rattle.std.proofs.lemmas.List.{length-map, same_lists, get_or_default}
 use Rattle.std.proofs.lemmas.List.Elements.{All-nil, All-cons, All-map, All-append}
 use Rattle.std.proofs.lemmas.List.Quantifiers.{position-Some}
 use Rattle.std.proofs.lemmas.Option.{none-some, same_Some}
 use Rattle.af_graph.specs.Rows.{places, row_at, is_among, arranged, turned, IsWithin}
 use Rattle.af_graph.specs.Graph.{same_name, place_of, named_rows, upstream_rows, downstream_rows}
-use Rattle.af_graph.specs.Order.{is_free, taken_in, order_of}
+use Rattle.af_graph.specs.Order.{is_free, taken_in}
 use Rattle.af_graph.specs.Definition.{id_at, at_place, is_repeated, names_nobody, is_never_taken, has_bad_slots, first_of, no_task, too_many, duplicate, unknown_upstream, cycle, bad_slots, fault_of}
 use Rattle.af_graph.specs.Steps.{told, IsPlaced, IsPair}
 use Rattle.af_graph.specs.declared.task_spec.TaskSpec.{TaskSpec}

@@ -1,6 +1,6 @@
 -- What is upstream and downstream of a task (Airflow 2, "DAGs": task dependencies). A task is spoken of by its place:
 -- its number in the definition, from 0.
-use Rattle.std.specs.Prelude.{ℕ, Bool, List, [], map, Option, nat_eq}
+use Rattle.std.specs.Prelude.{ℕ, Bool, List, map, Option, nat_eq}
 use Rattle.std.specs.List.{filter_map, position}
 use Rattle.std.specs.Cmp.Lexicographic.{pointwise}
 use Rattle.af_graph.specs.Rows.{row_at, arranged, turned}

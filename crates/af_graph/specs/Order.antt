@@ -1,6 +1,6 @@
 -- The order in which the tasks of a DAG are taken (this product's own rule): of the tasks whose upstream tasks have
 -- all been taken, the earliest in the definition. A graph is given by its rows: at each place the places upstream.
-use Rattle.std.specs.Prelude.{ℕ, ◌+◌, ◌<◌, ◌≤◌, ◌≡◌, ◌==◌, Bool, not, ◌&&◌, List, [], ◌∷◌, ◌++◌, length, slice_index, slice_index_or, take, zero, suc, Contains, All}
+use Rattle.std.specs.Prelude.{ℕ, ◌<◌, ◌≤◌, Bool, not, ◌&&◌, List, [], ◌++◌, length, slice_index, take, zero, suc, Contains, All}
 use Rattle.std.specs.List.{find, list_all}
 use Rattle.std.specs.Option.{option_to_list}
 use Rattle.af_graph.specs.Rows.{places, row_at, is_among}

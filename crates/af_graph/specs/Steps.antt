@@ -1,5 +1,5 @@
 -- What the steps of working a graph out keep. No public contract cites this file.
-use Rattle.std.specs.Prelude.{ℕ, ◌≡◌, ◌<◌, ◌+◌, ◌==◌, Bool, true, not, ◌&&◌, ◌||◌, nat_lt, List, [], length, Option, Some, ◌⊎◌, filter, slice_index, vec_len, if◌then◌else◌}
+use Rattle.std.specs.Prelude.{ℕ, ◌≡◌, ◌<◌, ◌+◌, ◌==◌, Bool, true, not, ◌&&◌, ◌||◌, nat_lt, List, length, Option, Some, ◌⊎◌, filter, slice_index, vec_len, if◌then◌else◌}
 use Rattle.std.specs.BTreeMap as tree
 use Rattle.std.specs.BTreeSet as sorted
 use Rattle.std.specs.Cmp.Lexicographic.{slice_cmp}

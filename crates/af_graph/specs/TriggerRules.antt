@@ -1,5 +1,5 @@
 -- The trigger rules. Their names are Airflow 2's ("DAGs": trigger rules); the table is this product's own rule.
-use Rattle.std.specs.Prelude.{ℕ, ◌+◌, ◌==◌, nat_lt, Bool, true, List, [], ◌∷◌, length, if◌then◌else◌}
+use Rattle.std.specs.Prelude.{◌+◌, ◌==◌, nat_lt, Bool, true, List, [], ◌∷◌, length, if◌then◌else◌}
 use Rattle.std.specs.List.{find}
 use Rattle.std.specs.Option.{option_map_or}
 use Rattle.af_graph.specs.States.{number_in}

@@ -1,5 +1,5 @@
 -- The text of a refusal is that of its answer.
-use Rattle.std.proofs.Common.{◌≡◌, ℕ, Bool, true, List, Some, None, refl, sym, ap, ◌∙◌}
+use Rattle.std.proofs.Common.{◌≡◌, ℕ, Bool, true, List, Some, None, ap, ◌∙◌}
 use Rattle.af_ops.specs.declared.status.Status.{Status}
 use Rattle.af_http.specs.Answers.{Told, problem_body, answer_text}
 use Rattle.af_http.specs.Reading.{status_of, detail_of, leaves_out, refusal_text}

@@ -1,12 +1,10 @@
 -- Values of fields, one field at a time.
 use Rattle.std.proofs.Common.{◌≡◌, ◌≢◌, zero, suc, drop, ◌==◌, ◌||◌, ℕ, ◌+◌, ◌<◌, Bool, true, false, cond, List, [], ◌∷◌, ◌++◌, map, length, get_or, take, subst, refl, sym, ap, ◌∙◌, arith}
-use Rattle.std.specs.Prelude.{flat_map, nat_lt}
-use Rattle.std.proofs.lemmas.Bool.{lt-ltb, ltb-true, eq-eqb, ne_eqb}
-use Rattle.std.proofs.lemmas.List.{append-nil, append_assoc, length-append, take_more, map-append}
+use Rattle.std.proofs.lemmas.Bool.{eq-eqb, ne_eqb}
+use Rattle.std.proofs.lemmas.List.{append-nil, append_assoc, take_more, map-append}
 use Rattle.httparse.specs.declared.spans.HeaderSpan.{HeaderSpan}
 use Rattle.httparse.specs.Spans.{header_bytes, span_bytes}
 use Rattle.af_http.specs.declared.fields.Named.{Named}
-use Rattle.af_http.specs.declared.fields.Named.TheVariants.{Absent, Only, Several}
 use Rattle.af_http.specs.Fields.{Header, values_named, same_text, IsNamed, members_of, lists}
 use Rattle.httparse.specs.Grammar.{trim_ows}
 use Rattle.std.specs.List.{list_any, onto_first}

@@ -1,16 +1,14 @@
 -- A text has one reading.
-use Rattle.std.proofs.Common.{◌≡◌, ◌≢◌, ◌+◌, ◌⊎◌, inl, inr, ℕ, Bool, true, false, List, [], ◌∷◌, ◌++◌, refl, sym, ap, ◌∙◌, subst, Option, Some, None}
+use Rattle.std.proofs.Common.{◌≡◌, ◌+◌, ◌⊎◌, inl, inr, ℕ, Bool, true, false, List, [], ◌∷◌, ◌++◌, refl, sym, ap, ◌∙◌, subst, Option, Some, None}
 use Rattle.std.specs.Prelude.{Result, Ok, Err}
 use Rattle.httparse.specs.Grammar.{RequestHead, ReadsRequest}
 use Rattle.httparse.proofs.GrammarLemmas.{request_unique}
 use Rattle.af_ops.specs.declared.op.Op.{Op}
 use Rattle.af_ops.specs.declared.served.Served.{Served}
-use Rattle.af_http.specs.Fronts.{Front, nothing, part, large, whole, front_of}
+use Rattle.af_http.specs.Fronts.{nothing, part, large, whole, front_of}
 use Rattle.af_http.specs.Requests.{Asked, asked_by, fields_of, is_taken, is_head}
-use Rattle.af_http.specs.Routes.{op_of}
 use Rattle.af_http.specs.Reading.{Begins, Stand, Parses, IsBadHead, IsRefused, status_of, refusal_text}
 use Rattle.af_http.specs.Run.{Exchange, asked_in, exchanges_text, end_after, AllGoOn, LastEnds, Ends, IsWritten, Makes, Answered, Run}
-use Rattle.af_http.specs.Turns.{Stops}
 use Rattle.af_http.specs.Laws.{IsFunction, IsByText}
 use Rattle.af_http.specs.declared.reply.Reply.{Reply}
 use Rattle.af_http.specs.declared.reply.Reply.TheVariants as reply

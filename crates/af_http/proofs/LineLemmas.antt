@@ -1,14 +1,14 @@
 -- Lines and the places of line feeds.
-use Rattle.std.proofs.Common.{◌≡◌, ◌≢◌, ℕ, zero, suc, zero-add, ◌||◌, ◌+◌, ◌-◌, ◌==◌, ◌<◌, ◌≤◌, Bool, true, false, cond, nat_lt, eqb, List, [], ◌∷◌, ◌++◌, length, get_or, take, drop, refl, sym, ap, ◌∙◌, arith, Option, Some, None, ◌⊎◌, inl, inr}
+use Rattle.std.proofs.Common.{◌≡◌, ◌≢◌, ℕ, zero, suc, ◌||◌, ◌+◌, ◌==◌, ◌<◌, ◌≤◌, Bool, true, false, cond, nat_lt, List, [], ◌∷◌, ◌++◌, length, get_or, take, drop, refl, sym, ap, ◌∙◌, arith, Option, Some, None, ◌⊎◌, inl, inr}
 use Rattle.std.specs.Option.{option_map}
 use Rattle.std.specs.List.{list_any}
-use Rattle.std.proofs.lemmas.Bool.{eqb-true, eqb-false, eq-eqb, ne_eqb, cases_eq, or_parts, both_ways, lt-ltb, le-ltb}
+use Rattle.std.proofs.lemmas.Bool.{eq-eqb, ne_eqb, or_parts, both_ways, lt-ltb, le-ltb}
 use Rattle.std.proofs.lemmas.Option.{none-some}
-use Rattle.std.proofs.lemmas.List.{length-take-le, take_at, drop_at, append-nil, append_assoc, take-append-drop, drop-drop, length-append, length_push, length-drop}
+use Rattle.std.proofs.lemmas.List.{length-take-le, take_at, drop_at, append-nil, append_assoc, take-append-drop, length-append}
 use Rattle.af_http.specs.Lines.{lines_of, onto, text_of, is_blank, begins_blank, after_blanks, HasNoLine}
-use Rattle.af_http.specs.Fronts.{Front, front_of, fronted, fronted_by, split_head, finished, unfinished, ahead, head_limit, large, whole, nothing, part}
+use Rattle.af_http.specs.Fronts.{Front, front_of, fronted, fronted_by, split_head, finished, unfinished, ahead, head_limit, large, whole, part}
 use Rattle.af_http.specs.Extents.{IsExtent, open_front, sized}
-use Rattle.af_http.specs.declared.extent.Extent.TheVariants.{Part, Large, Whole}
+use Rattle.af_http.specs.declared.extent.Extent.TheVariants.{Large, Whole}
 
 -- the first line ends at the first line feed
 pub first_line : (bytes : List ℕ) (n : ℕ) → n < length bytes → ((k : ℕ) → k < n → get_or bytes k 0 ≢ 10) → get_or bytes n 0 ≡ 10 → (tail : List ℕ)

@@ -1,17 +1,17 @@
 -- A router of paths without parts finds a path exactly where it is the text of a row.
-use Rattle.std.proofs.Common.{◌≡◌, ◌≢◌, ◌<◌, ◌+◌, ◌-◌, ◌==◌, ◌&&◌, ℕ, zero, suc, Bool, true, false, cond, List, [], ◌∷◌, length, take, get_or, refl, sym, ap, ◌∙◌, subst, Option, Some, None, arith}
-use Rattle.std.specs.Prelude.{nat_lt, codes, bytes_eq, nat_eq, MatchOption, IsUtf8, slice_index}
+use Rattle.std.proofs.Common.{◌≡◌, ◌≢◌, ◌<◌, ◌-◌, ◌==◌, ◌&&◌, ℕ, zero, suc, Bool, true, false, cond, List, [], ◌∷◌, length, take, get_or, refl, sym, ap, ◌∙◌, subst, Option, Some, None, arith}
+use Rattle.std.specs.Prelude.{nat_lt, codes, bytes_eq, MatchOption, IsUtf8, slice_index}
 use Rattle.std.proofs.lemmas.Str.{IsUtf8-from_ascii}
 use Rattle.std.proofs.lemmas.Slice.Eq.{bytes_eq-Decides}
 use Rattle.std.specs.Option.{option_map}
 use Rattle.std.specs.List.{list_all}
-use Rattle.std.proofs.lemmas.Bool.{eqb-true, eq-eqb, ne_eqb, and_parts, ltb-true, false_from_ne_true}
+use Rattle.std.proofs.lemmas.Bool.{eq-eqb, ne_eqb, and_parts, ltb-true, false_from_ne_true}
 use Rattle.matchit.specs.Rows.{RowsOf, param_token, catch_all_token}
-use Rattle.matchit.specs.Seek.{seek, own, step, or_else, param_step, segment, has_slash, first}
+use Rattle.matchit.specs.Seek.{seek, own, step, or_else, param_step, has_slash, first}
 use Rattle.matchit.specs.Router.{RouteOf}
 use Rattle.matchit.proofs.OnLiterals.{matchit_on_literals}
-use Rattle.af_http.specs.Routes.{table, place_in, place_of, path_of}
-use Rattle.af_http.specs.Table.{Rows, table_rows}
+use Rattle.af_http.specs.Routes.{place_of, path_of}
+use Rattle.af_http.specs.Table.{table_rows}
 use Rattle.af_http.specs.declared.place.Place.{Place}
 use Rattle.af_http.specs.declared.place.Place.TheVariants as place
 

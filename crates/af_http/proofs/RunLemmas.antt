@@ -1,7 +1,7 @@
 -- A run, one turn at a time.
-use Rattle.std.proofs.Common.{◌≡◌, ◌<◌, ◌≤◌, ◌+◌, ◌*◌, ◌||◌, ◌==◌, ◌⊎◌, inl, inr, ℕ, zero, suc, Bool, true, false, cond, List, [], ◌∷◌, ◌++◌, map, length, refl, sym, ap, ◌∙◌, subst, Option, Some, None, arith}
+use Rattle.std.proofs.Common.{◌≡◌, ◌<◌, ◌≤◌, ◌+◌, ◌*◌, ◌||◌, ◌⊎◌, inl, inr, ℕ, Bool, true, false, List, [], ◌∷◌, ◌++◌, length, refl, sym, ap, ◌∙◌, subst, Option, Some, None, arith}
 use Rattle.std.specs.Prelude.{Result, Ok, Err}
-use Rattle.std.proofs.lemmas.List.{append-nil, append_assoc, length_push, map-append}
+use Rattle.std.proofs.lemmas.List.{append-nil, append_assoc, length_push}
 use Rattle.std.proofs.lemmas.Bool.{eq-eqb, cases_eq}
 use Rattle.af_ops.specs.declared.op.Op.{Op}
 use Rattle.af_ops.specs.declared.served.Served.{Served}
@@ -11,8 +11,8 @@ use Rattle.af_http.specs.Answers.{memory_text}
 use Rattle.af_http.specs.Reading.{Begins, Stand, closes_after}
 use Rattle.af_http.specs.Run.{Exchange, asked_in, exchange_text, exchanges_text, end_by, end_after, AllGoOn, LastEnds, Ends, IsWritten, Makes, Answered, Run}
 use Rattle.af_http.specs.Reads.{Awaited, Reads}
-use Rattle.af_http.specs.Sending.{Sent, Place, Puts, started}
-use Rattle.af_http.specs.Turns.{Outcome, EndsSo, CountsRead, CountsReadFault, CountsWriteFault, Stops, Exchanges, Turned, Ran, IsMemoryText}
+use Rattle.af_http.specs.Sending.{Sent, Puts, started}
+use Rattle.af_http.specs.Turns.{CountsRead, CountsReadFault, CountsWriteFault, Stops, Exchanges, Turned, Ran, IsMemoryText}
 use Rattle.af_http.proofs.ReadLemmas.{asked_push, awaited_push, reads_none, reads_anyway, reads_at, reads_then}
 use Rattle.af_http.specs.declared.stream.Failed.{Failed}
 use Rattle.af_http.specs.declared.ended.Ended.{Ended}

@@ -1,28 +1,27 @@
 -- A turn over the bytes that are held is one over the text.
-use Rattle.std.proofs.Common.{◌≡◌, ◌≤◌, ◌+◌, ◌⊎◌, inl, inr, arith, ℕ, Bool, true, false, cond, List, [], ◌∷◌, ◌++◌, length, take, drop, refl, sym, ap, ◌∙◌, subst, Option, Some, None}
+use Rattle.std.proofs.Common.{◌≡◌, ◌≤◌, ◌+◌, ◌⊎◌, inl, inr, arith, ℕ, Bool, true, false, List, [], ◌∷◌, ◌++◌, take, drop, refl, sym, ap, ◌∙◌, subst, Option, Some, None}
 use Rattle.std.specs.Prelude.{Result, Ok, Err}
 use Rattle.std.proofs.lemmas.List.{append-nil, append_assoc}
-use Rattle.httparse.specs.Grammar.{RequestHead}
 use Rattle.af_ops.specs.declared.op.Op.{Op}
 use Rattle.af_ops.specs.declared.served.Served.{Served}
 use Rattle.af_ops.specs.declared.status.Status.{Status}
-use Rattle.af_http.specs.Fronts.{nothing, part, large, whole, front_of}
+use Rattle.af_http.specs.Fronts.{whole, front_of}
 use Rattle.af_http.specs.Extents.{open_front, IsExtent}
 use Rattle.af_http.specs.Gathering.{Holds, CountsReads}
-use Rattle.af_http.specs.Requests.{Asked, asked_by, is_head}
+use Rattle.af_http.specs.Requests.{Asked, is_head}
 use Rattle.af_http.specs.Replies.{reply_text, wants_memory}
-use Rattle.af_http.specs.Reading.{Begins, IsRefused, IsOpen, closes_after, refusal_text, status_of}
-use Rattle.af_http.specs.Run.{Exchange, exchange_text, end_by, end_after, Makes}
+use Rattle.af_http.specs.Reading.{IsRefused, IsOpen, closes_after, refusal_text, status_of}
+use Rattle.af_http.specs.Run.{exchange_text, end_by, end_after}
 use Rattle.af_http.specs.Reads.{Awaits}
 use Rattle.af_http.specs.Sending.{Place, Puts, started}
-use Rattle.af_http.specs.Turns.{Outcome, EndsSo, CountsRead, Stops, Answers, Refuses, Heads, Exchanges, Turns, Turned}
+use Rattle.af_http.specs.Turns.{Outcome, EndsSo, CountsRead, Stops, Heads, Turns}
 use Rattle.af_http.specs.declared.stream.Failed.{Failed}
 use Rattle.af_http.specs.declared.extent.Extent.TheVariants.{Part}
 use Rattle.af_http.specs.declared.gathering.Gathered.{Gathered}
 use Rattle.af_http.specs.declared.gathering.Gathered.TheVariants as gathered
 use Rattle.af_http.specs.declared.reply.Reply.{Reply}
 use Rattle.af_http.specs.declared.refusal.Refusal.{Refusal}
-use Rattle.af_http.specs.declared.refusal.Refusal.TheVariants.{BadHead, Incomplete, HeadTooLarge}
+use Rattle.af_http.specs.declared.refusal.Refusal.TheVariants.{BadHead}
 use Rattle.af_http.specs.declared.ended.Ended.{Ended}
 use Rattle.af_http.specs.declared.ended.Ended.TheVariants as end
 

@@ -1,5 +1,5 @@
 -- The bytes of an answer (RFC 9112, section 4; RFC 9110, sections 8.3, 8.6, 10.2.1 and 11.6.1; RFC 9457; this product's own order of fields).
-use Rattle.std.specs.Prelude.{◌≡◌, ℕ, Bool, true, false, cond, List, [], ◌∷◌, ◌++◌, length, Option, Some, None, codes, decimal}
+use Rattle.std.specs.Prelude.{ℕ, Bool, true, false, cond, List, [], ◌++◌, length, Option, Some, None, codes, decimal}
 use Rattle.std.specs.Option.{option_copied}
 use Rattle.serde_json.specs.Written.{compact_text}
 use Rattle.af_ops.specs.Replies.{fault_data}

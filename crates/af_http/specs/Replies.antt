@@ -1,11 +1,9 @@
 -- What is made of a request, and its bytes.
-use Rattle.std.specs.Prelude.{ℕ, Bool, true, false, List, Option, Some, None, codes}
-use Rattle.af_ops.specs.declared.served.Served.{Served}
+use Rattle.std.specs.Prelude.{ℕ, Bool, true, false, List, Some, None, codes}
 use Rattle.af_ops.specs.declared.served.Served.TheVariants as served
 use Rattle.af_ops.specs.declared.shown_answer.Shown.{Shown}
 use Rattle.af_ops.specs.declared.status.Status.TheVariants as status
 use Rattle.af_http.specs.Answers.{Told, problem, answer_text, memory_text, lost_text}
-use Rattle.af_http.specs.declared.route_fault.RouteFault.{RouteFault}
 use Rattle.af_http.specs.declared.route_fault.RouteFault.TheVariants as fault
 use Rattle.af_http.specs.declared.reply.Reply.{Reply}
 use Rattle.af_http.specs.declared.reply.Reply.TheVariants as reply

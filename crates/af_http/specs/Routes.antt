@@ -1,5 +1,5 @@
 -- Which operation a request names (Airflow 2, "Stable REST API"): the table of paths, and what each method asks for there.
-use Rattle.std.specs.Prelude.{ℕ, Bool, ◌==◌, List, [], ◌∷◌, Option, Some, None, Result, Ok, Err, cond, codes, bytes_eq}
+use Rattle.std.specs.Prelude.{ℕ, ◌==◌, List, [], ◌∷◌, Option, Some, None, Result, Ok, Err, cond, codes, bytes_eq}
 use Rattle.af_ops.specs.declared.op.Op.{Op}
 use Rattle.af_ops.specs.declared.op.Op.TheVariants as op
 use Rattle.af_http.specs.declared.place.Place.{Place}

@@ -1,19 +1,17 @@
 -- The rows that a table shows, against the entries that it keeps.
-use Rattle.std.proofs.Common.{◌≡◌, ℕ, List, [], ◌∷◌, Bool, true, false, ◌&&◌, ◌||◌, cond, not, Option, Some, None, refl, sym, ap, ◌∙◌, map, nat_eq, is_some, is_eq, length}
-use Rattle.std.specs.List.{find, list_any}
+use Rattle.std.proofs.Common.{◌≡◌, ℕ, List, [], ◌∷◌, Bool, true, false, ◌||◌, cond, Some, refl, sym, ap, ◌∙◌, is_some, is_eq}
+use Rattle.std.specs.List.{find}
 use Rattle.std.specs.Option.{option_map}
 use Rattle.std.specs.Ordering.{nat_cmp, match_ordering}
 use Rattle.std.specs.declared.cmp.Ordering.{Ordering}
 use Rattle.std.specs.declared.cmp.Ordering.TheVariants.{Less, Equal, Greater}
-use Rattle.std.specs.Cmp.Lexicographic.{pointwise, slice_cmp, texts_ties}
+use Rattle.std.specs.Cmp.Lexicographic.{slice_cmp, texts_ties}
 use Rattle.std.specs.Map.{lookup, keys_of}
 use Rattle.std.specs.BTreeMap.{insert_entry, is_at}
-use Rattle.std.specs.BTreeSet.{replace_key}
 use Rattle.std.proofs.lemmas.Map.Lookups.{exact_bytes}
 use Rattle.af_role.specs.Pairs.{PairRow}
-use Rattle.af_role.specs.Roles.{RoleRow}
 use Rattle.af_policy.specs.declared.account.Account.{Account}
-use Rattle.af_policy.specs.Rows.{UserRow, by_role_name, by_user_name, has_role, has_user, role_names, same_name, user_names, with_role, with_user}
+use Rattle.af_policy.specs.Rows.{has_role, has_user, role_names, same_name, user_names, with_role, with_user}
 use Rattle.af_policy.specs.Tables.{pairs_of, role_rows, roles_of, user_rows}
 
 -- the entries' keys are the rows' names

@@ -1,15 +1,14 @@
 -- The tests of actions, resources and permissions decide that they are the same.
-use Rattle.std.proofs.Common.{◌≡◌, ℕ, List, [], ◌∷◌, get_or, Bool, true, false, ◌&&◌, ◌==◌, cond, nat_eq, refl, sym, ap, ◌∙◌}
+use Rattle.std.proofs.Common.{◌≡◌, ℕ, List, get_or, ◌==◌, cond, refl, sym, ap, ◌∙◌}
 use Rattle.std.specs.Bool.{Decides}
-use Rattle.std.specs.Cmp.Lexicographic.{pointwise, bytes_decides}
+use Rattle.std.specs.Cmp.Lexicographic.{bytes_decides}
 use Rattle.std.proofs.lemmas.Bool.Decides.{Decides-and, Decides-eqb, Decides-like}
 use Rattle.af_role.specs.declared.action.Action.{Action}
 use Rattle.af_role.specs.declared.action.Action.TheVariants.{Create, Read, Edit, Delete}
-use Rattle.af_role.specs.declared.resource.ResourceKind.{ResourceKind}
 use Rattle.af_role.specs.declared.resource.ResourceKind.TheVariants.{Dags, DagRuns, TaskInstances, Pools, Variables, AuditLogs, Roles, Users}
 use Rattle.af_role.specs.declared.resource.Resource.{Resource}
 use Rattle.af_role.specs.declared.resource.Resource.TheVariants.{Kind, Dag}
-use Rattle.af_role.specs.Resources.{action_rank, actions, kind_rank, kinds, resource_id, resource_rank, same_action, same_resource}
+use Rattle.af_role.specs.Resources.{action_rank, actions, kinds, resource_id, resource_rank, same_action, same_resource}
 use Rattle.af_role.specs.Pairs.{PairRow, same_pair}
 
 -- the action at a place in their order

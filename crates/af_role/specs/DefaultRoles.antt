@@ -1,5 +1,5 @@
 -- The default roles (Airflow 2, "Access Control", default roles; the permissions of each are this product's own list).
-use Rattle.std.specs.Prelude.{ℕ, List, [], ◌∷◌, ◌++◌, map, codes}
+use Rattle.std.specs.Prelude.{List, [], ◌∷◌, ◌++◌, map, codes}
 use Rattle.af_role.specs.declared.action.Action.{Action}
 use Rattle.af_role.specs.declared.action.Action.TheVariants.{Create, Read, Edit, Delete}
 use Rattle.af_role.specs.declared.resource.ResourceKind.{ResourceKind}

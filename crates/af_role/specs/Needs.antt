@@ -1,5 +1,5 @@
 -- How a requirement is written: `DAG:d.action` at the DAG d, else `Resource.action` (this product's own rule).
-use Rattle.std.specs.Prelude.{ℕ, List, ◌++◌, Option, Some, None, Bool, ◌&&◌, if◌then◌else◌, codes}
+use Rattle.std.specs.Prelude.{ℕ, List, ◌++◌, Option, Some, None, ◌&&◌, if◌then◌else◌, codes}
 use Rattle.af_role.specs.declared.need.Need.{Need}
 use Rattle.af_role.specs.declared.resource.ResourceKind.TheVariants.{Dags}
 use Rattle.af_role.specs.declared.resource.Resource.{Resource}

@@ -1,5 +1,5 @@
 -- Permissions: which pairs of an action and a resource there are, and the order in which they are shown.
-use Rattle.std.specs.Prelude.{◌≡◌, ℕ, nat_eq, List, ◌++◌, Bool, true, not, ◌&&◌, Option, Some, None, if◌then◌else◌, codes, fold}
+use Rattle.std.specs.Prelude.{◌≡◌, ℕ, nat_eq, List, ◌++◌, Bool, true, not, Option, Some, None, if◌then◌else◌, codes, fold}
 use Rattle.std.specs.Ordering.{eq_by_cmp, eq_of_both, nat_cmp, on, then_cmp}
 use Rattle.std.specs.Cmp.{both_tied, unsigned_ties}
 use Rattle.std.specs.Cmp.Lexicographic.{pointwise, slice_cmp, texts_ties}

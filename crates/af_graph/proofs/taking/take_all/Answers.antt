@@ -1,5 +1,5 @@
-use Rattle.std.proofs.Common.{◌≡◌, sym, ap, ◌∙◌}
-use Rattle.af_graph.specs.Order.{one_more, taken_in}
+use Rattle.std.proofs.Common.{sym, ap, ◌∙◌}
+use Rattle.af_graph.specs.Order.{one_more}
 use Rattle.af_graph.proofs.PaceLemmas.{taken_none, taken_more}
 use Rattle.af_graph.proofs.taking.take_all.Goals as goal
 

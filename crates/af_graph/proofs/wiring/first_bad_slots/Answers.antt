@@ -1,4 +1,4 @@
-use Rattle.std.proofs.Common.{◌≡◌, ◌∙◌}
+use Rattle.std.proofs.Common.{◌∙◌}
 use Rattle.af_graph.specs.Definition.{has_bad_slots}
 use Rattle.af_graph.proofs.PlaceLemmas.{position_is}
 use Rattle.af_graph.proofs.wiring.first_bad_slots.Goals as goal

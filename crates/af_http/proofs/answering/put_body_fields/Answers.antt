@@ -1,5 +1,4 @@
-use Rattle.std.proofs.Common.{◌∙◌}
-use Rattle.af_http.proofs.SendLemmas.{put_also, put_as, put_nothing}
+use Rattle.af_http.proofs.SendLemmas.{put_also, put_as}
 use Rattle.af_http.proofs.answering.put_body_fields.Goals as goal
 
 pub returns-in-Some : goal.returns-in-Some

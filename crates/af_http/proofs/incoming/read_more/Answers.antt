@@ -1,4 +1,4 @@
-use Rattle.std.proofs.Common.{◌≡◌, ◌+◌, ◌≤◌, ◌<◌, ◌++◌, ℕ, List, length, take, drop, ap, ◌∙◌, sym, arith, refl, nat_lt, false}
+use Rattle.std.proofs.Common.{◌≡◌, ◌++◌, take, drop, ap, ◌∙◌, arith, nat_lt, false}
 use Rattle.std.proofs.lemmas.Bool.{ltb-false}
 use Rattle.af_http.proofs.IncomingLemmas.{fill_more}
 use Rattle.af_http.proofs.incoming.read_more.Goals as goal

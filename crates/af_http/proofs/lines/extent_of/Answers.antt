@@ -1,6 +1,5 @@
-use Rattle.std.proofs.Common.{◌≡◌, List, ℕ, take, ap, ◌∙◌, sym, arith}
+use Rattle.std.proofs.Common.{ap, ◌∙◌, sym}
 use Rattle.af_http.specs.Lines.{is_blank}
-use Rattle.af_http.specs.Extents.{IsExtent}
 use Rattle.af_http.proofs.LineLemmas.{passed_more, found_end, extent_found, large_part, open_part}
 use Rattle.af_http.proofs.lines.extent_of.Goals as goal
 

@@ -1,4 +1,4 @@
-use Rattle.std.proofs.Common.{◌∙◌, arith, sym, take}
+use Rattle.std.proofs.Common.{◌∙◌, arith, sym}
 use Rattle.std.proofs.lemmas.Bool.{eqb-true, eq-eqb}
 use Rattle.af_http.proofs.RouteLemmas.{before_query, no_query}
 use Rattle.af_http.proofs.routes.path_of.Goals as goal

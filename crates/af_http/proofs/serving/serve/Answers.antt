@@ -1,4 +1,4 @@
-use Rattle.std.proofs.Common.{◌≡◌, [], sym}
+use Rattle.std.proofs.Common.{[], sym}
 use Rattle.std.proofs.lemmas.List.{append-nil}
 use Rattle.af_http.proofs.RunLemmas.{turned_away}
 use Rattle.af_http.proofs.serving.serve.Goals as goal

@@ -1,4 +1,3 @@
-use Rattle.std.proofs.Common.{◌≡◌, List, ℕ}
 use Rattle.af_http.proofs.RunLemmas.{ran_whole, ran_short, ran_failed, counts_write, fine_is, read_fine}
 use Rattle.af_http.proofs.serving.serve_all.Goals as goal
 

@@ -1,4 +1,4 @@
-use Rattle.std.proofs.Common.{◌≡◌, ◌∙◌, ℕ, List, refl, sym, arith}
+use Rattle.std.proofs.Common.{◌∙◌, refl, arith}
 use Rattle.af_http.proofs.RunLemmas.{begun_none, begun_more, begun_ends, begun_fails, goes_few, count_run, fine_is, faults_of, turns_of}
 use Rattle.af_http.proofs.serving.serve_each.Goals as goal
 

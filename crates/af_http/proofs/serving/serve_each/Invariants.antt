@@ -1,4 +1,4 @@
-use Rattle.std.proofs.Common.{◌≡◌, ◌+◌, ◌*◌, ◌≤◌, List, ℕ}
+use Rattle.std.proofs.Common.{◌≡◌}
 use Rattle.af_http.proofs.RunLemmas.{Begun}
 use Rattle.af_http.proofs.serving.serve_each.Given as goal
 

@@ -1,4 +1,4 @@
-use Rattle.std.proofs.Common.{◌≡◌, ◌∙◌, ◌++◌, List, ℕ, [], refl, inl, inr}
+use Rattle.std.proofs.Common.{◌∙◌, ◌++◌, [], refl, inl, inr}
 use Rattle.af_http.specs.Reading.{refusal_text}
 use Rattle.af_http.specs.declared.refusal.Refusal.TheVariants.{Incomplete, HeadTooLarge}
 use Rattle.af_http.proofs.TurnLemmas.{Same, front_now, open_now, head_turn, refuse_stops, put_ok, put_err, put_then}

@@ -1,4 +1,3 @@
-use Rattle.std.proofs.Common.{◌≡◌, ◌<◌, length, arith}
 use Rattle.af_graph.proofs.RowLemmas.{length-downstream_rows}
 use Rattle.af_graph.proofs.dag.Dag.downstream.Goals as goal
 

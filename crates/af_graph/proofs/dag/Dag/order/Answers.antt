@@ -1,7 +1,7 @@
-use Rattle.std.proofs.Common.{◌≡◌, ◌<◌, ℕ, List, length, ◌∙◌, subst}
+use Rattle.std.proofs.Common.{◌<◌, ℕ, List, length, ◌∙◌, subst}
 use Rattle.std.specs.Prelude.{Contains}
 use Rattle.af_graph.specs.Graph.{upstream_rows}
-use Rattle.af_graph.specs.Order.{order_of, IsOrder}
+use Rattle.af_graph.specs.Order.{IsOrder}
 use Rattle.af_graph.specs.declared.dag_spec.DagSpec.{DagSpec}
 use Rattle.af_graph.proofs.DagLemmas.{order_whole, order_ruled}
 use Rattle.af_graph.proofs.dag.Dag.order.Goals as goal

@@ -1,5 +1,5 @@
 use Rattle.std.proofs.Common.{◌≡◌, ◌<◌, ℕ, false, map, take}
-use Rattle.af_graph.specs.Graph.{named_rows, place_of}
+use Rattle.af_graph.specs.Graph.{place_of}
 use Rattle.std.specs.List.{filter_map}
 use Rattle.af_graph.specs.Definition.{at_place, names_nobody}
 use Rattle.af_graph.proofs.index.Index.named.Given as goal

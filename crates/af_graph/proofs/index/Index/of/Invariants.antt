@@ -1,4 +1,4 @@
-use Rattle.std.proofs.Common.{◌≡◌, ◌<◌, ℕ, List, false, take}
+use Rattle.std.proofs.Common.{◌≡◌, ◌<◌, ℕ, false, take}
 use Rattle.af_graph.specs.Definition.{is_repeated}
 use Rattle.af_graph.specs.Steps.{IsIndexOf}
 use Rattle.af_graph.proofs.index.Index.of.Given as goal

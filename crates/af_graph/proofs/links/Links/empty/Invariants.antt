@@ -1,4 +1,4 @@
-use Rattle.std.proofs.Common.{◌≡◌, [], length, map, replicate}
+use Rattle.std.proofs.Common.{◌≡◌, [], map, replicate}
 use Rattle.af_graph.proofs.links.Links.empty.Given as goal
 
 abbrev pub invariant-loop : goal.invariant-loop

@@ -1,4 +1,4 @@
-use Rattle.std.proofs.Common.{◌≡◌, ◌<◌, ℕ, length, ap, ◌∙◌, arith}
+use Rattle.std.proofs.Common.{◌≡◌, length, ap, ◌∙◌, arith}
 use Rattle.std.specs.List.{filter, range_with_len}
 use Rattle.af_graph.specs.Rows.{row_at, is_among, with_each}
 use Rattle.af_graph.proofs.RowLemmas.{fresh_rows, turned_more, turned_all}

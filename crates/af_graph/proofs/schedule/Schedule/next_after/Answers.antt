@@ -1,4 +1,4 @@
-use Rattle.std.proofs.Common.{◌∙◌, ◌+◌, ◌<◌, ◌≤◌, inl, inr}
+use Rattle.std.proofs.Common.{◌∙◌, ◌+◌, ◌<◌, inl, inr}
 use Rattle.std.proofs.lemmas.Bool.{cases_lt, false≢true}
 use Rattle.af_names.specs.Instants.{last_micros}
 use Rattle.af_graph.specs.Schedules.{is_scheduled}

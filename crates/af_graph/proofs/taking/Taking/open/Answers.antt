@@ -1,8 +1,8 @@
-use Rattle.std.proofs.Common.{◌≡◌, ◌<◌, ◌≤◌, ◌&&◌, ℕ, List, [], Bool, true, false, not, eqb, ltb, length, sym, refl, ap, ◌∙◌, arith}
+use Rattle.std.proofs.Common.{◌≡◌, ◌<◌, ◌&&◌, ℕ, List, [], eqb, ltb, length, sym, ap, ◌∙◌, arith}
 use Rattle.std.proofs.lemmas.Bool.{false≢true}
 use Rattle.af_graph.specs.Rows.{row_at, is_among}
 use Rattle.af_graph.specs.Order.{is_free}
-use Rattle.af_graph.specs.Steps.{left_of, KeepsPace}
+use Rattle.af_graph.specs.Steps.{left_of}
 use Rattle.af_graph.proofs.TakingLemmas.{free_is}
 use Rattle.af_graph.proofs.PaceLemmas.{row_short, left_none}
 use Rattle.af_graph.proofs.taking.Taking.open.Goals as goal

@@ -1,13 +1,11 @@
-use Rattle.std.proofs.Common.{◌≡◌, ◌<◌, ◌≤◌, ◌&&◌, ◌+◌, ◌++◌, ◌∷◌, ℕ, List, [], Bool, true, false, not, cond, eqb, ltb, length, get_or, take, vec_len, sym, refl, ap, ◌∙◌, subst, ⊎_elim, arith}
-use Rattle.std.specs.Prelude.{All}
+use Rattle.std.proofs.Common.{◌≡◌, ◌<◌, ◌≤◌, ◌&&◌, ◌+◌, ◌++◌, ◌∷◌, ℕ, List, [], Bool, false, not, cond, eqb, ltb, length, get_or, take, vec_len, sym, refl, ap, ◌∙◌, subst, ⊎_elim, arith}
 use Rattle.std.specs.List.{filter, range_with_len}
 use Rattle.std.proofs.lemmas.Bool.{false≢true, cases_lt, ltb-true, and_parts}
 use Rattle.std.proofs.lemmas.List.{nil_from_length}
 use Rattle.std.proofs.lemmas.List.Elements.{All-same}
 use Rattle.std.proofs.lemmas.Result.{on_ok_weaker}
 use Rattle.af_graph.specs.Rows.{row_at, is_among}
-use Rattle.af_graph.specs.Order.{one_more}
-use Rattle.af_graph.specs.Steps.{left_of, is_ready, KeepsPace, IsReleased}
+use Rattle.af_graph.specs.Steps.{left_of, is_ready, IsReleased}
 use Rattle.af_graph.specs.declared.taking.Taking.{Taking}
 use Rattle.af_graph.proofs.TakingLemmas.{all_from_among, row_once, left_less}
 use Rattle.af_graph.proofs.PaceLemmas.{pair-length, up_row, down_row, down_is, ready_free, none_more, next_is, popped, pace_after}

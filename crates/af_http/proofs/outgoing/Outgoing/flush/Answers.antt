@@ -1,4 +1,4 @@
-use Rattle.std.proofs.Common.{◌≡◌, sym}
+use Rattle.std.proofs.Common.{◌≡◌}
 use Rattle.std.proofs.lemmas.Result.{err_from_is_err_and}
 use Rattle.af_http.proofs.SendLemmas.{flush_err}
 use Rattle.af_http.proofs.outgoing.Outgoing.flush.Goals as goal

@@ -1,5 +1,4 @@
-use Rattle.std.proofs.Common.{arith}
-use Rattle.af_http.proofs.SendLemmas.{put_held, put_after, put_not}
+use Rattle.af_http.proofs.SendLemmas.{put_after, put_not}
 use Rattle.af_http.proofs.outgoing.Outgoing.put.Goals as goal
 
 pub returns-in-Ok : goal.returns-in-Ok

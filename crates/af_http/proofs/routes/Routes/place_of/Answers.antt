@@ -1,4 +1,4 @@
-use Rattle.std.proofs.Common.{◌≡◌, sym, ap, ◌∙◌}
+use Rattle.std.proofs.Common.{sym, ap, ◌∙◌}
 use Rattle.af_http.specs.Routes.{place_of}
 use Rattle.matchit.specs.Seek.{first}
 use Rattle.af_http.proofs.RouteLemmas.{value_in, found_place, match_value, not_text}

@@ -1,4 +1,3 @@
-use Rattle.std.proofs.Common.{◌≡◌}
 use Rattle.af_policy.proofs.TableLemmas.{role_names-role_rows}
 use Rattle.af_policy.proofs.role_table.RoleTable.facts.Goals as goal
 

@@ -1,4 +1,4 @@
-use Rattle.std.proofs.Common.{◌≡◌, ◌∙◌}
+use Rattle.std.proofs.Common.{◌∙◌}
 use Rattle.af_policy.proofs.TableLemmas.{pairs_of-role_rows, role_names-role_rows}
 use Rattle.af_policy.proofs.role_table.RoleTable.get.Goals as goal
 

@@ -1,4 +1,4 @@
-use Rattle.std.proofs.Common.{◌≡◌, ◌∙◌}
+use Rattle.std.proofs.Common.{◌∙◌}
 use Rattle.af_policy.proofs.TableLemmas.{has_role-role_rows}
 use Rattle.af_policy.proofs.role_table.RoleTable.has.Goals as goal
 

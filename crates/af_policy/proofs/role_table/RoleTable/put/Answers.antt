@@ -1,4 +1,4 @@
-use Rattle.std.proofs.Common.{◌≡◌, ◌∙◌, ap}
+use Rattle.std.proofs.Common.{◌∙◌, ap}
 use Rattle.af_policy.specs.Rows.{with_role}
 use Rattle.af_policy.specs.Tables.{role_rows}
 use Rattle.af_policy.proofs.TableLemmas.{role_rows-insert_entry}

@@ -1,4 +1,3 @@
-use Rattle.std.proofs.Common.{◌≡◌}
 use Rattle.af_policy.proofs.TableLemmas.{user_names-user_rows}
 use Rattle.af_policy.proofs.user_table.UserTable.facts.Goals as goal
 

@@ -1,4 +1,4 @@
-use Rattle.std.proofs.Common.{◌≡◌, ◌∙◌}
+use Rattle.std.proofs.Common.{◌∙◌}
 use Rattle.af_policy.proofs.TableLemmas.{has_user-user_rows}
 use Rattle.af_policy.proofs.user_table.UserTable.has.Goals as goal
 

@@ -1,4 +1,4 @@
-use Rattle.std.proofs.Common.{◌≡◌, ◌∙◌, ap, Some}
+use Rattle.std.proofs.Common.{◌∙◌, ap, Some}
 use Rattle.std.specs.Option.{option_map}
 use Rattle.af_policy.proofs.TableLemmas.{roles_of-user_rows, user_names-user_rows}
 use Rattle.af_policy.proofs.user_table.UserTable.roles_of.Goals as goal
