@@ -1,4 +1,5 @@
 mod DagLemmas
 mod LawLemmas
+mod ListingLemmas
 mod PageLemmas
 mod TokenLemmas

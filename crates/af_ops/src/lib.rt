@@ -5,6 +5,7 @@ mod answer;
 mod body;
 mod dag_row;
 pub mod laws;
+mod listing;
 mod needs_of;
 mod op;
 mod prepared;

@@ -8,11 +8,12 @@ ghost use Rattle.af_ops.specs.Endpoints.{dag_of};
 
 use crate::answer::{Answer, CallFault, OpFault, Under};
 use crate::body::Body;
+use crate::listing::dags_body;
 use crate::op::Op;
 use crate::reply::Reply;
 use crate::shown_answer::Shown;
 use crate::status::Status;
-use crate::writing::{dags_body, fault_body, version_body};
+use crate::writing::{fault_body, version_body};
 use af_names::DagId;
 use af_role::Need;
 use std::alloc::{AllocError, Global};
