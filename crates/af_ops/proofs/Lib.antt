@@ -1,4 +1,5 @@
 mod DagLemmas
+mod DagRowsLemmas
 mod LawLemmas
 mod ListingLemmas
 mod PageLemmas

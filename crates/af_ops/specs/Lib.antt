@@ -1,3 +1,4 @@
+pub mod DagRows
 pub mod Effects
 pub mod Endpoints
 pub mod Laws

@@ -4,6 +4,7 @@
 mod answer;
 mod body;
 mod dag_row;
+mod dag_rows;
 pub mod laws;
 mod listing;
 mod needs_of;
@@ -23,6 +24,7 @@ mod writing;
 pub use answer::{Answer, CallFault, OpFault, Under};
 pub use body::Body;
 pub use dag_row::DagRow;
+pub use dag_rows::DagRows;
 pub use needs_of::needs;
 pub use op::{Endpoint, Op};
 pub use prepared::{Prepared, commit, prepare};

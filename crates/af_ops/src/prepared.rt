@@ -1,10 +1,11 @@
-ghost use Rattle.std.specs.Prelude.{◌≡◌, None, IfOk, OnOk, length};
+ghost use Rattle.std.specs.Prelude.{◌≡◌, None, IfOk, length};
 ghost use Rattle.af_ops.specs.Effects.{effect_of, is_change, after};
 ghost use Rattle.af_ops.specs.Listings.{shown_dags, page, default_limit};
 ghost use Rattle.af_ops.specs.Steps.{TakesRow};
 
 use crate::answer::OpFault;
 use crate::dag_row::DagRow;
+use crate::dag_rows::DagRows;
 use crate::op::Op;
 use crate::reply::{DagPage, Reply};
 use crate::state::State;
@@ -85,28 +86,23 @@ fn list_dags<R: Reader>(alloc: Global, dags: &[DagRow], reader: &R) -> Result<Da
     ensures rows { IfOk result (λ told. told.rows ≡ page default_limit 0 (shown_dags (R.reads reader.now) dags.now)) }
     ensures total { IfOk result (λ told. told.total ≡ length (shown_dags (R.reads reader.now) dags.now)) }
 {
-    let mut rows = Vec::with_capacity(alloc, LIMIT.min(dags.len()))?;
+    let mut rows = DagRows::with_room(alloc, LIMIT.min(dags.len()))?;
     let mut total = 0usize;
     for row in dags {
         if reader.readable(&row.dag_id) {
-            tell_row(alloc, &mut rows, total, row)?;
+            rows = with_told(rows, total, row)?;
             total += 1;
         }
     }
     Ok(DagPage::of(rows, total))
 }
 
-/// Takes a row into the page, if so many rows before it left room.
-fn tell_row(
-    alloc: Global,
-    rows: &mut Vec<DagRow>,
-    before: usize,
-    row: &DagRow,
-) -> Result<(), AllocError>
-    ensures { OnOk result (TakesRow before row.now rows.old.items rows.new.items) }
+/// The page with a row at its end, if so many rows before it left room.
+fn with_told(rows: DagRows, before: usize, row: &DagRow) -> Result<DagRows, AllocError>
+    ensures { IfOk result (TakesRow before row.now rows) }
 {
     if before < LIMIT {
-        rows.push(row.copied(alloc)?)?;
+        return Ok(rows.with(row)?);
     }
-    Ok(())
+    Ok(rows)
 }

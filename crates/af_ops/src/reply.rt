@@ -1,12 +1,12 @@
 ghost use Rattle.std.specs.Prelude.{◌≡◌};
 
-use crate::dag_row::DagRow;
+use crate::dag_rows::DagRows;
 use std::marker::Model;
 
 /// A page of the list of DAGs, and how many DAGs the whole list has.
 #[derive(Drop)]
 pub struct DagPage {
-    rows: Vec<DagRow>,
+    rows: DagRows,
     total: usize,
 }
 
@@ -15,23 +15,23 @@ impl Model for DagPage {
 
     ghost Value = { ListedDags };
 
-    ghost view = { λ p. record { rows = p.rows.items; total = p.total } };
+    ghost view = { λ p. record { rows = p.rows; total = p.total } };
 }
 
 impl DagPage {
     /// The page of these rows.
-    pub fn of(rows: Vec<DagRow>, total: usize) -> DagPage
-        ensures rows { result.rows ≡ rows.items }
+    pub fn of(rows: DagRows, total: usize) -> DagPage
+        ensures rows { result.rows ≡ rows }
         ensures total { result.total ≡ total }
     {
         DagPage { rows, total }
     }
 
     /// The rows that it tells.
-    pub fn rows(&self) -> &[DagRow]
+    pub fn rows(&self) -> &DagRows
         ensures { result.now ≡ self.now.rows }
     {
-        self.rows.as_slice()
+        &self.rows
     }
 
     /// How many rows the whole list has.

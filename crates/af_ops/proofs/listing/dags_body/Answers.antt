@@ -12,7 +12,8 @@ returns c =
       c.total.ensures,
       c.in_ok-put-2.ensures,
       c.in_ok-put_rows.ensures,
-      c.rows-2.ensures,
+      c.parts.ensures.rows,
+      c.rows.ensures,
       c.in_ok-put.ensures,
       c.in_ok-text.ensures.items,
     )

@@ -1,3 +1,4 @@
+use Rattle.af_ops.specs.DagRows.{row_of}
 use Rattle.af_ops.proofs.ListingLemmas.{row_put}
 use Rattle.af_ops.proofs.listing.put_row.Goals as goal
 
@@ -6,12 +7,10 @@ returns c =
     rw (
       c.in_ok-put-4.ensures,
       c.in_ok-put-3.ensures,
-      c.as_bytes-2.ensures.value,
+      c.as_bytes.ensures.value,
       c.format.ensures.text,
       c.in_ok-put_paused.ensures,
       c.in_ok-put-2.ensures,
-      c.as_bytes.ensures.value,
-      c.as_str.ensures.text,
       c.in_ok-put.ensures,
     )
-    (row_put c.args.text.now.items c.args.row.now c.as_str.ensures.bytes)
+    (row_put c.args.text.now.items (row_of c.args.id.now c.args.row) c.requires)
