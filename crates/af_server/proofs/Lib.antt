@@ -1,3 +1,4 @@
 mod ConversationLemmas
 mod VerdictLemmas
 mod MemberLemmas
+mod ConfigurationLemmas

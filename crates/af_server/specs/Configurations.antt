@@ -1,6 +1,6 @@
 -- What a configuration says, read from its JSON value: each row in turn, its members in order, and the first fault
 -- decides the reason (this product's own rule).
-use Rattle.std.specs.Prelude.{◌≡◌, ◌⊎◌, ℕ, List, [], ◌∷◌, ◌++◌, codes, Option, Some, None, ok_or, Result, Ok, Err, false, ⊤}
+use Rattle.std.specs.Prelude.{◌≡◌, ◌⊎◌, ℕ, List, [], ◌∷◌, ◌++◌, codes, Option, Some, None, ok_or, Result, Ok, Err, false, ⊤, if◌then◌else◌}
 use Rattle.serde_json.specs.Data.{Data}
 use Rattle.hex.specs.Hex.{decode_sized}
 use Rattle.hex.specs.declared.error.FromHexError.{FromHexError}
@@ -8,14 +8,19 @@ use Rattle.af_names.specs.declared.name_error.NameError.{NameError}
 use Rattle.af_names.specs.Names.{Grammar, account_name_grammar, id_grammar, named}
 use Rattle.af_role.specs.Resources.{action_of, resource_of}
 use Rattle.af_role.specs.declared.action.Action.{Action}
-use Rattle.af_role.specs.Pairs.{PairRow, pair_of, with_pairs}
+use Rattle.af_role.specs.Pairs.{PairRow, pair_of, with_pair}
 use Rattle.af_role.specs.Roles.{RoleRow}
-use Rattle.af_policy.specs.Rows.{UserRow}
+use Rattle.af_policy.specs.Rows.{PolicyRows, UserRow, has_admin}
+use Rattle.af_policy.specs.Drafts.{added_role, added_user, opening}
+use Rattle.af_policy.specs.declared.row_fault.RowFault.{RowFault}
 use Rattle.af_ops.specs.declared.dag_row.DagRow.{DagRow}
+use Rattle.af_ops.specs.declared.state.StateFault.{StateFault}
+use Rattle.af_ops.specs.Rows.{StateRows, with_dag}
+use Rattle.af_ops.specs.States.{add_fault}
 use Rattle.af_server.specs.declared.reason.Reason.{Reason}
 use Rattle.af_server.specs.declared.reason.Reason.TheVariants as reason
-use Rattle.af_server.specs.Members.{list_in, member_of, number_in, object_in, text_in, truth_in}
-use Rattle.af_server.specs.Reasons.{name_reason}
+use Rattle.af_server.specs.Members.{list_in, member_of, number_in, object_in, text_in, truth_in, optional_list_in}
+use Rattle.af_server.specs.Reasons.{name_reason, row_reason, state_reason}
 
 -- what is read, and then what is read of it; the first reason decides
 infixl 10 ◌>>=◌
@@ -23,20 +28,27 @@ abbrev pub ◌>>=◌ : {X Y : Type 0} → Result X Reason → (X → Result Y Re
 Ok x >>= read = read x
 Err reason >>= read = Err reason
 
--- each of several, in order
-abbrev pub each : {X Y : Type 0} → (X → Result Y Reason) → List X → Result (List Y) Reason
-each read [] = Ok []
-each read (x ∷ xs) = read x >>= (λ y. each read xs >>= (λ ys. Ok (y ∷ ys)))
+-- rows taken in order into what they make; the first fault decides
+abbrev pub taking : {S : Type 0} → (S → Data → Result S Reason) → S → List Data → Result S Reason
+taking take_row made [] = Ok made
+taking take_row made (row ∷ rows) = take_row made row >>= (λ more. taking take_row more rows)
 
--- the reason of the first of several that can't be read
-abbrev pub first_reason : {X Y : Type 0} → (X → Result Y Reason) → List X → Result ⊤ Reason
-first_reason read [] = Ok tt
-first_reason read (x ∷ xs) = read x >>= (λ y. first_reason read xs)
+-- whether each of several can be read; the reason of the first that can't
+abbrev pub tested : {X : Type 0} → (Data → Result X Reason) → ⊤ → Data → Result ⊤ Reason
+tested read done item = read item >>= (λ value. Ok tt)
+
+abbrev pub first_reason : {X : Type 0} → (Data → Result X Reason) → List Data → Result ⊤ Reason
+first_reason read items = taking (tested read) tt items
 
 -- what is read where memory suffices, or want of memory
 abbrev pub OrMemory : {X : Type 0} → Result X Reason → Result X Reason → Type 0
 OrMemory expected (Ok x) = expected ≡ Ok x
 OrMemory expected (Err fault) = (expected ≡ Err fault) ⊎ (fault ≡ reason.Memory)
+
+-- what is made of rows where memory suffices, or want of memory
+abbrev pub Takes : {S : Type 0} → Result S Reason → S → Result ⊤ Reason → Type 0
+Takes expected made (Ok done) = expected ≡ Ok made
+Takes expected made (Err fault) = (expected ≡ Err fault) ⊎ (fault ≡ reason.Memory)
 
 -- the name that a text is
 abbrev pub name_or : Result (List ℕ) NameError → Result (List ℕ) Reason
@@ -68,13 +80,13 @@ pair_in item = do
   resource ← ok_or (resource_of texts.1) reason.Pair
   ok_or (pair_of action resource) reason.Pair
 
--- these permissions with those of the items
-abbrev pub permissions_after : List PairRow → List Data → Result (List PairRow) Reason
-permissions_after permissions items = each pair_in items >>= (λ pairs. Ok (with_pairs permissions pairs))
+-- these permissions with that of an item
+abbrev pub pair_taken : List PairRow → Data → Result (List PairRow) Reason
+pair_taken permissions item = pair_in item >>= (λ pair. Ok (with_pair permissions pair))
 
 -- the permissions of the items, in the order in which permissions are shown, each once
 abbrev pub permissions_in : List Data → Result (List PairRow) Reason
-permissions_in items = permissions_after [] items
+permissions_in items = taking pair_taken [] items
 
 -- a role: its members first, then the first action that is none, then the first pair that may not stand
 abbrev pub role_in : Data → Result RoleRow Reason
@@ -101,13 +113,16 @@ name_text_in item = text_in (codes "name") item
 abbrev pub role_name_in : Data → Result (List ℕ) Reason
 role_name_in item = name_in account_name_grammar (codes "name") item
 
--- these names, and then those of the items
-abbrev pub names_after : List (List ℕ) → List Data → Result (List (List ℕ)) Reason
-names_after names items = each role_name_in items >>= (λ more. Ok (names ++ more))
+-- these names, and then that of an item
+abbrev pub name_taken : List (List ℕ) → Data → Result (List (List ℕ)) Reason
+name_taken names item = role_name_in item >>= (λ name. Ok (names ++ name ∷ []))
+
+abbrev pub names_in : List Data → Result (List (List ℕ)) Reason
+names_in items = taking name_taken [] items
 
 -- the names of a user's roles: that each is a text is tested before one is read
 abbrev pub role_names_in : List Data → Result (List (List ℕ)) Reason
-role_names_in items = first_reason name_text_in items >>= (λ texts. each role_name_in items)
+role_names_in items = first_reason name_text_in items >>= (λ texts. names_in items)
 
 abbrev pub user_in : Data → Result UserRow Reason
 user_in row = do
@@ -130,3 +145,41 @@ dag_in row = do
   runs ← number_in (codes "max_active_runs") 1 1000 16 row
   paused ← truth_in (codes "is_paused") false row
   Ok (record { dag_id = id; is_paused = paused; max_active_runs = runs })
+
+-- the state with one more DAG, or why there is none
+abbrev pub dag_or : Option StateFault → StateRows → DagRow → Result StateRows Reason
+dag_or None state dag = Ok (record { dags = with_dag dag state.dags })
+dag_or (Some fault) state dag = Err (state_reason fault)
+
+abbrev pub dag_taken : StateRows → Data → Result StateRows Reason
+dag_taken state row = dag_in row >>= (λ dag. dag_or (add_fault dag.dag_id state) state dag)
+
+abbrev pub no_dags : StateRows
+no_dags = record { dags = [] }
+
+abbrev pub state_in : Data → Result StateRows Reason
+state_in config = optional_list_in (codes "dags") config >>= (λ rows. taking dag_taken no_dags rows)
+
+-- the policy with one more role or user, or why there is none
+abbrev pub policy_or : Result PolicyRows RowFault → Result PolicyRows Reason
+policy_or (Ok policy) = Ok policy
+policy_or (Err fault) = Err (row_reason fault)
+
+abbrev pub role_taken : PolicyRows → Data → Result PolicyRows Reason
+role_taken policy row = role_in row >>= (λ role. policy_or (added_role policy role))
+
+abbrev pub user_taken : PolicyRows → Data → Result PolicyRows Reason
+user_taken policy row = user_in row >>= (λ user. policy_or (added_user policy user))
+
+-- a policy has a user with the role Admin
+abbrev pub with_admin : PolicyRows → Result PolicyRows Reason
+with_admin policy = if has_admin policy.users then Ok policy else Err reason.Admin
+
+-- the default roles, then the roles and the users that are listed
+abbrev pub policy_in : Data → Result PolicyRows Reason
+policy_in config = do
+  roles ← optional_list_in (codes "roles") config
+  with_roles ← taking role_taken opening roles
+  users ← optional_list_in (codes "users") config
+  with_users ← taking user_taken with_roles users
+  with_admin with_users

@@ -1,31 +1,65 @@
 // A role of the configuration: `name`, and `actions` as the API shows them.
-ghost use Rattle.std.specs.Prelude.{◌≡◌};
+ghost use Rattle.std.specs.Prelude.{◌≡◌, map};
 ghost use Rattle.serde_json.specs.View.{view};
 ghost use Rattle.af_server.specs.Members.{seen};
-ghost use Rattle.af_server.specs.Configurations.{OrMemory, action_in, pair_in, texts_in};
+ghost use Rattle.af_server.specs.Configurations.{OrMemory, Takes, action_in, first_reason, pair_in, pair_taken, permissions_in, role_in, texts_in};
 
+use super::names::name;
 use crate::members::{list, object, text};
 use crate::reason::Reason;
-use af_names::RoleName;
 use af_role::{Action, Pair, Permissions, Resource, Role};
 use serde_json::Value;
 use std::alloc::Global;
 
 /// Reads a role: its members first, then the first action that is none, then the first pair that may not stand.
-pub fn read_role(alloc: Global, row: &Value) -> Result<Role, Reason> {
-    let name = RoleName::parse(alloc, text(row, "name")?)?;
-    let actions = list(row, "actions")?;
-    for item in actions {
+pub fn read_role(alloc: Global, row: &Value) -> Result<Role, Reason>
+    ensures { OrMemory (role_in (view row.now)) result }
+{
+    let name = name(alloc, row, "name")?;
+    let items = list(row, "actions")?;
+    test_texts(items)?;
+    test_actions(items)?;
+    let permissions = read_pairs(alloc, items)?;
+    Ok(Role::new(name, permissions))
+}
+
+/// Whether each item has its texts; the reason of the first that has not.
+fn test_texts(items: &[Value]) -> Result<(), Reason>
+    ensures { result ≡ first_reason texts_in (map view items.now) }
+{
+    for item in items {
         read_texts(item)?;
     }
-    for item in actions {
+    Ok(())
+}
+
+/// Whether each item names an action; the reason of the first that does not.
+fn test_actions(items: &[Value]) -> Result<(), Reason>
+    ensures { result ≡ first_reason action_in (map view items.now) }
+{
+    for item in items {
         read_action(item)?;
     }
+    Ok(())
+}
+
+/// The permissions of the items, each once.
+fn read_pairs(alloc: Global, items: &[Value]) -> Result<Permissions, Reason>
+    ensures { OrMemory (permissions_in (map view items.now)) result }
+{
     let mut permissions = Permissions::new(alloc);
-    for item in actions {
-        permissions.add(read_pair(alloc, item)?)?;
+    for item in items {
+        add_pair(alloc, &mut permissions, item)?;
     }
-    Ok(Role::new(name, permissions))
+    Ok(permissions)
+}
+
+fn add_pair(alloc: Global, permissions: &mut Permissions, item: &Value) -> Result<(), Reason>
+    ensures { Takes (pair_taken permissions.old (view item.now)) permissions.new result }
+{
+    let pair = read_pair(alloc, item)?;
+    permissions.add(pair)?;
+    Ok(())
 }
 
 /// The texts of an action and of a resource, as in `{"action":{"name":..},"resource":{"name":..}}`.

@@ -1,32 +1,63 @@
 // A user of the configuration: `username`, `roles` by name, and `token_sha256`.
-ghost use Rattle.std.specs.Prelude.{◌≡◌};
-ghost use Rattle.af_server.specs.Configurations.{digest_of};
+ghost use Rattle.std.specs.Prelude.{◌≡◌, map};
+ghost use Rattle.serde_json.specs.View.{view};
+ghost use Rattle.af_server.specs.Members.{seen};
+ghost use Rattle.af_server.specs.Configurations.{OrMemory, Takes, digest_of, first_reason, name_taken, name_text_in, names_in, role_names_in, user_in};
 
+use super::names::name;
 use crate::members::{list, text};
 use crate::reason::Reason;
-use af_names::{RoleName, UserName};
+use af_names::RoleName;
 use af_policy::User;
 use hex::FromHex;
 use serde_json::Value;
 use std::alloc::Global;
 
 /// Reads a user: each member, and of the roles only that they are names.
-pub fn read_user(alloc: Global, row: &Value) -> Result<User, Reason> {
-    let name = UserName::parse(alloc, text(row, "username")?)?;
+pub fn read_user(alloc: Global, row: &Value) -> Result<User, Reason>
+    ensures { OrMemory (user_in (view row.now)) result }
+{
+    let name = name(alloc, row, "username")?;
     let roles = read_roles(alloc, list(row, "roles")?)?;
     let digest = read_digest(text(row, "token_sha256")?)?;
     Ok(User::new(name, digest, roles))
 }
 
-fn read_roles(alloc: Global, items: &[Value]) -> Result<Vec<RoleName>, Reason> {
+/// The names of roles: that each is a text is tested before one is read.
+fn read_roles(alloc: Global, items: &[Value]) -> Result<Vec<RoleName>, Reason>
+    ensures { OrMemory (role_names_in (map view items.now)) (seen (λ roles. roles.items) result) }
+{
+    test_names(items)?;
+    read_names(alloc, items)
+}
+
+/// Whether each item has a name that is a text; the reason of the first that has not.
+fn test_names(items: &[Value]) -> Result<(), Reason>
+    ensures { result ≡ first_reason name_text_in (map view items.now) }
+{
     for item in items {
         text(item, "name")?;
     }
+    Ok(())
+}
+
+/// The names of the items.
+fn read_names(alloc: Global, items: &[Value]) -> Result<Vec<RoleName>, Reason>
+    ensures { OrMemory (names_in (map view items.now)) (seen (λ roles. roles.items) result) }
+{
     let mut roles = Vec::with_capacity(alloc, items.len())?;
     for item in items {
-        roles.push(RoleName::parse(alloc, text(item, "name")?)?)?;
+        add_name(alloc, &mut roles, item)?;
     }
     Ok(roles)
+}
+
+fn add_name(alloc: Global, roles: &mut Vec<RoleName>, item: &Value) -> Result<(), Reason>
+    ensures { Takes (name_taken roles.old.items (view item.now)) roles.new.items result }
+{
+    let role = name(alloc, item, "name")?;
+    roles.push(role)?;
+    Ok(())
 }
 
 /// 64 hexadecimal digits, in either case.

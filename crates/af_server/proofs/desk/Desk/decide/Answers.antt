@@ -1,5 +1,4 @@
-use Rattle.std.proofs.Common.{◌≡◌, ◌⊎◌, ◌∙◌, sym, ap, inl, inr, ⊎_elim, Option, List, ℕ}
-use Rattle.std.specs.Option.{option_copied}
+use Rattle.std.proofs.Common.{◌∙◌, ap, inl, inr, ⊎_elim, Option, List, ℕ}
 use Rattle.af_policy.specs.Views.{held}
 use Rattle.af_ops.specs.Verdicts.{judged}
 use Rattle.af_server.specs.Conversations.{opening}
