@@ -5,7 +5,7 @@ use Rattle.serde_json.specs.Data.{Data}
 use Rattle.serde_json.specs.View.{view}
 use Rattle.serde_json.specs.declared.value.Value.{Value}
 use Rattle.af_server.specs.declared.reason.Reason.{Reason}
-use Rattle.af_server.specs.Configurations.{◌>>=◌, taking}
+use Rattle.af_server.specs.Readings.{◌>>=◌, taking}
 
 module _ {S : Type 0} (take_row : S → Data → Result S Reason) (rows : List Value) (whole : Result S Reason) (i : ℕ) where
   -- what the rows that are left make of what is made

@@ -2,3 +2,4 @@ mod ConversationLemmas
 mod VerdictLemmas
 mod MemberLemmas
 mod ConfigurationLemmas
+mod JsonLemmas

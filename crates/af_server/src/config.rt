@@ -1,16 +1,22 @@
 // The configuration: a JSON object of roles, users and DAGs.
+ghost use Rattle.std.specs.Prelude.{◌≡◌, ◌<◌, length, Err, ok_or};
+ghost use Rattle.serde_json.specs.View.{view};
+ghost use Rattle.af_server.specs.Readings.{OrMemory};
+ghost use Rattle.af_server.specs.Members.{seen};
+ghost use Rattle.af_server.specs.Configurations.{configuration_of, desk_in, json_of, longest};
 
 mod dags;
+mod lists;
 mod names;
 mod roles;
 mod users;
 
-use crate::members::optional_list;
 use crate::reason::Reason;
 use af_ops::State;
-use af_policy::{Policy, PolicyDraft};
+use af_policy::Policy;
 use serde_json::Value;
 use std::alloc::Global;
+use std::marker::Model;
 
 /// How long a configuration may be, in bytes.
 pub const LONGEST: usize = 16 * 1024 * 1024;
@@ -22,47 +28,49 @@ pub struct Configuration {
     pub state: State,
 }
 
+impl Model for Configuration {
+    ghost use Rattle.af_server.specs.Conversations.{DeskRows};
+
+    ghost Value = { DeskRows };
+
+    ghost view = { λ configuration. record { policy = configuration.policy; state = configuration.state } };
+}
+
 impl Configuration {
     /// Reads a configuration. The lists are taken in order, roles, users and DAGs, and rows in theirs; the first fault
     /// decides the reason. Of a row, its members are read first, in order (kind, then name, then limits), and then its
-    /// own faults are looked for.
-    pub fn read(alloc: Global, bytes: &[u8]) -> Result<Configuration, Reason> {
+    /// own faults are looked for. `Memory` comes only of bytes that are not too long.
+    pub fn read(alloc: Global, bytes: &[u8]) -> Result<Configuration, Reason>
+        ensures read { OrMemory (configuration_of bytes.now) result }
+        ensures long { longest < length bytes.now → result ≡ Err Reason.Unreadable }
+    {
         if bytes.len() > LONGEST {
             return Err(Reason::Unreadable);
         }
         let value = parse(alloc, bytes)?;
+        Configuration::of_value(alloc, &value)
+    }
+
+    /// Reads what a JSON value says.
+    fn of_value(alloc: Global, value: &Value) -> Result<Configuration, Reason>
+        ensures { OrMemory (desk_in (view value.now)) result }
+    {
         if !value.is_object() {
             return Err(Reason::Shape);
         }
-        let policy = read_policy(alloc, &value)?;
-        let state = read_state(alloc, &value)?;
+        let policy = lists::read_policy(alloc, value)?;
+        let state = lists::read_state(alloc, value)?;
         Ok(Configuration { policy, state })
     }
 }
 
-fn parse(alloc: Global, bytes: &[u8]) -> Result<Value, Reason> {
+/// The JSON value that the bytes are the text of.
+fn parse(alloc: Global, bytes: &[u8]) -> Result<Value, Reason>
+    ensures { OrMemory (ok_or (json_of bytes.now) Reason.Syntax) (seen view result) }
+{
     match Value::from_slice(alloc, bytes) {
         Ok(value) => Ok(value),
         Err(error) if error.is_memory() => Err(Reason::Memory),
         Err(_) => Err(Reason::Syntax),
     }
-}
-
-fn read_policy(alloc: Global, config: &Value) -> Result<Policy, Reason> {
-    let mut draft = PolicyDraft::new(alloc)?;
-    for row in optional_list(config, "roles")? {
-        draft.add_role(roles::read_role(alloc, row)?)?;
-    }
-    for row in optional_list(config, "users")? {
-        draft.add_user(alloc, users::read_user(alloc, row)?)?;
-    }
-    draft.finish().map_err(|_| Reason::Admin)
-}
-
-fn read_state(alloc: Global, config: &Value) -> Result<State, Reason> {
-    let mut state = State::empty(alloc);
-    for row in optional_list(config, "dags")? {
-        state.add_dag(dags::read_dag(alloc, row)?)?;
-    }
-    Ok(state)
 }

@@ -1,6 +1,7 @@
-ghost use Rattle.std.specs.Prelude.{◌≡◌, List, ℕ, ◌++◌, ◌+◌, ◌*◌, ◌≤◌, IfOk};
+ghost use Rattle.std.specs.Prelude.{◌≡◌, ◌⊎◌, List, ℕ, ◌++◌, Ok, Err, IfOk, IfErr, OnErr};
 ghost use Rattle.af_http.specs.Turns.{CountsReadFault, CountsWriteFault};
 ghost use Rattle.af_server.specs.Conversations.{Conversation, DeskRows};
+ghost use Rattle.af_server.specs.Configurations.{configuration_of};
 
 use crate::config::Configuration;
 use crate::desk::Desk;
@@ -36,10 +37,14 @@ pub fn once<R: Source, W: Sink>(
     reader: &mut R,
     writer: &mut W,
 ) -> Result<Ended, Reason>
+    // The bytes read and the bytes written are those of a connection under what the configuration says.
     ensures conversation { IfOk result (λ ended. (desk : DeskRows) × (text : List ℕ) × (out : List ℕ)
+        × (configuration_of config.now ≡ Ok desk)
         × (R.given reader.new ≡ R.given reader.old ++ text)
         × (W.taken writer.new ≡ W.taken writer.old ++ out)
         × Conversation desk (R.ended reader.new) text ended out) }
+    ensures refused { IfErr result (λ reason. (configuration_of config.now ≡ Err reason) ⊎ (reason ≡ Reason.Memory)) }
+    ensures untouched { OnErr result ((reader.new ≡ reader.old) × (writer.new ≡ writer.old)) }
 {
     let configuration = Configuration::read(alloc, config)?;
     let Configuration { policy, state } = configuration;

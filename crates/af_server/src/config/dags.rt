@@ -1,7 +1,8 @@
 // A DAG of the configuration: `dag_id`, `max_active_runs` and `is_paused`. A schedule can't be had yet.
 ghost use Rattle.std.specs.Prelude.{◌≡◌, codes};
 ghost use Rattle.serde_json.specs.View.{view};
-ghost use Rattle.af_server.specs.Configurations.{OrMemory, dag_in, no_schedule};
+ghost use Rattle.af_server.specs.Readings.{OrMemory};
+ghost use Rattle.af_server.specs.Rows.{dag_in, no_schedule};
 ghost use Rattle.af_server.specs.Members.{member_of};
 
 use super::names::name;

@@ -1,6 +1,7 @@
 // A name in a row of the configuration.
 ghost use Rattle.serde_json.specs.View.{view};
-ghost use Rattle.af_server.specs.Configurations.{OrMemory, name_in};
+ghost use Rattle.af_server.specs.Readings.{OrMemory};
+ghost use Rattle.af_server.specs.Rows.{name_in};
 
 use crate::members::text;
 use crate::reason::Reason;

@@ -2,7 +2,8 @@
 ghost use Rattle.std.specs.Prelude.{◌≡◌, map};
 ghost use Rattle.serde_json.specs.View.{view};
 ghost use Rattle.af_server.specs.Members.{seen};
-ghost use Rattle.af_server.specs.Configurations.{OrMemory, Takes, action_in, first_reason, pair_in, pair_taken, permissions_in, role_in, texts_in};
+ghost use Rattle.af_server.specs.Readings.{OrMemory, Takes, first_reason};
+ghost use Rattle.af_server.specs.Rows.{action_in, pair_in, pair_taken, permissions_in, role_in, texts_in};
 
 use super::names::name;
 use crate::members::{list, object, text};

@@ -2,7 +2,8 @@
 ghost use Rattle.std.specs.Prelude.{◌≡◌, map};
 ghost use Rattle.serde_json.specs.View.{view};
 ghost use Rattle.af_server.specs.Members.{seen};
-ghost use Rattle.af_server.specs.Configurations.{OrMemory, Takes, digest_of, first_reason, name_taken, name_text_in, names_in, role_names_in, user_in};
+ghost use Rattle.af_server.specs.Readings.{OrMemory, Takes, first_reason};
+ghost use Rattle.af_server.specs.Rows.{digest_of, name_taken, name_text_in, names_in, role_names_in, user_in};
 
 use super::names::name;
 use crate::members::{list, text};

@@ -1,5 +1,5 @@
 use Rattle.std.proofs.Common.{arith}
-use Rattle.af_server.specs.Configurations.{pair_taken}
+use Rattle.af_server.specs.Rows.{pair_taken}
 use Rattle.af_server.proofs.ConfigurationLemmas.{row_taken, rows_taken}
 use Rattle.af_server.proofs.config.roles.read_pairs.Goals as goal
 

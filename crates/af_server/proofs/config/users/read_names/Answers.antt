@@ -1,5 +1,5 @@
 use Rattle.std.proofs.Common.{arith}
-use Rattle.af_server.specs.Configurations.{name_taken}
+use Rattle.af_server.specs.Rows.{name_taken}
 use Rattle.af_server.proofs.ConfigurationLemmas.{row_taken, rows_taken}
 use Rattle.af_server.proofs.config.users.read_names.Goals as goal
 

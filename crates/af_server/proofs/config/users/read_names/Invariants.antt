@@ -1,6 +1,7 @@
 use Rattle.std.proofs.Common.{◌≡◌, drop, map, []}
 use Rattle.serde_json.specs.View.{view}
-use Rattle.af_server.specs.Configurations.{name_taken, taking}
+use Rattle.af_server.specs.Readings.{taking}
+use Rattle.af_server.specs.Rows.{name_taken}
 use Rattle.af_server.proofs.config.users.read_names.Given as goal
 
 -- the rows that are left decide the whole

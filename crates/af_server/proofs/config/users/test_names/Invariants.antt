@@ -1,6 +1,7 @@
 use Rattle.std.proofs.Common.{◌≡◌, drop, map}
 use Rattle.serde_json.specs.View.{view}
-use Rattle.af_server.specs.Configurations.{name_text_in, taking, tested}
+use Rattle.af_server.specs.Readings.{taking, tested}
+use Rattle.af_server.specs.Rows.{name_text_in}
 use Rattle.af_server.proofs.config.users.test_names.Given as goal
 
 -- the rows that are left decide the whole
