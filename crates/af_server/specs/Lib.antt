@@ -5,3 +5,4 @@ pub mod Members
 pub mod Readings
 pub mod Rows
 pub mod Configurations
+pub mod Commands

@@ -1,10 +1,13 @@
 // The words that the program is given, and what it does on them.
+ghost use Rattle.std.specs.Prelude.{◌≡◌, ◌⊎◌, map, option_map, string_bytes};
+ghost use Rattle.std.specs.Vec.Iter.{into_iter_items};
+ghost use Rattle.af_server.specs.Commands.{Asks, AsksOnce, status_of, three_words};
 
 use crate::config::LONGEST;
 use crate::once::once;
 use crate::reason::Reason;
 use af_http::{Counted, Ended};
-use af_names::{Instant, InstantError};
+use af_names::Instant;
 use std::alloc::Global;
 use std::env;
 use std::fs::File;
@@ -38,29 +41,48 @@ impl Command {
     }
 
     /// Reads these words, of which the first is the program's name.
-    pub fn of_words(mut words: env::Args) -> Command {
-        let _program = words.next();
-        let (Some(verb), Some(config), Some(now), None) = (
-            words.next(),
-            words.next(),
-            words.next(),
-            words.next(),
-        ) else {
-            return Command::Usage;
-        };
-        if verb.as_str() != "once" {
-            return Command::Usage;
+    pub fn of_words(words: env::Args) -> Command
+        ensures { Asks (map string_bytes (into_iter_items words)) result }
+    {
+        match three(words) {
+            Some((verb, config, now)) if verb.as_str() == "once" => Command::once(
+                config,
+                now.as_str(),
+            ),
+            _ => Command::Usage,
         }
-        match Instant::read(now.as_str()) {
+    }
+
+    /// One connection under the configuration at this path, at the moment that the text states.
+    fn once(config: String, now: &str) -> Command
+        ensures { AsksOnce (string_bytes config) now.now result }
+    {
+        match Instant::read(now) {
             Ok(now) => Command::Once { config, now },
-            Err(InstantError::OutOfMemory) => Command::Refused(Reason::Memory),
             Err(_) => Command::Usage,
         }
     }
 }
 
+/// The words after the program's name, where they are three.
+fn three(mut words: env::Args) -> Option<(String, String, String)>
+    ensures { option_map (λ found. (string_bytes found.0, string_bytes found.1, string_bytes found.2)) result
+        ≡ three_words (map string_bytes (into_iter_items words)) }
+{
+    let _program = words.next()?;
+    let verb = words.next()?;
+    let config = words.next()?;
+    let now = words.next()?;
+    match words.next() {
+        Some(_) => None,
+        None => Some((verb, config, now)),
+    }
+}
+
 /// Status 0 where the connection ended as connections do, 1 where it was cut short, 3 where the configuration is refused.
-pub fn run_once(rt: &HostRuntime, config: &str, now: Instant) -> u8 {
+pub fn run_once(rt: &HostRuntime, config: &str, now: Instant) -> u8
+    ensures { (result ≡ 0) ⊎ (result ≡ 1) ⊎ (result ≡ 3) }
+{
     let alloc = rt.alloc();
     let bytes = match read_file(rt, alloc, config) {
         Ok(bytes) => bytes,
@@ -69,20 +91,33 @@ pub fn run_once(rt: &HostRuntime, config: &str, now: Instant) -> u8 {
     let mut reader = Counted::new(rt.stdin());
     let mut writer = Counted::new(rt.stdout());
     match once(alloc, bytes.as_slice(), now, &mut reader, &mut writer) {
-        Ok(Ended::Closed) => 0,
-        Ok(_) => 1,
+        Ok(ended) => status(ended),
         Err(reason) => refused(rt, reason),
     }
 }
 
+/// The status after a connection that ended so.
+fn status(ended: Ended) -> u8
+    ensures { result ≡ status_of ended }
+{
+    match ended {
+        Ended::Closed => 0,
+        _ => 1,
+    }
+}
+
 /// Says why a configuration is refused. Status 3.
-pub fn refused(rt: &HostRuntime, reason: Reason) -> u8 {
+pub fn refused(rt: &HostRuntime, reason: Reason) -> u8
+    ensures { result ≡ 3 }
+{
     let _ = eprintln!(rt; "afplane: configuration refused: {}", reason.text());
     3
 }
 
 /// Says how the program is called. Status 2.
-pub fn usage(rt: &HostRuntime) -> u8 {
+pub fn usage(rt: &HostRuntime) -> u8
+    ensures { result ≡ 2 }
+{
     let _ = eprintln!(rt; "{USAGE}");
     2
 }
