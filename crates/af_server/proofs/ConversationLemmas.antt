@@ -30,7 +30,8 @@ replied_is old new (x ∷ xs) answered =
       rest.1 ∙ first.1,
     )
 
-pub conversation_is : (old new : DeskRows) (input_ended : Bool) (text : List ℕ) (e : Ended) (out : List ℕ) → Run Answers old input_ended text e out new → Conversation old input_ended text e out × (new ≡ old)
+-- the exchanges of the connection are those of the run
+unfoldable pub conversation_is : (old new : DeskRows) (input_ended : Bool) (text : List ℕ) (e : Ended) (out : List ℕ) → Run Answers old input_ended text e out new → Conversation old input_ended text e out × (new ≡ old)
 conversation_is old new input_ended text e out run =
     let replied = replied_is old new run.exchanges run.answered in (
       record {

@@ -1,10 +1,11 @@
 -- What the words that the program is given ask for, and the status that it ends with (this product's own rule).
-use Rattle.std.specs.Prelude.{◌≡◌, ℕ, List, [], ◌∷◌, codes, bytes_eq, string_bytes, Option, Some, None, Ok, IsErr, MatchBool}
+use Rattle.std.specs.Prelude.{◌≡◌, ℕ, List, [], ◌∷◌, codes, bytes_eq, string_bytes, Option, Some, None, Result, Ok, Err, IsErr, MatchBool}
 use Rattle.af_names.specs.Instants.{instant_of}
 use Rattle.af_http.specs.declared.ended.Ended.{Ended}
 use Rattle.af_http.specs.declared.ended.Ended.TheVariants.{Closed, ReadFault, WriteFault, Turns, NoMemory}
 use Rattle.af_http.specs.declared.ended.Ended.TheVariants as ended
 use Rattle.af_server.specs.declared.command.Command.{Command}
+use Rattle.af_server.specs.declared.reason.Reason.{Reason}
 use Rattle.af_server.specs.declared.command.Command.TheVariants.{Once, Refused, Usage}
 
 -- the three words after the program's name, where there are no more and no fewer
@@ -29,11 +30,13 @@ AsksThree (Some words) command =
 abbrev pub Asks : List (List ℕ) → Command → Type 0
 Asks words command = AsksThree (three_words words) command
 
--- the status after a connection: 0 where it ended as connections do
-abbrev pub status_of : Ended → ℕ
-status_of Closed = 0
-status_of ReadFault = 1
-status_of WriteFault = 1
-status_of (ended.Refused status) = 1
-status_of Turns = 1
-status_of NoMemory = 1
+-- the status that the program ends with: 0 where the connection ended as connections do, 1 where it was cut short, 3 where
+-- the configuration is refused
+abbrev pub status_of : Result Ended Reason → ℕ
+status_of (Ok Closed) = 0
+status_of (Ok ReadFault) = 1
+status_of (Ok WriteFault) = 1
+status_of (Ok (ended.Refused status)) = 1
+status_of (Ok Turns) = 1
+status_of (Ok NoMemory) = 1
+status_of (Err reason) = 3

@@ -10,8 +10,10 @@ use Rattle.af_http.specs.declared.reply.Reply.{Reply}
 use Rattle.af_http.specs.declared.reply.Reply.TheVariants as reply
 use Rattle.af_http.specs.Requests.{Asked}
 use Rattle.af_http.specs.Reading.{Stand}
+use Rattle.af_http.specs.Reads.{Reads}
 use Rattle.af_http.specs.Routes.{op_of}
 use Rattle.af_http.specs.Run.{Exchange, Ends, IsWritten, asked_in, exchanges_text}
+use Rattle.af_http.specs.Turns.{CountsReadFault, CountsWriteFault}
 
 -- who may do what, and what there is
 pub record DeskRows : Type 0 where
@@ -41,3 +43,19 @@ pub record Conversation (desk : DeskRows) (input_ended : Bool) (text : List ℕ)
   pub replied : All (λ (x : Exchange). IsReply desk x.asked x.reply) exchanges
   pub ends : Ends exchanges input_ended text rest closing ended
   pub written : IsWritten ended (exchanges_text 0 exchanges ++ closing) out
+
+-- A moment of a reader says which bytes it gave until then, whether it ended, how often it was read, and how many reads
+-- failed; a moment of a writer, which bytes it took, and how many writes failed.
+module _ {R W : Type 0} (given : R → List ℕ) (is_ended : R → Bool) (reads read_failures : R → ℕ) (taken : W → List ℕ) (write_failures : W → ℕ) where
+  -- A connection from one moment of its reader and its writer to another: the bytes that came and those that went are
+  -- those of a conversation; each request was awaited in so many reads, as was the end; and a fault of the reader or the
+  -- writer is told only where it failed, and the other did not.
+  pub record Connection (desk : DeskRows) (reader reader' : R) (writer writer' : W) (ended : Ended) : Type 0 where
+    pub text : List ℕ
+    pub out : List ℕ
+    pub came : given reader' ≡ given reader ++ text
+    pub went : taken writer' ≡ taken writer ++ out
+    pub conversation : Conversation desk (is_ended reader') text ended out
+    pub awaited : Reads given reads reader reader' conversation.exchanges ended
+    pub read_fault : CountsReadFault ended (read_failures reader) (read_failures reader')
+    pub write_fault : CountsWriteFault ended (write_failures writer) (write_failures writer')

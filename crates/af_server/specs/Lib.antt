@@ -6,3 +6,4 @@ pub mod Readings
 pub mod Rows
 pub mod Configurations
 pub mod Commands
+pub mod Once

@@ -1,12 +1,15 @@
 // The words that the program is given, and what it does on them.
-ghost use Rattle.std.specs.Prelude.{◌≡◌, ◌⊎◌, map, option_map, string_bytes};
+ghost use Rattle.std.specs.Prelude.{◌≡◌, Result, map, option_map, string_bytes};
+ghost use Rattle.af_server.specs.Once.{IsOnce};
+ghost use Rattle.af_server.specs.declared.reason.Reason.{Reason};
+ghost use Rattle.af_http.specs.declared.ended.Ended.{Ended};
 ghost use Rattle.std.specs.Vec.Iter.{into_iter_items};
 ghost use Rattle.af_server.specs.Commands.{Asks, AsksOnce, status_of, three_words};
 
 use crate::config::LONGEST;
 use crate::once::once;
 use crate::reason::Reason;
-use af_http::{Counted, Ended};
+use af_http::{Counted, Ended, Sink, Source};
 use af_names::Instant;
 use std::alloc::Global;
 use std::env;
@@ -79,30 +82,37 @@ fn three(mut words: env::Args) -> Option<(String, String, String)>
     }
 }
 
-/// Status 0 where the connection ended as connections do, 1 where it was cut short, 3 where the configuration is refused.
+/// Answers one connection from standard input to standard output under the configuration at this path, and says the status.
 pub fn run_once(rt: &HostRuntime, config: &str, now: Instant) -> u8
-    ensures { (result ≡ 0) ⊎ (result ≡ 1) ⊎ (result ≡ 3) }
+    ensures { (outcome : Result Ended Reason) × (result ≡ status_of outcome) }
 {
-    let alloc = rt.alloc();
-    let bytes = match read_file(rt, alloc, config) {
-        Ok(bytes) => bytes,
-        Err(reason) => return refused(rt, reason),
-    };
-    let mut reader = Counted::new(rt.stdin());
-    let mut writer = Counted::new(rt.stdout());
-    match once(alloc, bytes.as_slice(), now, &mut reader, &mut writer) {
-        Ok(ended) => status(ended),
+    match read_file(rt, rt.alloc(), config) {
+        Ok(bytes) => {
+            let mut reader = Counted::new(rt.stdin());
+            let mut writer = Counted::new(rt.stdout());
+            answer(rt, bytes.as_slice(), now, &mut reader, &mut writer)
+        }
         Err(reason) => refused(rt, reason),
     }
 }
 
-/// The status after a connection that ended so.
-fn status(ended: Ended) -> u8
-    ensures { result ≡ status_of ended }
+/// Answers one connection under the configuration of these bytes. Status 0 where the connection ended as connections do,
+/// 1 where it was cut short, 3 where the configuration is refused.
+pub fn answer<R: Source, W: Sink>(
+    rt: &HostRuntime,
+    config: &[u8],
+    now: Instant,
+    reader: &mut R,
+    writer: &mut W,
+) -> u8
+    ensures { (outcome : Result Ended Reason) × (result ≡ status_of outcome)
+        × IsOnce R.given R.ended R.reads R.failures W.taken W.failures
+        config.now reader.old reader.new writer.old writer.new outcome }
 {
-    match ended {
-        Ended::Closed => 0,
-        _ => 1,
+    match once(rt.alloc(), config, now, reader, writer) {
+        Ok(Ended::Closed) => 0,
+        Ok(_) => 1,
+        Err(reason) => refused(rt, reason),
     }
 }
 

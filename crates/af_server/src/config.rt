@@ -1,6 +1,8 @@
 // The configuration: a JSON object of roles, users and DAGs.
-ghost use Rattle.std.specs.Prelude.{◌≡◌, ◌<◌, length, Err, ok_or};
+ghost use Rattle.std.specs.Prelude.{◌≡◌, ◌<◌, length, Err, IfOk, ok_or};
 ghost use Rattle.serde_json.specs.View.{view};
+ghost use Rattle.af_policy.specs.Rows.{IsPolicy};
+ghost use Rattle.af_ops.specs.Rows.{AreDags};
 ghost use Rattle.af_server.specs.Readings.{OrMemory};
 ghost use Rattle.af_server.specs.Members.{seen};
 ghost use Rattle.af_server.specs.Configurations.{configuration_of, desk_in, json_of, longest};
@@ -43,12 +45,24 @@ impl Configuration {
     pub fn read(alloc: Global, bytes: &[u8]) -> Result<Configuration, Reason>
         ensures read { OrMemory (configuration_of bytes.now) result }
         ensures long { longest < length bytes.now → result ≡ Err Reason.Unreadable }
+        ensures conditions { IfOk result (λ c. IsPolicy c.policy × AreDags c.state.dags) }
     {
         if bytes.len() > LONGEST {
             return Err(Reason::Unreadable);
         }
         let value = parse(alloc, bytes)?;
-        Configuration::of_value(alloc, &value)
+        let configuration = Configuration::of_value(alloc, &value)?;
+        configuration.conditions();
+        Ok(configuration)
+    }
+
+    /// The conditions that each configuration meets: those of a policy, and its DAGs in byte order of their ids.
+    fn conditions(&self)
+        ensures policy { IsPolicy self.now.policy }
+        ensures dags { AreDags self.now.state.dags }
+    {
+        self.policy.conditions();
+        let _dags = self.state.dags();
     }
 
     /// Reads what a JSON value says.

@@ -1,7 +1,7 @@
-ghost use Rattle.std.specs.Prelude.{◌≡◌, ◌⊎◌, List, ℕ, ◌++◌, Ok, Err, IfOk, IfErr, OnErr};
-ghost use Rattle.af_http.specs.Turns.{CountsReadFault, CountsWriteFault};
-ghost use Rattle.af_server.specs.Conversations.{Conversation, DeskRows};
-ghost use Rattle.af_server.specs.Configurations.{configuration_of};
+ghost use Rattle.std.specs.Prelude.{◌≡◌, ◌<◌, length, Err};
+ghost use Rattle.af_server.specs.Conversations.{Connection};
+ghost use Rattle.af_server.specs.Configurations.{longest};
+ghost use Rattle.af_server.specs.Once.{IsOnce};
 
 use crate::config::Configuration;
 use crate::desk::Desk;
@@ -17,14 +17,9 @@ pub fn converse<R: Source, W: Sink>(
     reader: &mut R,
     writer: &mut W,
 ) -> Ended
-    // The bytes read and the bytes written are those of a connection under the desk's policy, on its DAGs.
-    ensures conversation { (text : List ℕ) × (out : List ℕ)
-        × (R.given reader.new ≡ R.given reader.old ++ text)
-        × (W.taken writer.new ≡ W.taken writer.old ++ out)
-        × Conversation desk.old (R.ended reader.new) text result out }
+    ensures connection { Connection R.given R.ended R.reads R.failures W.taken W.failures
+        desk.old reader.old reader.new writer.old writer.new result }
     ensures same { desk.new ≡ desk.old }
-    ensures write_fault { CountsWriteFault result (W.failures writer.old) (W.failures writer.new) }
-    ensures read_fault { CountsReadFault result (R.failures reader.old) (R.failures reader.new) }
 {
     serve(alloc, reader, writer, desk)
 }
@@ -37,14 +32,9 @@ pub fn once<R: Source, W: Sink>(
     reader: &mut R,
     writer: &mut W,
 ) -> Result<Ended, Reason>
-    // The bytes read and the bytes written are those of a connection under what the configuration says.
-    ensures conversation { IfOk result (λ ended. (desk : DeskRows) × (text : List ℕ) × (out : List ℕ)
-        × (configuration_of config.now ≡ Ok desk)
-        × (R.given reader.new ≡ R.given reader.old ++ text)
-        × (W.taken writer.new ≡ W.taken writer.old ++ out)
-        × Conversation desk (R.ended reader.new) text ended out) }
-    ensures refused { IfErr result (λ reason. (configuration_of config.now ≡ Err reason) ⊎ (reason ≡ Reason.Memory)) }
-    ensures untouched { OnErr result ((reader.new ≡ reader.old) × (writer.new ≡ writer.old)) }
+    ensures once { IsOnce R.given R.ended R.reads R.failures W.taken W.failures
+        config.now reader.old reader.new writer.old writer.new result }
+    ensures long { longest < length config.now → result ≡ Err Reason.Unreadable }
 {
     let configuration = Configuration::read(alloc, config)?;
     let Configuration { policy, state } = configuration;
