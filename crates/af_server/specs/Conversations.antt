@@ -1,5 +1,5 @@
 -- A whole connection, from the bytes that came to the bytes that went (RFC 9112; Airflow 2, "Access Control").
-use Rattle.std.specs.Prelude.{◌≡◌, ℕ, Bool, List, ◌++◌, All, Ok, Err}
+use Rattle.std.specs.Prelude.{◌≡◌, ◌≤◌, ◌+◌, ◌*◌, ℕ, Bool, List, ◌++◌, All, Ok, Err}
 use Rattle.af_policy.specs.Rows.{PolicyRows}
 use Rattle.af_ops.specs.declared.op.Op.{Op}
 use Rattle.af_ops.specs.declared.answer.Under.{Under}
@@ -10,7 +10,7 @@ use Rattle.af_http.specs.declared.reply.Reply.{Reply}
 use Rattle.af_http.specs.declared.reply.Reply.TheVariants as reply
 use Rattle.af_http.specs.Requests.{Asked}
 use Rattle.af_http.specs.Reading.{Stand}
-use Rattle.af_http.specs.Reads.{Reads}
+use Rattle.af_http.specs.Reads.{Reads, read_limit}
 use Rattle.af_http.specs.Routes.{op_of}
 use Rattle.af_http.specs.Run.{Exchange, Ends, IsWritten, asked_in, exchanges_text}
 use Rattle.af_http.specs.Turns.{CountsReadFault, CountsWriteFault}
@@ -48,8 +48,8 @@ pub record Conversation (desk : DeskRows) (input_ended : Bool) (text : List ℕ)
 -- failed; a moment of a writer, which bytes it took, and how many writes failed.
 module _ {R W : Type 0} (given : R → List ℕ) (is_ended : R → Bool) (reads read_failures : R → ℕ) (taken : W → List ℕ) (write_failures : W → ℕ) where
   -- A connection from one moment of its reader and its writer to another: the bytes that came and those that went are
-  -- those of a conversation; each request was awaited in so many reads, as was the end; and a fault of the reader or the
-  -- writer is told only where it failed, and the other did not.
+  -- those of a conversation; each request was awaited in at most 65,536 reads, as was the end, and there are no more for
+  -- each of 1,000 requests; a fault of the reader or the writer is told only where it failed, and the other did not.
   pub record Connection (desk : DeskRows) (reader reader' : R) (writer writer' : W) (ended : Ended) : Type 0 where
     pub text : List ℕ
     pub out : List ℕ
@@ -57,5 +57,6 @@ module _ {R W : Type 0} (given : R → List ℕ) (is_ended : R → Bool) (reads 
     pub went : taken writer' ≡ taken writer ++ out
     pub conversation : Conversation desk (is_ended reader') text ended out
     pub awaited : Reads given reads reader reader' conversation.exchanges ended
+    pub few : reads reader' ≤ reads reader + read_limit * 1000
     pub read_fault : CountsReadFault ended (read_failures reader) (read_failures reader')
     pub write_fault : CountsWriteFault ended (write_failures writer) (write_failures writer')

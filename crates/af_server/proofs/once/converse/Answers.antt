@@ -12,6 +12,7 @@ returns-clause-connection g c =
       went = run.3;
       conversation = (conversation_is _ _ _ _ _ _ run.4).0;
       awaited = run.5;
+      few = c.serve.ensures.reads;
       read_fault = c.serve.ensures.read_fault;
       write_fault = c.serve.ensures.write_fault;
     }
