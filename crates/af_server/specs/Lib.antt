@@ -7,3 +7,4 @@ pub mod Rows
 pub mod Configurations
 pub mod Commands
 pub mod Once
+pub mod Worked

@@ -9,6 +9,7 @@ mod once;
 mod reason;
 #[cfg(test)]
 mod tests;
+mod worked;
 
 use command::Command;
 use std::process::ExitCode;
