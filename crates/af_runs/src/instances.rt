@@ -42,6 +42,14 @@ impl Instances {
         Ok(Instances { items })
     }
 
+    /// The same instances again. `AllocError` only where a growth was refused.
+    pub fn copied(&self, alloc: Global) -> Result<Instances, AllocError>
+        ensures { IfOk result (λ instances. instances ≡ self.now) }
+    {
+        let items = self.items.iter().copied().collect(alloc)?;
+        Ok(Instances { items })
+    }
+
     /// The instances, in order.
     pub fn as_slice(&self) -> &[Instance]
         ensures { result.now ≡ self.now }

@@ -1,4 +1,4 @@
-ghost use Rattle.std.specs.Prelude.{◌≡◌};
+ghost use Rattle.std.specs.Prelude.{◌≡◌, ◌↔◌, IfOk, true};
 ghost use Rattle.af_runs.specs.Runs.{is_of, is_run, is_dated, queued_run};
 
 use crate::instances::Instances;
@@ -7,6 +7,7 @@ use crate::new_run::NewRun;
 use crate::run_state::RunState;
 use crate::run_type::RunType;
 use af_names::{DagId, Instant, RunId};
+use std::alloc::{AllocError, Global};
 
 /// A run of a DAG, with its instances.
 #[derive(Drop)]
@@ -44,6 +45,27 @@ impl Run {
             end_date: None,
             instances: new.instances,
         }
+    }
+
+    /// The same run again. `AllocError` only where a growth was refused.
+    pub fn copied(&self, alloc: Global) -> Result<Run, AllocError>
+        ensures { IfOk result (λ run. run ≡ self.now) }
+    {
+        let dag_id = self.dag_id.copied(alloc)?;
+        let run_id = self.run_id.copied(alloc)?;
+        let instances = self.instances.copied(alloc)?;
+        Ok(Run {
+            number: self.number,
+            dag_id,
+            run_id,
+            logical_date: self.logical_date,
+            interval: self.interval,
+            run_type: self.run_type,
+            state: self.state,
+            start_date: self.start_date,
+            end_date: self.end_date,
+            instances,
+        })
     }
 
     /// Whether it is a run of the DAG of this id.

@@ -50,6 +50,40 @@ impl Runs {
         }
     }
 
+    /// The same runs again, without spare room. `AllocError` only where a growth was refused.
+    pub fn copied(&self, alloc: Global) -> Result<Runs, AllocError>
+        ensures { IfOk result (SameRuns self.now) }
+    {
+        let mut rows = Vec::with_capacity(alloc, self.rows.len())?;
+        for run in &self.rows {
+            rows.push(run.copied(alloc)?)?;
+        }
+        Ok(Runs {
+            rows,
+            last: self.last,
+        })
+    }
+
+    /// The rows, given back, and the number of the last run, 0 before the first.
+    pub fn into_rows(self) -> (Vec<Run>, u64)
+        ensures rows { result.0.items ≡ self.rows }
+        ensures next { result.1 + 1 ≡ self.next }
+        ensures kept { AreRuns result.0.items (result.1 + 1) }
+    {
+        let Runs { rows, last } = self;
+        (rows, last)
+    }
+
+    /// The runs of these rows, where the last run had this number: what `into_rows` gave, each with its number, ids and
+    /// date.
+    pub fn of_rows(rows: Vec<Run>, last: u64) -> Runs
+        requires { AreRuns rows.items (last + 1) }
+        ensures rows { result.rows ≡ rows.items }
+        ensures next { result.next ≡ last + 1 }
+    {
+        Runs { rows, last }
+    }
+
     /// The rows, in order of number.
     pub fn rows(&self) -> &[Run]
         ensures rows { result.now ≡ self.now.rows }
