@@ -4,3 +4,5 @@ pub mod QueueLemmas
 pub mod SettleLemmas
 pub mod StartLemmas
 pub mod StateLemmas
+mod DueLemmas
+mod CreateLemmas

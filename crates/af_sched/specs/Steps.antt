@@ -1,9 +1,14 @@
 -- What the steps of the calls keep. No public contract cites this file.
-use Rattle.std.specs.Prelude.{ℕ, ◌≡◌, ◌++◌, Bool, List, Option, Some, None, slice_index_or, slice_set, if◌then◌else◌}
+use Rattle.std.specs.Prelude.{ℕ, ◌≡◌, ◌++◌, Bool, fold, List, Option, Some, None, slice_index_or, slice_set, if◌then◌else◌}
 use Rattle.af_graph.specs.declared.task_spec.TaskSpec.{TaskSpec}
 use Rattle.af_runs.specs.declared.instance.Instance.{Instance}
+use Rattle.af_runs.specs.Runs.{RunRows}
+use Rattle.af_runs.specs.declared.new_run.NewRun.{NewRun}
+use Rattle.af_sched.specs.Create.{with_run, with_runs_of}
 use Rattle.af_sched.specs.Settle.{settled_instance, verdict_at}
 use Rattle.af_sched.specs.Placed.{Placed, comes_before, IsFirstOf}
+use Rattle.af_sched.specs.State.{StateRows}
+use Rattle.af_sched.specs.declared.dag_row.DagRow.{DagRow}
 
 -- of two instances that come first, the one that does
 abbrev pub earlier : Option Placed → Placed → Placed
@@ -21,3 +26,15 @@ Continues test more one other = (seen : List Placed) → IsFirstOf test seen one
 -- the instance at a place is settled, by what its rule decides on the states that those upstream of it have
 abbrev pub SetsSettled : ℕ → List TaskSpec → ℕ → List Instance → List Instance → Type 0
 SetsSettled t tasks place old new = (d : Instance) → new ≡ slice_set old place (settled_instance t (verdict_at tasks old place) (slice_index_or old place d))
+
+-- a state with these runs in place of its own
+abbrev pub with_rows : StateRows → RunRows → StateRows
+with_rows state runs = record state { runs = runs.rows; next_run = runs.next }
+
+-- the runs before and after these are added, of whatever state they are
+abbrev pub TakesRuns : List NewRun → RunRows → RunRows → Type 0
+TakesRuns added old new = (state : StateRows) → with_rows state new ≡ fold with_run (with_rows state old) added
+
+-- the runs before and after those due at t of these DAGs are added, of whatever state they are
+abbrev pub TakesRunsOf : ℕ → List DagRow → RunRows → RunRows → Type 0
+TakesRunsOf t dags old new = (state : StateRows) → with_rows state new ≡ fold (with_runs_of t) (with_rows state old) dags

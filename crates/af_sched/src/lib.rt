@@ -3,7 +3,9 @@
 
 mod add_dag_fault;
 mod claim;
+mod creating;
 mod dag_row;
+mod due;
 mod executor;
 mod finishing;
 pub mod laws;
