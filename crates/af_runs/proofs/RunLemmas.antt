@@ -1,5 +1,5 @@
 -- The rows of the runs stay in order, numbered below the next number, apart in ids and dates, and few for each DAG.
-use Rattle.std.proofs.Common.{◌≡◌, refl, sym, ◌∙◌, ap, ℕ, ◌<◌, ◌≤◌, ◌+◌, zero, suc, List, [], ◌∷◌, ◌++◌, length, get_or, set, Bool, true, false, cond, ◌||◌, arith, ⊎_elim}
+use Rattle.std.proofs.Common.{◌≡◌, refl, sym, ◌∙◌, ap, ℕ, ◌<◌, ◌≤◌, ◌+◌, zero, suc, List, [], ◌∷◌, ◌++◌, length, map, get_or, set, Bool, true, false, cond, ◌||◌, arith, ⊎_elim}
 use Rattle.std.proofs.lemmas.Bool.{cases_Bool}
 use Rattle.std.proofs.lemmas.Bool.Decides.{nat_tests}
 use Rattle.std.specs.Prelude.{filter, nat_le, ◌^◌, Option, Some, None, Result, Ok, Err, MatchResult, MatchOption, slice_set}
@@ -139,14 +139,14 @@ AreRuns-set runs next place run d number dag_id run_id date within are = record 
 }
 
 -- ---- where the row of a number stands
-pub stands_from_search : (runs : List Run) (next number : ℕ) (r : Result ℕ ℕ) → AreRuns runs next → IsSearchInRange r (length runs) → IsBinarySearchResult (λ (run : Run). nat_cmp run.number number) runs r → MatchResult r (StandsAt runs number) (λ _. StandsNowhere runs number)
-stands_from_search runs next number (Ok place) are within found = record {
+pub stands_from_search : (runs : List Run) (number : ℕ) (r : Result ℕ ℕ) → IsStrictlySortedBy nat_cmp (map number_of runs) → IsSearchInRange r (length runs) → IsBinarySearchResult (λ (run : Run). nat_cmp run.number number) runs r → MatchResult r (StandsAt runs number) (λ _. StandsNowhere runs number)
+stands_from_search runs number (Ok place) in_order within found = record {
   within = within;
   here = λ d. unsigned_ties (get_or runs place d).number number ∙ ap is_eq (found d);
-  alone = λ other d inside apart. unsigned_ties (get_or runs other d).number number ∙ search_alone number_of nat_cmp_total number runs place are.in_order within found other d inside apart;
+  alone = λ other d inside apart. unsigned_ties (get_or runs other d).number number ∙ search_alone number_of nat_cmp_total number runs place in_order within found other d inside apart;
 }
-stands_from_search runs next number (Err place) are within ended =
-    let parted = ended (search_rises number_of nat_cmp_total number runs are.in_order) in
+stands_from_search runs number (Err place) in_order within ended =
+    let parted = ended (search_rises number_of nat_cmp_total number runs in_order) in
     record { none = λ other d inside. unsigned_ties (get_or runs other d).number number ∙ search_none number_of nat_cmp_total number runs place parted other d inside }
 
 pub stands_option : (runs : List Run) (number : ℕ) (r : Result ℕ ℕ) → MatchResult r (StandsAt runs number) (λ _. StandsNowhere runs number) → MatchOption (result_ok r) (StandsNowhere runs number) (StandsAt runs number)

@@ -6,3 +6,6 @@ pub mod StartLemmas
 pub mod StateLemmas
 mod DueLemmas
 mod CreateLemmas
+mod ChoosingLemmas
+mod SeatLemmas
+mod CandidateLemmas

@@ -20,7 +20,7 @@ use Rattle.af_sched.proofs.SettleLemmas.{tasks_long}
 use Rattle.af_sched.proofs.StartLemmas.{get_or-same}
 
 -- ---- filters
-filter-agree : {X : Type 0} (p q : X → Bool) (xs : List X) → All (λ x. p x ≡ q x) xs → filter p xs ≡ filter q xs
+pub filter-agree : {X : Type 0} (p q : X → Bool) (xs : List X) → All (λ x. p x ≡ q x) xs → filter p xs ≡ filter q xs
 filter-agree p q [] same = refl
 filter-agree p q (x ∷ xs) same =
     let rest : filter p xs ≡ filter q xs = filter-agree p q xs (λ k d inside. same (suc k) d (omega arith)) in

@@ -57,3 +57,8 @@ pub record Queues (old new : StateRows) : Type 0 where
   pub is_queued : ℕ → ℕ → Bool
   pub queueing : IsQueueing old.dags old.runs old.pools is_queued
   pub state : new ≡ record old { runs = map (λ run. with_queued (is_queued run.number) run) old.runs }
+
+-- the runs before and after the phase, of these DAGs and pools
+abbrev pub QueuesRuns : List DagRow → List Pool → List Run → List Run → Type 0
+QueuesRuns dags pools old new =
+    (next : ℕ) → Queues (record { dags = dags; runs = old; next_run = next; pools = pools }) (record { dags = dags; runs = new; next_run = next; pools = pools })

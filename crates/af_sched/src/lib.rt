@@ -2,6 +2,7 @@
 #![tactic(auto)]
 
 mod add_dag_fault;
+mod choosing;
 mod claim;
 mod creating;
 mod dag_row;
@@ -12,9 +13,11 @@ pub mod laws;
 mod outcome;
 mod phases;
 mod placed;
+mod queueing;
 mod report_fault;
 mod script;
 mod scripted;
+mod seat;
 mod settling;
 mod starting;
 mod state;
@@ -25,6 +28,7 @@ pub use dag_row::DagRow;
 pub use executor::Executor;
 pub use outcome::Outcome;
 pub use phases::{finish_all, settle_all};
+pub use queueing::queue_all;
 pub use report_fault::ReportFault;
 pub use script::Script;
 pub use scripted::Scripted;

@@ -7,6 +7,7 @@ ghost use Rattle.af_sched.specs.State.{IsWhole, dag_of, tasks_of};
 use crate::dag_row::DagRow;
 use crate::finishing::finish;
 use crate::settling::settle;
+use af_graph::TaskSpec;
 use af_names::{DagId, Instant};
 use af_runs::{Run, RunState};
 
@@ -15,6 +16,16 @@ pub(crate) fn dag_of<'a>(dags: &'a [DagRow], dag_id: &DagId) -> Option<&'a DagRo
     ensures { option_copied result ≡ dag_of dags.now dag_id.now }
 {
     dags.iter().find(|row| *row.dag.dag_id() == *dag_id)
+}
+
+/// The tasks of the DAG of this id; none where it is not there.
+pub(crate) fn tasks_of<'a>(dags: &'a [DagRow], dag_id: &DagId) -> &'a [TaskSpec]
+    ensures { result.now ≡ tasks_of dags.now dag_id.now }
+{
+    match dag_of(dags, dag_id) {
+        Some(row) => row.dag.tasks(),
+        None => &[],
+    }
 }
 
 /// The third phase of a tick, on these runs: the instances of running runs of unpaused DAGs are settled.

@@ -6,11 +6,11 @@ ghost use Rattle.af_sched.specs.Steps.{Continues, first_with};
 
 use crate::claim::Claim;
 use crate::dag_row::DagRow;
-use crate::phases::dag_of;
+use crate::phases::tasks_of;
 use crate::placed::PlacedInstance;
 use crate::state::State;
 use af_graph::TaskSpec;
-use af_names::{DagId, Instant};
+use af_names::Instant;
 use af_runs::Run;
 use std::alloc::{AllocError, Global};
 
@@ -81,16 +81,6 @@ fn first_with<'a>(
     match first {
         Some(first) if !next.comes_before(&first) => Some(first),
         _ => Some(next),
-    }
-}
-
-/// The tasks of the DAG of this id; none where it is not there.
-pub(crate) fn tasks_of<'a>(dags: &'a [DagRow], dag_id: &DagId) -> &'a [TaskSpec]
-    ensures { result.now ≡ tasks_of dags.now dag_id.now }
-{
-    match dag_of(dags, dag_id) {
-        Some(row) => row.dag.tasks(),
-        None => &[],
     }
 }
 

@@ -5,10 +5,10 @@ ghost use Rattle.af_sched.specs.Reports.{fault_at, is_claimed, report_fault, rep
 use crate::claim::Claim;
 use crate::dag_row::DagRow;
 use crate::outcome::Outcome;
+use crate::phases::tasks_of;
 use crate::placed::PlacedInstance;
 use crate::report_fault::ReportFault;
 use crate::state::State;
-use crate::state::claiming::tasks_of;
 use af_graph::{TaskSpec, TaskState};
 use af_names::Instant;
 use af_runs::{Instance, Run};

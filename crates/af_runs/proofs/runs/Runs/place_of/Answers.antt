@@ -1,4 +1,4 @@
-use Rattle.std.proofs.Common.{rules, ◌+◌}
+use Rattle.std.proofs.Common.{rules}
 use Rattle.std.proofs.lemmas.List.Sorted.{answers_always}
 use Rattle.af_runs.proofs.RunLemmas.{stands_from_search, stands_option}
 use Rattle.af_runs.proofs.runs.Runs.place_of.Goals as goal
@@ -9,4 +9,4 @@ returns c =
     let facts = c.binary_search_by_key.ensures in
     let by_number = facts.position (λ run. run.number) (answers_always _ _ _ (λ f a r g called. search rules)) in
     rw (c.ok.ensures.value, ← c.self.view_is, ← c.deref.ensures.value)
-    (stands_option _ _ _ (stands_from_search _ (c.self.inside.last + 1) _ _ (rw c.deref.ensures.value c.self.invariant) facts.bound by_number))
+    (stands_option _ _ _ (stands_from_search _ _ _ (rw c.deref.ensures.value c.self.invariant.in_order) facts.bound by_number))
