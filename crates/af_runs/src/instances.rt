@@ -1,4 +1,4 @@
-ghost use Rattle.std.specs.Prelude.{◌≡◌, IfOk, slice_set};
+ghost use Rattle.std.specs.Prelude.{◌≡◌, ◌↔◌, IfOk, slice_set, true};
 ghost use Rattle.af_runs.specs.Instances.{new_instances};
 
 use crate::instance::Instance;
@@ -50,6 +50,13 @@ impl Instances {
         Ok(Instances { items })
     }
 
+    /// Whether they are the same instances as others.
+    pub fn is_same(&self, other: &Instances) -> bool
+        ensures { (result ≡ true) ↔ (self.now ≡ other.now) }
+    {
+        same_instances(self.as_slice(), other.as_slice())
+    }
+
     /// The instances, in order.
     pub fn as_slice(&self) -> &[Instance]
         ensures { result.now ≡ self.now }
@@ -73,4 +80,19 @@ impl Instances {
             self.items[place] = instance;
         }
     }
+}
+
+/// Whether two lists have the same instances.
+fn same_instances(one: &[Instance], other: &[Instance]) -> bool
+    ensures { (result ≡ true) ↔ (one.now ≡ other.now) }
+{
+    if one.len() != other.len() {
+        return false;
+    }
+    for place in 0..one.len() {
+        if one[place] != other[place] {
+            return false;
+        }
+    }
+    true
 }

@@ -68,6 +68,22 @@ impl Run {
         })
     }
 
+    /// Whether it is the same run as another, with the same instances.
+    pub fn is_same(&self, other: &Run) -> bool
+        ensures { (result ≡ true) ↔ (self.now ≡ other.now) }
+    {
+        self.number == other.number
+            && self.dag_id == other.dag_id
+            && self.run_id == other.run_id
+            && self.logical_date == other.logical_date
+            && self.interval == other.interval
+            && self.run_type == other.run_type
+            && self.state == other.state
+            && self.start_date == other.start_date
+            && self.end_date == other.end_date
+            && self.instances.is_same(&other.instances)
+    }
+
     /// Whether it is a run of the DAG of this id.
     pub(crate) fn is_of(&self, dag_id: &DagId) -> bool
         ensures { result ≡ is_of dag_id.now self.now }

@@ -1,4 +1,4 @@
-ghost use Rattle.std.specs.Prelude.{◌≡◌, ◌≢◌, ◌+◌, ◌<◌, ◌≤◌, [], Err, IfOk, IfSome, IsNone, MatchOption, OnOk, OnErr, option_copied, length, nat_le, ◌^◌, IsOk, is_ok, if◌then◌else◌};
+ghost use Rattle.std.specs.Prelude.{◌≡◌, ◌≢◌, ◌↔◌, true, ◌+◌, ◌<◌, ◌≤◌, [], Err, IfOk, IfSome, IsNone, MatchOption, OnOk, OnErr, option_copied, length, nat_le, ◌^◌, IsOk, is_ok, if◌then◌else◌};
 ghost use Rattle.af_runs.specs.Runs.{AreRuns, Adds, SameRuns, IsOkOrOutOfMemory, add_fault, refusal, run_of, run_at, instances_of, unfinished_after, with_state, with_instance, is_full, is_run, is_dated, runs_of};
 ghost use Rattle.std.specs.List.{list_any};
 ghost use Rattle.af_runs.specs.Places.{StandsAt, StandsNowhere};
@@ -62,6 +62,13 @@ impl Runs {
             rows,
             last: self.last,
         })
+    }
+
+    /// Whether they are the same runs as others, with the same next number.
+    pub fn is_same(&self, other: &Runs) -> bool
+        ensures { (result ≡ true) ↔ SameRuns self.now other.now }
+    {
+        self.last == other.last && same_rows(self.rows.as_slice(), other.rows.as_slice())
     }
 
     /// The rows, given back, and the number of the last run, 0 before the first.
@@ -258,4 +265,19 @@ impl Runs {
     {
         self.last == u64::MAX
     }
+}
+
+/// Whether two lists have the same runs.
+fn same_rows(one: &[Run], other: &[Run]) -> bool
+    ensures { (result ≡ true) ↔ (one.now ≡ other.now) }
+{
+    if one.len() != other.len() {
+        return false;
+    }
+    for place in 0..one.len() {
+        if !one[place].is_same(&other[place]) {
+            return false;
+        }
+    }
+    true
 }

@@ -1,5 +1,5 @@
 -- The instances of all runs are apart, and those that may be queued, in order, are candidates.
-use Rattle.std.proofs.Common.{◌≡◌, ◌≢◌, ◌<◌, ◌≤◌, ◌+◌, ◌∙◌, ℕ, List, [], ◌∷◌, ◌++◌, length, map, get_or, refl, sym, ap, subst, arith, zero, suc, Bool, true, false, ◌&&◌, ◌==◌, ⊎_elim}
+use Rattle.std.proofs.Common.{◌≡◌, ◌≢◌, ◌<◌, ◌+◌, ◌∙◌, ℕ, List, [], ◌∷◌, ◌++◌, length, map, get_or, refl, sym, ap, subst, arith, zero, suc, Bool, true, false, ◌&&◌, ◌==◌, ⊎_elim}
 use Rattle.std.specs.Prelude.{All, Contains, filter, flat_map, zip, nat_le}
 use Rattle.std.specs.List.{enumerate_from, IsDistinct, AllByRecursion}
 use Rattle.std.specs.List.Sorted.{IsPermutation, IsSorted, IsStrictlySortedBy}
@@ -14,11 +14,10 @@ use Rattle.std.proofs.lemmas.Map.Keys.{IsDistinct-IsPermutation, Less-from_sorte
 use Rattle.std.proofs.Math.ListN.{get_or-map, length-map}
 use Rattle.af_graph.specs.declared.task_spec.TaskSpec.{TaskSpec}
 use Rattle.af_pool.specs.declared.pool.Pool.{Pool}
-use Rattle.af_pool.specs.Pools.{slots_of}
 use Rattle.af_runs.specs.declared.instance.Instance.{Instance}
 use Rattle.af_runs.specs.declared.run.Run.{Run}
 use Rattle.af_sched.specs.Choosing.{is_among, same_seat, pooled_cmp, AreCandidates, Chooses}
-use Rattle.af_sched.specs.Placed.{Placed, placed_of, placed_in}
+use Rattle.af_sched.specs.Placed.{Placed, placed_in}
 use Rattle.af_sched.specs.Queue.{may_queue, IsQueueing}
 use Rattle.af_sched.specs.State.{tasks_of}
 use Rattle.af_sched.specs.declared.dag_row.DagRow.{DagRow}

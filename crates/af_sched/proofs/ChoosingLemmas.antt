@@ -1,5 +1,5 @@
 -- Candidates taken one after the other, by pool and in their order, are chosen as the fourth phase chooses.
-use Rattle.std.proofs.Common.{◌≡◌, ◌≢◌, ◌<◌, ◌≤◌, ◌+◌, ◌-◌, ◌^◌, ◌∙◌, ℕ, List, [], ◌∷◌, ◌++◌, length, map, get_or, refl, sym, ap, subst, arith, zero, suc, Bool, true, false, cond, ◌&&◌, ◌||◌, ⊎_elim, ◌⊎◌, min, inl, inr}
+use Rattle.std.proofs.Common.{◌≡◌, ◌<◌, ◌≤◌, ◌+◌, ◌-◌, ◌^◌, ◌∙◌, ℕ, List, [], ◌∷◌, ◌++◌, length, map, get_or, refl, sym, ap, subst, arith, zero, suc, Bool, true, false, ◌&&◌, ◌||◌, ⊎_elim, ◌⊎◌, min, inl, inr}
 use Rattle.std.specs.Prelude.{All, Contains, filter, nat_le, sum_by}
 use Rattle.std.specs.List.{list_any, IsDistinct, AllByRecursion}
 use Rattle.std.specs.Ordering.{nat_cmp, is_lt, is_eq, ordering_then}

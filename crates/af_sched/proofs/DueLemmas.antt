@@ -1,9 +1,9 @@
 -- The points that are due, found by the next and the last point of a schedule.
-use Rattle.std.proofs.Common.{◌≡◌, ◌∙◌, ◌<◌, ◌≤◌, ◌+◌, ◌-◌, ℕ, List, [], ◌∷◌, ◌++◌, refl, sym, ap, subst, arith, zero, suc, Bool, true, false, cond, ◌&&◌, ⊎_elim, Option, Some, None, IfSome, IsSome, ◌↔◌}
+use Rattle.std.proofs.Common.{◌≡◌, ◌∙◌, ◌<◌, ◌≤◌, ◌+◌, ◌-◌, ℕ, List, [], ◌∷◌, refl, sym, ap, arith, zero, suc, Bool, true, false, ◌&&◌, ⊎_elim, Option, Some, None}
 use Rattle.std.specs.Prelude.{filter, nat_le, slice_get, length}
 use Rattle.std.specs.Option.{MatchOption, option_map_or}
 use Rattle.std.specs.List.{last_or, range_with_len}
-use Rattle.std.proofs.lemmas.Bool.{cases_Bool, cases_lt, true≢false, false≢true, false_from_ne_true, cond-true, cond-false}
+use Rattle.std.proofs.lemmas.Bool.{cases_Bool, cases_lt, false≢true, false_from_ne_true, cond-true, cond-false}
 use Rattle.std.proofs.lemmas.Bool.Decides.{nat_tests}
 use Rattle.af_names.specs.Instants.{last_micros}
 use Rattle.af_names.specs.Points.{IsLeastFrom, IsGreatestTo, next_of}

@@ -9,3 +9,6 @@ mod CreateLemmas
 mod ChoosingLemmas
 mod SeatLemmas
 mod CandidateLemmas
+mod KeyLemmas
+mod LikeLemmas
+mod PlanLemmas

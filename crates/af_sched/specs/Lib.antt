@@ -5,7 +5,9 @@ pub mod Create
 pub mod Due
 pub mod Finish
 pub mod Laws
+pub mod Moves
 pub mod Placed
+pub mod Plan
 pub mod Queue
 pub mod Reports
 pub mod Scripts

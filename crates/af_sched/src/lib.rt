@@ -10,9 +10,11 @@ mod due;
 mod executor;
 mod finishing;
 pub mod laws;
+mod moving;
 mod outcome;
 mod phases;
 mod placed;
+mod plan;
 mod queueing;
 mod report_fault;
 mod script;
@@ -27,12 +29,10 @@ pub use claim::Claim;
 pub use dag_row::DagRow;
 pub use executor::Executor;
 pub use outcome::Outcome;
-pub use phases::{finish_all, settle_all};
-pub use queueing::queue_all;
+pub use plan::Plan;
 pub use report_fault::ReportFault;
 pub use script::Script;
 pub use scripted::Scripted;
-pub use starting::start_all;
 pub use state::State;
 
 #[cfg(test)]

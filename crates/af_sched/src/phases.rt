@@ -29,7 +29,7 @@ pub(crate) fn tasks_of<'a>(dags: &'a [DagRow], dag_id: &DagId) -> &'a [TaskSpec]
 }
 
 /// The third phase of a tick, on these runs: the instances of running runs of unpaused DAGs are settled.
-pub fn settle_all(dags: &[DagRow], at: Instant, runs: &mut [Run])
+pub(crate) fn settle_all(dags: &[DagRow], at: Instant, runs: &mut [Run])
     requires { All (IsWhole dags.now) runs.old }
     ensures { AllZip (SettlesIfLive at dags.now) runs.old runs.new }
 {
@@ -54,7 +54,7 @@ fn settle_run(dags: &[DagRow], at: Instant, run: &mut Run)
 }
 
 /// The fifth phase of a tick, on these runs: those that are running and whose instances have all finished end.
-pub fn finish_all(dags: &[DagRow], at: Instant, runs: &mut [Run])
+pub(crate) fn finish_all(dags: &[DagRow], at: Instant, runs: &mut [Run])
     requires { All (IsWhole dags.now) runs.old }
     ensures { runs.new ≡ map (λ run. finished_run at (tasks_of dags.now run.dag_id) run) runs.old }
 {

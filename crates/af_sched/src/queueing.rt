@@ -17,7 +17,7 @@ use std::alloc::{AllocError, Global};
 /// The fourth phase of a tick, on these runs, whose numbers rise: scheduled instances of running runs of unpaused DAGs are
 /// queued, by falling weight, then by run number, then by place, where their pools have room for them. `AllocError` only
 /// where a growth was refused; then the runs are as before.
-pub fn queue_all(
+pub(crate) fn queue_all(
     alloc: Global,
     dags: &[DagRow],
     pools: &Pools,

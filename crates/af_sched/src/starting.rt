@@ -9,7 +9,7 @@ use std::alloc::{AllocError, Global};
 
 /// The second phase of a tick, on these runs: queued runs of unpaused DAGs start while their DAG has room for them.
 /// `AllocError` only where a growth was refused; then the runs are as before.
-pub fn start_all(
+pub(crate) fn start_all(
     alloc: Global,
     dags: &[DagRow],
     at: Instant,

@@ -12,6 +12,7 @@ use std::marker::Model;
 mod adding;
 mod claiming;
 mod reporting;
+mod ticking;
 
 /// The scheduler's state: its DAGs, their runs with the instances, and the pools. Contracts see the lists of rows,
 /// beside the numbers of runs and pools for which memory is reserved.

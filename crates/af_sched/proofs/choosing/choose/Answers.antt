@@ -1,8 +1,6 @@
-use Rattle.std.proofs.Common.{◌≡◌, ◌<◌, ◌≤◌, ◌+◌, ◌∙◌, ◌^◌, ◌-◌, ◌++◌, ◌∷◌, [], min, sym, ap, subst, arith, rules, ℕ, List, length, get_or}
+use Rattle.std.proofs.Common.{◌≡◌, ◌<◌, ◌≤◌, ◌+◌, ◌∙◌, ◌^◌, ◌-◌, min, sym, subst, arith, rules, ℕ, length, get_or}
 use Rattle.af_pool.specs.Pools.{slots_of}
-use Rattle.af_sched.specs.Choosing.{AreCandidates, Chooses}
 use Rattle.af_sched.specs.Placed.{Placed}
-use Rattle.af_sched.specs.declared.seat.Seat.{Seat}
 use Rattle.af_sched.proofs.ChoosingLemmas.{Choosing, Choosing-init, Choosing-ends, held_now, taken, passed}
 use Rattle.af_sched.proofs.StartLemmas.{get_or-same}
 use Rattle.af_sched.proofs.choosing.choose.Goals as goal

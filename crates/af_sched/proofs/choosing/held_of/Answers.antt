@@ -1,4 +1,4 @@
-use Rattle.std.proofs.Common.{◌≡◌, ◌^◌, ◌-◌, ◌∙◌, ap, sym, min, ℕ, arith, rules}
+use Rattle.std.proofs.Common.{◌∙◌, sym, rules}
 use Rattle.af_sched.proofs.ChoosingLemmas.{held_as_given}
 use Rattle.af_sched.proofs.choosing.held_of.Goals as goal
 

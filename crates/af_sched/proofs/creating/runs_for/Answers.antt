@@ -1,6 +1,5 @@
-use Rattle.std.proofs.Common.{◌≡◌, ◌∙◌, ◌++◌, ◌∷◌, [], sym, ap, List, take, map}
+use Rattle.std.proofs.Common.{◌≡◌, ◌∙◌, ◌++◌, ◌∷◌, [], take, map}
 use Rattle.af_graph.specs.Schedules.{is_scheduled}
-use Rattle.af_runs.specs.declared.new_run.NewRun.{NewRun}
 use Rattle.af_sched.specs.Create.{run_for}
 use Rattle.af_sched.proofs.CreateLemmas.{map_more}
 use Rattle.af_sched.proofs.creating.runs_for.Goals as goal

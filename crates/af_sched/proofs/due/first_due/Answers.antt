@@ -1,5 +1,4 @@
-use Rattle.std.proofs.Common.{◌≤◌, arith, rules}
-use Rattle.af_names.specs.Instants.{last_micros}
+use Rattle.std.proofs.Common.{rules}
 use Rattle.af_graph.specs.Schedules.{is_scheduled}
 use Rattle.af_sched.proofs.DueLemmas.{no_point, no_end, ends_late, due_first}
 use Rattle.af_sched.proofs.due.first_due.Goals as goal

@@ -1,4 +1,4 @@
-use Rattle.std.proofs.Common.{◌≤◌, ap, sym, ◌∙◌, arith, rules, None, ℕ}
+use Rattle.std.proofs.Common.{ap, sym, ◌∙◌, rules, None, ℕ}
 use Rattle.std.specs.List.{last_or}
 use Rattle.af_graph.specs.Schedules.{is_scheduled}
 use Rattle.af_sched.proofs.DueLemmas.{none_to, none_earlier, before_cursor, due_last}

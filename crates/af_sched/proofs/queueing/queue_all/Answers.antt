@@ -1,4 +1,4 @@
-use Rattle.std.proofs.Common.{◌≡◌, ◌∙◌, ◌+◌, ◌++◌, ◌∷◌, [], sym, ap, subst, arith, ℕ, List, map, take, get_or, length}
+use Rattle.std.proofs.Common.{◌∙◌, sym, ap, subst, ℕ, List, map, take, get_or}
 use Rattle.std.proofs.lemmas.List.{take_more}
 use Rattle.std.specs.List.Sorted.{IsStrictlySortedBy}
 use Rattle.std.specs.Ordering.{nat_cmp}

@@ -1,4 +1,4 @@
-use Rattle.std.proofs.Common.{◌∙◌, ap, List, get_or}
+use Rattle.std.proofs.Common.{ap, List, get_or}
 use Rattle.af_runs.specs.declared.instance.Instance.{Instance}
 use Rattle.af_sched.proofs.SeatLemmas.{with_seat-is_set, with_seat-nowhere}
 use Rattle.af_sched.proofs.queueing.queue_at.Goals as goal

@@ -1,4 +1,4 @@
-use Rattle.std.proofs.Common.{◌≡◌, ◌<◌, ◌≤◌, ◌∙◌, ap, arith, List, get_or, length}
+use Rattle.std.proofs.Common.{◌∙◌, ap, arith, List, get_or, length}
 use Rattle.af_runs.specs.declared.instance.Instance.{Instance}
 use Rattle.af_sched.proofs.SeatLemmas.{set_queued, none_queued}
 use Rattle.af_sched.proofs.queueing.queue_place.Goals as goal
