@@ -52,11 +52,11 @@ fn runs_of_two_dags(rt: HostRuntime) -> Result<(), Fail> {
     let alloc = rt.alloc();
     let mut runs = Runs::new(alloc);
     assert!(rt;
-        runs.add_run(new_run(alloc, "a", "r1", 1)?) == Ok(1),
+        runs.add_run(new_run(alloc, "a", "r1", 1)?)? == 1,
         "the first of a"
     );
     assert!(rt;
-        runs.add_run(new_run(alloc, "b", "r2", 2)?) == Ok(2),
+        runs.add_run(new_run(alloc, "b", "r2", 2)?)? == 2,
         "the first of b"
     );
     let both = runs.add_run(new_run(alloc, "a", "r1", 1)?);
@@ -64,7 +64,7 @@ fn runs_of_two_dags(rt: HostRuntime) -> Result<(), Fail> {
     let dated = runs.add_run(new_run(alloc, "a", "r3", 1)?);
     assert!(rt; dated == Err(RunFault::DateTaken), "the date of r1");
     assert!(rt;
-        runs.add_run(new_run(alloc, "b", "r1", 1)?) == Ok(3),
+        runs.add_run(new_run(alloc, "b", "r1", 1)?)? == 3,
         "id and date of another DAG"
     );
     let added = [

@@ -149,11 +149,15 @@ module _ (dags : List DagRow) where
   long_queued q n [] = refl
   long_queued q n (x ∷ xs) = ap suc (long_queued q (n + 1) xs)
 
+  pub whole_queued : (q : ℕ → ℕ → Bool) (runs : List Run) → All (IsWhole dags) runs → All (IsWhole dags) (map (λ run. with_queued (q run.number) run) runs)
+  whole_queued q runs whole =
+      whole_map (λ run. with_queued (q run.number) run) (λ run is. is ∙ ap Some (sym (long_queued (q run.number) 0 run.instances))) runs whole
+
   pub whole_queues : (pools : List Pool) (runs queued : List Run) → QueuesRuns dags pools runs queued → All (IsWhole dags) runs → All (IsWhole dags) queued
   whole_queues pools runs queued queues whole =
       let told = queues 0 in
       subst (All (IsWhole dags)) (sym (ap (λ (s : Rattle.af_sched.specs.State.StateRows). s.runs) told.state))
-      (whole_map (λ run. with_queued (told.is_queued run.number) run) (λ run is. is ∙ ap Some (sym (long_queued (told.is_queued run.number) 0 run.instances))) runs whole)
+      (whole_queued told.is_queued runs whole)
 
   whole_settled_one : (t : ℕ) (x y : Run) (b : Bool) → MatchBool b (SettlesRun t (tasks_of dags x.dag_id) x y) (y ≡ x) → IsWhole dags x → IsWhole dags y
   whole_settled_one t x y true is whole =

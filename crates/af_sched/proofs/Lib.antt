@@ -12,3 +12,4 @@ mod CandidateLemmas
 mod KeyLemmas
 mod LikeLemmas
 mod PlanLemmas
+mod TickLemmas

@@ -38,7 +38,7 @@ equal_itself Greater e = absurd (cc)
 id_of : DagRow → List ℕ
 id_of row = row.dag.dag_id
 
-found_row : (dags : List DagRow) → IsStrictlySortedBy (slice_cmp nat_cmp) (map (λ (row : DagRow). row.dag.dag_id) dags) → (k : ℕ) (d : DagRow) → k < length dags → dag_of dags (get_or dags k d).dag.dag_id ≡ Some (get_or dags k d)
+pub found_row : (dags : List DagRow) → IsStrictlySortedBy (slice_cmp nat_cmp) (map (λ (row : DagRow). row.dag.dag_id) dags) → (k : ℕ) (d : DagRow) → k < length dags → dag_of dags (get_or dags k d).dag.dag_id ≡ Some (get_or dags k d)
 found_row dags order k d inside =
     let id : List ℕ = (get_or dags k d).dag.dag_id in
     find-only (is_of_id id) dags k d inside
@@ -79,7 +79,7 @@ module _ (dags : List DagRow) where
       by false None cursor = All-nil (IsWholeFor dags)
       by false (Some schedule) cursor = due schedule cursor
 
-  whole_rows : (t : ℕ) (rows : List DagRow) (state : StateRows) → All (λ row. dag_of dags row.dag.dag_id ≡ Some row) rows → All (IsWhole dags) state.runs → All (IsWhole dags) (fold (with_runs_of t) state rows).runs
+  pub whole_rows : (t : ℕ) (rows : List DagRow) (state : StateRows) → All (λ row. dag_of dags row.dag.dag_id ≡ Some row) rows → All (IsWhole dags) state.runs → All (IsWhole dags) (fold (with_runs_of t) state rows).runs
   whole_rows t [] state all whole = whole
   whole_rows t (row ∷ rows) state all whole =
       whole_rows t rows (with_runs_of t state row) (λ k d inside. all (suc k) d (omega arith))

@@ -4,6 +4,8 @@ use Rattle.std.specs.Prelude.{ℕ, ◌+◌, ◌-◌, Bool, false, ◌&&◌, nat_
 use Rattle.std.specs.List.{range_with_len, last_or}
 use Rattle.std.specs.Option.{option_map_or}
 use Rattle.af_names.specs.Points.{next_of}
+use Rattle.af_graph.specs.Schedules.{is_scheduled}
+use Rattle.af_graph.specs.declared.schedule.Schedule.{Schedule}
 
 -- the next point: the least one after an instant
 abbrev pub next_after : (ℕ → Bool) → ℕ → Option ℕ
@@ -26,3 +28,7 @@ taken_points catchup is_point cursor t =
 -- where the cursor then stands: at the end of the last interval taken; where none is taken it stays
 abbrev pub moved_cursor : (ℕ → Bool) → List ℕ → ℕ → Option ℕ
 moved_cursor is_point taken cursor = option_map_or (next_after is_point) (last_or None taken) (Some cursor)
+
+-- where the cursor of a schedule begins: at the first of its points
+abbrev pub first_cursor : Schedule → Option ℕ
+first_cursor schedule = next_of (is_scheduled schedule) schedule.start_date

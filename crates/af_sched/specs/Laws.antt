@@ -6,6 +6,7 @@ use Rattle.af_runs.specs.declared.instance.Instance.{Instance}
 use Rattle.af_sched.specs.Queue.{Queues}
 use Rattle.af_sched.specs.Settle.{SettlesInstances, Settles}
 use Rattle.af_sched.specs.State.{StateRows, AreRows}
+use Rattle.af_sched.specs.Tick.{IsTick}
 
 -- since a definition without a fault has no cycle, the rules leave one way in which a run's instances may be settled
 abbrev pub SettlingIsOne : Type 0
@@ -19,3 +20,11 @@ SettledStateIsOne = (t : ℕ) (old one other : StateRows) → AreRows old.dags o
 -- the fourth phase leaves one state: what is queued at an instance goes by what is queued before it
 abbrev pub QueuedStateIsOne : Type 0
 QueuedStateIsOne = (old one other : StateRows) → AreRows old.dags old.runs → Queues old one → Queues old other → one ≡ other
+
+-- a tick leaves one state
+abbrev pub TickIsOne : Type 0
+TickIsOne = (t : ℕ) (old one other : StateRows) → AreRows old.dags old.runs → IsTick t old one → IsTick t old other → one ≡ other
+
+-- after a tick the rows are as they are at all times
+abbrev pub TickKeepsRows : Type 0
+TickKeepsRows = (t : ℕ) (old new : StateRows) → AreRows old.dags old.runs → IsTick t old new → AreRows new.dags new.runs

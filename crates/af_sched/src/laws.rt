@@ -1,4 +1,4 @@
-ghost use Rattle.af_sched.specs.Laws.{QueuedStateIsOne, SettlingIsOne, SettledStateIsOne};
+ghost use Rattle.af_sched.specs.Laws.{QueuedStateIsOne, SettlingIsOne, SettledStateIsOne, TickIsOne, TickKeepsRows};
 
 /// The trigger rules decide in one way what becomes of a run's instances, since no definition has a cycle.
 pub fn settling_is_one()
@@ -13,4 +13,14 @@ pub fn the_settled_state_is_one()
 /// The fourth phase of a tick leaves one state.
 pub fn the_queued_state_is_one()
     ensures { QueuedStateIsOne }
+{}
+
+/// A tick at a moment leaves one state.
+pub fn a_tick_is_one()
+    ensures { TickIsOne }
+{}
+
+/// After a tick the rows are as they are at all times.
+pub fn a_tick_keeps_the_rows()
+    ensures { TickKeepsRows }
 {}

@@ -1,4 +1,4 @@
-use crate::start_all;
+use crate::starting::start_all;
 use crate::tests::tables::{
     SECOND, dag, finished, has_states, instances, moment, run, settled, task, tried,
 };
