@@ -1,3 +1,4 @@
 mod claims;
 mod phases;
 mod tables;
+mod ticks;

@@ -1,5 +1,7 @@
-use crate::tests::tables::{SECOND, add_run, claimed, dag, moment, new_run, reported, task, tried};
-use crate::{AddDagFault, Claim, DagRow, Executor, Outcome, Script, Scripted, State};
+use crate::tests::tables::{
+    SECOND, add_run, claimed, dag, instances, moment, new_run, reported, task, tried,
+};
+use crate::{AddDagFault, Claim, DagRow, Executor, Outcome, ReportFault, Script, Scripted, State};
 use af_graph::{Rule, TaskState};
 use af_names::{DagId, RunId, TaskId};
 use af_runs::{Instance, Instances};
@@ -117,5 +119,71 @@ fn a_script_answers_by_try(rt: HostRuntime) -> Result<(), Fail> {
     assert!(rt; executor.run(&third) == Outcome::Success, "past the end");
     let other = claim_of(alloc, 1, "u", 1)?;
     assert!(rt; executor.run(&other) == Outcome::Success, "no script");
+    Ok(())
+}
+/// Whether the next claim is the first try of this task.
+fn claims(alloc: Global, state: &mut State, task_id: &str) -> Result<bool, Fail> {
+    match claimed(alloc, state, 3)? {
+        Some(claim) => Ok(
+            claim.task_id.as_str() == task_id && claim.try_number == 1 && claim.run_number == 1,
+        ),
+        None => Ok(false),
+    }
+}
+
+#[test]
+fn a_claim_takes_the_greatest_weight(rt: HostRuntime) -> Result<(), Fail> {
+    let alloc = rt.alloc();
+    let mut heavy = task(alloc, "heavy", &[], Rule::AllSuccess)?;
+    heavy.priority_weight = 5;
+    let tasks = vec![in alloc;
+        task(alloc, "b", &[], Rule::AllSuccess)?,
+        heavy,
+        task(alloc, "a", &[], Rule::AllSuccess)?,
+    ]?;
+    let mut state = State::new(alloc)?;
+    state.add_dag(dag(alloc, "g", tasks, true)?)?;
+    let queued = [TaskState::Queued, TaskState::Queued, TaskState::Queued];
+    add_run(
+        &mut state,
+        new_run(alloc, "g", "r", instances(alloc, &queued)?)?,
+    )?;
+    assert!(rt; claims(alloc, &mut state, "heavy")?, "the greatest weight");
+    assert!(rt; claims(alloc, &mut state, "b")?, "the first place");
+    assert!(rt; claims(alloc, &mut state, "a")?, "the last place");
+    assert!(rt; claimed(alloc, &mut state, 3)?.is_none(), "nothing is left");
+    Ok(())
+}
+
+#[test]
+fn a_report_is_of_the_running_try(rt: HostRuntime) -> Result<(), Fail> {
+    let alloc = rt.alloc();
+    let mut state = state_of(alloc, tried(TaskState::Running, 2))?;
+    let other_run = claim_of(alloc, 2, "t", 2)?;
+    let other_task = claim_of(alloc, 1, "u", 2)?;
+    let first = claim_of(alloc, 1, "t", 1)?;
+    let second = claim_of(alloc, 1, "t", 2)?;
+    let done = Outcome::Success;
+    assert!(rt;
+        reported(&mut state, &other_run, done, 9)? == Err(ReportFault::NoSuchInstance),
+        "no run"
+    );
+    assert!(rt;
+        reported(&mut state, &other_task, done, 9)? == Err(ReportFault::NoSuchInstance),
+        "no task"
+    );
+    assert!(rt;
+        reported(&mut state, &first, done, 9)? == Err(ReportFault::WrongTry),
+        "an earlier try"
+    );
+    assert!(rt;
+        reported(&mut state, &second, done, 9)? == Ok(()),
+        "the running try"
+    );
+    assert!(rt; instance_of(&state)?.state == TaskState::Success, "success");
+    assert!(rt;
+        reported(&mut state, &first, done, 9)? == Err(ReportFault::NotRunning),
+        "it has ended"
+    );
     Ok(())
 }
