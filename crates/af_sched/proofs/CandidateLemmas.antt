@@ -26,7 +26,7 @@ use Rattle.af_sched.proofs.ChoosingLemmas.{same_seat_laws, pooled_order}
 use Rattle.af_sched.proofs.StartLemmas.{get_or-same}
 
 -- ---- the instances of all runs are apart
-abbrev Rise : List Run → Type 0
+abbrev pub Rise : List Run → Type 0
 Rise runs = (i j : ℕ) (d : Run) → i < j → j < length runs → (get_or runs i d).number < (get_or runs j d).number
 
 abbrev apart_from : ℕ → List Placed → Type 0
@@ -68,7 +68,7 @@ apart_in dags number [] others = tt
 apart_in dags number (run ∷ runs) others =
     apart_rows number run 0 (tasks_of dags run.dag_id) run.instances (placed_in dags runs) (others 0 run (omega arith)) (apart_in dags number runs (λ k d inside. others (suc k) d (omega arith)))
 
-distinct_in : (dags : List DagRow) (runs : List Run) → Rise runs → IsDistinct same_seat (placed_in dags runs)
+pub distinct_in : (dags : List DagRow) (runs : List Run) → Rise runs → IsDistinct same_seat (placed_in dags runs)
 unfolding IsDistinct
 distinct_in dags [] rise = tt
 distinct_in dags (run ∷ runs) rise =

@@ -80,7 +80,7 @@ rec_at P [] all k d inside = absurd (omega arith)
 rec_at P (x ∷ xs) all zero d inside = all.0
 rec_at P (x ∷ xs) all (suc k) d inside = rec_at P xs all.1 k d (omega arith)
 
-given-add : (p q : Placed → Bool) (c : Placed) (all : List Placed) → IsDistinct same_seat all → (k : ℕ) (d : Placed) → k < length all → get_or all k d ≡ c → p c ≡ false → q c ≡ true → All (λ o. same_seat c o ≡ false → q o ≡ p o) all → given q all ≡ given p all + c.task.pool_slots
+pub given-add : (p q : Placed → Bool) (c : Placed) (all : List Placed) → IsDistinct same_seat all → (k : ℕ) (d : Placed) → k < length all → get_or all k d ≡ c → p c ≡ false → q c ≡ true → All (λ o. same_seat c o ≡ false → q o ≡ p o) all → given q all ≡ given p all + c.task.pool_slots
 unfolding IsDistinct
 given-add p q c [] distinct k d inside is not holds others = absurd (omega arith)
 given-add p q c (x ∷ xs) distinct zero d inside is not holds others =

@@ -13,3 +13,5 @@ mod KeyLemmas
 mod LikeLemmas
 mod PlanLemmas
 mod TickLemmas
+mod SlotsLemmas
+mod SlotsLawLemmas

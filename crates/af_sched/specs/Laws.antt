@@ -1,9 +1,11 @@
 -- Laws about ticks, in words of their own.
-use Rattle.std.specs.Prelude.{ℕ, ◌≡◌, List, None, length}
+use Rattle.std.specs.Prelude.{ℕ, ◌≡◌, ◌≤◌, List, None, length, max}
 use Rattle.af_graph.specs.Definition.{fault_of}
 use Rattle.af_graph.specs.declared.task_spec.TaskSpec.{TaskSpec}
+use Rattle.af_pool.specs.Pools.{slots_of}
+use Rattle.af_runs.specs.Runs.{AreRuns}
 use Rattle.af_runs.specs.declared.instance.Instance.{Instance}
-use Rattle.af_sched.specs.Queue.{Queues}
+use Rattle.af_sched.specs.Queue.{Queues, occupied}
 use Rattle.af_sched.specs.Settle.{SettlesInstances, Settles}
 use Rattle.af_sched.specs.State.{StateRows, AreRows}
 use Rattle.af_sched.specs.Tick.{IsTick}
@@ -28,3 +30,8 @@ TickIsOne = (t : ℕ) (old one other : StateRows) → AreRows old.dags old.runs 
 -- after a tick the rows are as they are at all times
 abbrev pub TickKeepsRows : Type 0
 TickKeepsRows = (t : ℕ) (old new : StateRows) → AreRows old.dags old.runs → IsTick t old new → AreRows new.dags new.runs
+
+-- after a tick the slots occupied in a pool are at most the greater of its slots and of what was occupied before
+abbrev pub SlotsAreKept : Type 0
+SlotsAreKept =
+    (t : ℕ) (old new : StateRows) (pool : List ℕ) → AreRuns old.runs old.next_run → IsTick t old new → occupied new.dags new.runs pool ≤ max (slots_of new.pools pool) (occupied old.dags old.runs pool)

@@ -1,4 +1,4 @@
-ghost use Rattle.af_sched.specs.Laws.{QueuedStateIsOne, SettlingIsOne, SettledStateIsOne, TickIsOne, TickKeepsRows};
+ghost use Rattle.af_sched.specs.Laws.{QueuedStateIsOne, SettlingIsOne, SettledStateIsOne, SlotsAreKept, TickIsOne, TickKeepsRows};
 
 /// The trigger rules decide in one way what becomes of a run's instances, since no definition has a cycle.
 pub fn settling_is_one()
@@ -23,4 +23,9 @@ pub fn a_tick_is_one()
 /// After a tick the rows are as they are at all times.
 pub fn a_tick_keeps_the_rows()
     ensures { TickKeepsRows }
+{}
+
+/// After a tick the slots occupied in a pool are at most the greater of its slots and of what was occupied before.
+pub fn a_tick_fills_no_pool()
+    ensures { SlotsAreKept }
 {}

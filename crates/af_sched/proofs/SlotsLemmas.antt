@@ -1,0 +1,312 @@
+-- After a tick no pool holds more than the greater of its slots and of what it held before.
+use Rattle.std.proofs.Common.{◌≡◌, ◌<◌, ◌≤◌, ◌+◌, ◌∙◌, ℕ, List, [], ◌∷◌, ◌++◌, length, map, get_or, refl, sym, ap, subst, arith, zero, suc, Bool, true, false, cond, ◌&&◌, ⊎_elim, ◌⊎◌, inl, inr, max}
+use Rattle.std.specs.Prelude.{Contains, filter, zip, MatchBool, None}
+use Rattle.std.specs.Option.{option_map_or}
+use Rattle.std.specs.List.{enumerate_from, AllZip, AllByRecursion, IsDistinct}
+use Rattle.std.specs.Ordering.{nat_cmp, is_lt}
+use Rattle.std.specs.declared.cmp.Ordering.{Ordering}
+use Rattle.std.specs.declared.cmp.Ordering.TheVariants.{Less, Equal, Greater}
+use Rattle.std.proofs.lemmas.Bool.{cases_Bool, true≢false, false≢true}
+use Rattle.std.proofs.lemmas.Bool.Decides.{nat_tests}
+use Rattle.std.proofs.lemmas.List.Sums.{sum_by-cons}
+use Rattle.std.proofs.lemmas.Slice.Eq.{slice_eq-Decides}
+use Rattle.std.specs.Cmp.{unsigned_Decides}
+use Rattle.std.specs.Cmp.Lexicographic.{nat_list_eq_equiv}
+use Rattle.af_graph.specs.Graph.{same_name}
+use Rattle.af_graph.specs.declared.task_spec.TaskSpec.{TaskSpec}
+use Rattle.af_graph.specs.declared.task_state.TaskState.{TaskState}
+use Rattle.af_graph.specs.declared.task_state.TaskState.TheVariants as task_state
+use Rattle.af_graph.specs.declared.verdict.Verdict.{Verdict}
+use Rattle.af_graph.specs.declared.verdict.Verdict.TheVariants as verdict
+use Rattle.af_pool.specs.Occupants.{OccupantRow, holds_slots, occupies}
+use Rattle.af_pool.specs.Pools.{slots_of}
+use Rattle.af_pool.specs.declared.pool.Pool.{Pool}
+use Rattle.af_runs.specs.declared.instance.Instance.{Instance}
+use Rattle.af_runs.specs.declared.run.Run.{Run}
+use Rattle.af_sched.specs.Choosing.{held_of, same_seat}
+use Rattle.af_sched.specs.Placed.{Placed, placed_in, placed_cmp, comes_before}
+use Rattle.af_sched.specs.Queue.{occupied, occupant_of, queued_instance, with_queued, IsQueueing, may_queue, finds_room, queued_earlier}
+use Rattle.af_runs.specs.Instances.{new_instances}
+use Rattle.af_sched.specs.Finish.{ends, ended_run, finished_run}
+use Rattle.af_sched.specs.Moves.{finished_runs}
+use Rattle.af_sched.specs.Start.{starts, started_run, started_runs}
+use Rattle.af_sched.specs.Settle.{SettlesIfLive, SettlesRun, decided_instance, is_live, settled_in, may_retry}
+use Rattle.af_sched.specs.State.{tasks_of}
+use Rattle.af_sched.specs.declared.dag_row.DagRow.{DagRow}
+use Rattle.af_sched.proofs.ChoosingLemmas.{given, given-add}
+use Rattle.af_sched.proofs.PlacedLemmas.{placed_order, before_trans, before_itself}
+use Rattle.af_sched.proofs.SeatLemmas.{queued_at}
+use Rattle.af_sched.proofs.StartLemmas.{get_or-same}
+
+-- ---- the last of some instances
+last_one : (xs : List Placed) → (xs ≡ []) ⊎ ((c : Placed) × Contains xs c × ((o : Placed) → Contains xs o → comes_before c o ≡ false))
+last_one [] = inl refl
+last_one (x ∷ xs) = inr (with_rest (last_one xs))
+  where
+    not : (b : Bool) → (b ≡ true → false ≡ true) → b ≡ false
+    not true never = absurd (false≢true (never refl))
+    not false never = refl
+
+    in_rest : (o : Placed) → Contains (x ∷ xs) o → (x ≡ o) ⊎ Contains xs o
+    in_rest o (zero, low, is) = inl is
+    in_rest o (suc k, low, is) = inr (k, omega arith, is)
+
+    with_rest : (xs ≡ []) ⊎ ((c : Placed) × Contains xs c × ((o : Placed) → Contains xs o → comes_before c o ≡ false)) → (c : Placed) × Contains (x ∷ xs) c × ((o : Placed) → Contains (x ∷ xs) o → comes_before c o ≡ false)
+    with_rest (inl none) =
+        (x, (zero, omega arith, refl), λ o has. ⊎_elim (λ (is : x ≡ o). subst (λ (p : Placed). comes_before x p ≡ false) is (before_itself x)) (λ (more : Contains xs o). let long = ap length none in absurd (omega (arith, more.1))) (in_rest o has))
+    with_rest (inr (c, has_c, last)) =
+        ⊎_elim
+        (λ (up : comes_before c x ≡ true).
+        (x, (zero, omega arith, refl), λ o has. ⊎_elim (λ (is : x ≡ o). subst (λ (p : Placed). comes_before x p ≡ false) is (before_itself x)) (λ (more : Contains xs o). not (comes_before x o) (λ on. sym (last o more) ∙ before_trans c x o up on)) (in_rest o has)))
+        (λ (down : comes_before c x ≡ false).
+        (c, (suc has_c.0, omega (arith, has_c.1), has_c.2), λ o has. ⊎_elim (λ (is : x ≡ o). subst (λ (p : Placed). comes_before c p ≡ false) is down) (λ (more : Contains xs o). last o more) (in_rest o has)))
+        (cases_Bool (comes_before c x))
+
+-- ---- what is queued of a pool fits
+equal_seats : (a b : Placed) → placed_cmp a b ≡ Equal → same_seat a b ≡ true
+equal_seats a b same = by (Rattle.std.specs.Ordering.int_cmp b.task.priority_weight a.task.priority_weight) same
+  where
+    last : (o : Ordering) → nat_cmp a.run.number b.run.number ≡ o → Rattle.std.specs.Ordering.ordering_then o (nat_cmp a.place b.place) ≡ Equal → same_seat a b ≡ true
+    last Less is e = absurd (cc)
+    last Greater is e = absurd (cc)
+    last Equal is e = grind (arith, nat_tests)
+
+    by : (p : Ordering) → Rattle.std.specs.Ordering.ordering_then p (Rattle.std.specs.Ordering.ordering_then (nat_cmp a.run.number b.run.number) (nat_cmp a.place b.place)) ≡ Equal → same_seat a b ≡ true
+    by Less e = absurd (cc)
+    by Greater e = absurd (cc)
+    by Equal e = last (nat_cmp a.run.number b.run.number) refl e
+
+turns : (a b : Placed) → same_seat a b ≡ false → comes_before a b ≡ false → comes_before b a ≡ true
+turns a b apart not = by (placed_cmp a b) (placed_order.antisymm b a) (λ same. sym apart ∙ equal_seats a b same) not
+  where
+    by : (o : Ordering) → placed_cmp b a ≡ Rattle.std.specs.Ordering.ordering_reverse o → (o ≡ Equal → false ≡ true) → is_lt o ≡ false → comes_before b a ≡ true
+    by Less is other not = absurd (true≢false not)
+    by Equal is other not = absurd (false≢true (other refl))
+    by Greater is other not = ap is_lt is
+
+passing_of : (q : Placed → Bool) (xs : List Placed) → AllByRecursion (λ o. Contains xs o × (q o ≡ true)) (filter q xs)
+passing_of q xs = go xs xs (λ k d inside. (k, inside, get_or-same xs k (get_or xs k d) d inside))
+  where
+    go : (all ys : List Placed) → ((k : ℕ) (d : Placed) → k < length ys → Contains all (get_or ys k d)) → AllByRecursion (λ o. Contains all o × (q o ≡ true)) (filter q ys)
+    go all [] has = tt
+    go all (y ∷ ys) has =
+        let rest = go all ys (λ k d inside. has (suc k) d (omega arith)) in
+        ⊎_elim (λ (is : q y ≡ true). rw is ((has 0 y (omega arith), is), rest)) (λ (no : q y ≡ false). rw no rest) (cases_Bool (q y))
+
+rec_of : (P : Placed → Type 0) (xs : List Placed) (o : Placed) → AllByRecursion P xs → Contains xs o → P o
+rec_of P [] o all has = absurd (omega (arith, has.1))
+rec_of P (x ∷ xs) o all (zero, low, is) = subst P is all.0
+rec_of P (x ∷ xs) o all (suc k, low, is) = rec_of P xs o all.1 (k, omega arith, is)
+
+among_passing : (q : Placed → Bool) (xs : List Placed) (o : Placed) → Contains xs o → q o ≡ true → Contains (filter q xs) o
+among_passing q [] o has is = absurd (omega (arith, has.1))
+among_passing q (x ∷ xs) o (zero, low, same) is = let here : q x ≡ true = ap q same ∙ is in rw here (zero, omega arith, same)
+among_passing q (x ∷ xs) o (suc k, low, same) is =
+    let rest = among_passing q xs o (k, omega arith, same) is in
+    ⊎_elim (λ (here : q x ≡ true). rw here (suc rest.0, omega (arith, rest.1), rest.2)) (λ (no : q x ≡ false). rw no rest) (cases_Bool (q x))
+
+name_is : (a b : List ℕ) → same_name a b ≡ true → a ≡ b
+name_is a b same = (slice_eq-Decides unsigned_Decides a b (same_name a b) refl).0 same
+
+and_both : (a b : Bool) → (a && b) ≡ true → (a ≡ true) × (b ≡ true)
+and_both true true is = (refl, refl)
+and_both true false is = absurd (false≢true is)
+and_both false b is = absurd (false≢true is)
+
+module _ (dags : List DagRow) (runs : List Run) (pools : List Pool) (q : ℕ → ℕ → Bool) (distinct : IsDistinct same_seat (placed_in dags runs)) (is : IsQueueing dags runs pools q) where
+  abbrev pub test : List ℕ → Placed → Bool
+  test pool o = q o.run.number o.place && same_name o.task.pool pool
+
+  fits_at : (c : Placed) → Contains (placed_in dags runs) c → q c.run.number c.place ≡ true → ((o : Placed) → Contains (filter (test c.task.pool) (placed_in dags runs)) o → comes_before c o ≡ false) → occupied dags runs c.task.pool + given (test c.task.pool) (placed_in dags runs) ≤ max (slots_of pools c.task.pool) (occupied dags runs c.task.pool)
+  fits_at c has chosen last =
+      let all : List Placed = placed_in dags runs in
+      let pool : List ℕ = c.task.pool in
+      let room = (and_both (may_queue dags c) (finds_room dags runs pools q c) (sym (is.exact c has) ∙ chosen)).1 in
+      let more : given (test pool) all ≡ queued_earlier q all c + c.task.pool_slots =
+      given-add (λ o. q o.run.number o.place && same_name o.task.pool pool && comes_before o c) (test pool) c all distinct has.0 c has.1 has.2
+      (ap (λ (b : Bool). q c.run.number c.place && same_name pool pool && b) (before_itself c) ∙ ends_false (q c.run.number c.place) (same_name pool pool))
+      ((λ i. chosen i && nat_list_eq_equiv.refl pool i))
+      (λ k d inside apart.
+      let o : Placed = get_or all k d in
+      ⊎_elim
+      (λ (passes : test pool o ≡ true).
+      let before : comes_before o c ≡ true = turns c o apart (last o (among_passing (test pool) all o (k, inside, get_or-same all k o d inside) passes)) in
+      passes ∙ (λ i. sym passes i && sym before i))
+      (λ (fails : test pool o ≡ false). fails ∙ (λ i. sym fails i && comes_before o c))
+      (cases_Bool (test pool o))) in
+      grind (arith, nat_tests)
+    where
+      ends_false : (a b : Bool) → (a && b && false) ≡ false
+      ends_false true true = refl
+      ends_false true false = refl
+      ends_false false b = refl
+
+  pub given_fits : (pool : List ℕ) → occupied dags runs pool + given (test pool) (placed_in dags runs) ≤ max (slots_of pools pool) (occupied dags runs pool)
+  given_fits pool = by (last_one (filter (test pool) (placed_in dags runs)))
+    where
+      by : (filter (test pool) (placed_in dags runs) ≡ []) ⊎ ((c : Placed) × Contains (filter (test pool) (placed_in dags runs)) c × ((o : Placed) → Contains (filter (test pool) (placed_in dags runs)) o → comes_before c o ≡ false)) → occupied dags runs pool + given (test pool) (placed_in dags runs) ≤ max (slots_of pools pool) (occupied dags runs pool)
+      by (inl none) =
+          let zero_given : given (test pool) (placed_in dags runs) ≡ 0 = ap (λ (xs : List Placed). Rattle.af_pool.specs.Occupants.slots_of_all (map occupant_of xs)) none in
+          omega (arith, zero_given)
+      by (inr found) =
+          let c : Placed = found.0 in
+          let told = rec_of (λ o. Contains (placed_in dags runs) o × (test pool o ≡ true)) (filter (test pool) (placed_in dags runs)) c (passing_of (test pool) (placed_in dags runs)) found.1 in
+          let parts = and_both (q c.run.number c.place) (same_name c.task.pool pool) told.1 in
+          let named : c.task.pool ≡ pool = name_is c.task.pool pool parts.1 in
+          subst (λ (p : List ℕ). occupied dags runs p + given (test p) (placed_in dags runs) ≤ max (slots_of pools p) (occupied dags runs p)) named
+          (fits_at c told.0 parts.0 (λ o has. found.2 o (subst (λ (p : List ℕ). Contains (filter (test p) (placed_in dags runs)) o) named has)))
+
+-- ---- what the runs hold, task by task
+pub hold : List ℕ → List TaskSpec → List Instance → ℕ
+hold pool [] xs = 0
+hold pool (t ∷ ts) [] = 0
+hold pool (t ∷ ts) (x ∷ xs) = cond (same_name t.pool pool && holds_slots x.state) t.pool_slots 0 + hold pool ts xs
+
+abbrev pub hold_run : List DagRow → List ℕ → Run → ℕ
+hold_run dags pool run = hold pool (tasks_of dags run.dag_id) run.instances
+
+held_cons : (p : Placed) (ps : List Placed) (pool : List ℕ) → held_of (p ∷ ps) pool ≡ cond (same_name p.task.pool pool && holds_slots p.instance.state) p.task.pool_slots 0 + held_of ps pool
+held_cons p ps pool =
+    ⊎_elim
+    (λ (is : occupies pool (occupant_of p) ≡ true). rw is (sum_by-cons (λ (o : OccupantRow). o.slots) (occupant_of p) (filter (occupies pool) (map occupant_of ps))))
+    (λ (not : occupies pool (occupant_of p) ≡ false). rw not (let zero_plus : held_of ps pool ≡ 0 + held_of ps pool = omega arith in zero_plus))
+    (cases_Bool (occupies pool (occupant_of p)))
+
+abbrev pub rows : Run → ℕ → List TaskSpec → List Instance → List Placed
+rows run n tasks instances = map (λ row. record { run = run; place = row.0; task = row.1.0; instance = row.1.1 }) (enumerate_from n (zip tasks instances))
+
+held_rows : (run : Run) (n : ℕ) (tasks : List TaskSpec) (instances : List Instance) (ys : List Placed) (pool : List ℕ) → held_of (rows run n tasks instances ++ ys) pool ≡ hold pool tasks instances + held_of ys pool
+unfolding hold
+held_rows run n [] xs ys pool = omega arith
+held_rows run n (t ∷ ts) [] ys pool = omega arith
+held_rows run n (t ∷ ts) (x ∷ xs) ys pool =
+    let here = held_cons (record { run = run; place = n; task = t; instance = x }) (rows run (n + 1) ts xs ++ ys) pool in
+    let rest = held_rows run (n + 1) ts xs ys pool in
+    here ∙ (omega (arith, rest))
+
+occupied_cons : (dags : List DagRow) (run : Run) (runs : List Run) (pool : List ℕ) → occupied dags (run ∷ runs) pool ≡ hold_run dags pool run + occupied dags runs pool
+occupied_cons dags run runs pool = held_rows run 0 (tasks_of dags run.dag_id) run.instances (placed_in dags runs) pool
+
+pub occupied_same : (dags : List DagRow) (pool : List ℕ) (xs ys : List Run) → AllZip (λ x y. hold_run dags pool y ≡ hold_run dags pool x) xs ys → occupied dags ys pool ≡ occupied dags xs pool
+occupied_same dags pool [] [] all = refl
+occupied_same dags pool [] (y ∷ ys) all = absurd all
+occupied_same dags pool (x ∷ xs) [] all = absurd all
+occupied_same dags pool (x ∷ xs) (y ∷ ys) all =
+    occupied_cons dags y ys pool ∙ (λ i. all.0 i + occupied_same dags pool xs ys all.1 i) ∙ sym (occupied_cons dags x xs pool)
+
+-- ---- the phases that leave what is held
+zip_map : (R : Run → Run → Type 0) (f : Run → Run) → ((x : Run) → R x (f x)) → (xs : List Run) → AllZip R xs (map f xs)
+zip_map R f each [] = tt
+zip_map R f each (x ∷ xs) = (each x, zip_map R f each xs)
+
+hold_cond : (dags : List DagRow) (pool : List ℕ) (b : Bool) (one other : Run) → hold_run dags pool one ≡ hold_run dags pool other → hold_run dags pool (cond b one other) ≡ hold_run dags pool other
+hold_cond dags pool true one other same = same
+hold_cond dags pool false one other same = refl
+
+pub occupied_started : (t : ℕ) (dags : List DagRow) (runs : List Run) (pool : List ℕ) → occupied dags (started_runs t dags runs) pool ≡ occupied dags runs pool
+occupied_started t dags runs pool =
+    occupied_same dags pool runs (started_runs t dags runs) (zip_map (λ x y. hold_run dags pool y ≡ hold_run dags pool x) (λ run. cond (starts dags runs run) (started_run t run) run) (λ run. hold_cond dags pool (starts dags runs run) (started_run t run) run refl) runs)
+
+pub occupied_finished : (t : ℕ) (dags : List DagRow) (runs : List Run) (pool : List ℕ) → occupied dags (finished_runs t dags runs) pool ≡ occupied dags runs pool
+occupied_finished t dags runs pool =
+    occupied_same dags pool runs (finished_runs t dags runs) (zip_map (λ x y. hold_run dags pool y ≡ hold_run dags pool x) (λ run. finished_run t (tasks_of dags run.dag_id) run) (λ run. hold_cond dags pool (ends run) (ended_run t (tasks_of dags run.dag_id) run) run refl) runs)
+
+decided_holds : (t : ℕ) (v : Verdict) (x : Instance) → holds_slots x.state ≡ false → holds_slots (decided_instance t v x).state ≡ false
+decided_holds t verdict.Ready x idle = refl
+decided_holds t verdict.UpstreamFailed x idle = refl
+decided_holds t verdict.Skipped x idle = refl
+decided_holds t verdict.Wait x idle = idle
+
+retried_holds : (t : ℕ) (b : Bool) (x : Instance) → holds_slots x.state ≡ false → holds_slots (cond b (record x { state = task_state.Scheduled; retry_at = None }) x).state ≡ false
+retried_holds t true x idle = refl
+retried_holds t false x idle = idle
+
+settled_holds_in : (s : TaskState) (t : ℕ) (v : Verdict) (x : Instance) → x.state ≡ s → holds_slots (settled_in s t v x).state ≡ holds_slots x.state
+settled_holds_in task_state.NoStatus t v x is = let idle : holds_slots x.state ≡ false = ap holds_slots is in decided_holds t v x idle ∙ sym idle
+settled_holds_in task_state.UpForRetry t v x is = let idle : holds_slots x.state ≡ false = ap holds_slots is in retried_holds t (may_retry t x) x idle ∙ sym idle
+settled_holds_in task_state.Scheduled t v x is = refl
+settled_holds_in task_state.Queued t v x is = refl
+settled_holds_in task_state.Running t v x is = refl
+settled_holds_in task_state.Success t v x is = refl
+settled_holds_in task_state.Failed t v x is = refl
+settled_holds_in task_state.UpstreamFailed t v x is = refl
+settled_holds_in task_state.Skipped t v x is = refl
+
+hold_agree : (pool : List ℕ) (ts : List TaskSpec) (xs ys : List Instance) → length ys ≡ length xs → ((k : ℕ) (d : Instance) → k < length xs → holds_slots (get_or ys k d).state ≡ holds_slots (get_or xs k d).state) → hold pool ts ys ≡ hold pool ts xs
+unfolding hold
+hold_agree pool [] xs ys long same = refl
+hold_agree pool (t ∷ ts) [] [] long same = refl
+hold_agree pool (t ∷ ts) [] (y ∷ ys) long same = absurd (omega arith)
+hold_agree pool (t ∷ ts) (x ∷ xs) [] long same = absurd (omega arith)
+hold_agree pool (t ∷ ts) (x ∷ xs) (y ∷ ys) long same =
+    let rest = hold_agree pool ts xs ys (omega arith) (λ k d inside. same (suc k) d (omega arith)) in
+    λ i. cond (same_name t.pool pool && same 0 x (omega arith) i) t.pool_slots 0 + rest i
+
+hold_settles : (t : ℕ) (dags : List DagRow) (pool : List ℕ) (x y : Run) (b : Bool) → MatchBool b (SettlesRun t (tasks_of dags x.dag_id) x y) (y ≡ x) → hold_run dags pool y ≡ hold_run dags pool x
+hold_settles t dags pool x y false is = ap (hold_run dags pool) is
+hold_settles t dags pool x y true is =
+    let same : y.dag_id ≡ x.dag_id = ap (λ (run : Run). run.dag_id) is.rest in
+    ap (λ (id : List ℕ). hold pool (tasks_of dags id) y.instances) same
+    ∙ hold_agree pool (tasks_of dags x.dag_id) x.instances y.instances is.instances.count (λ k d inside. ap (λ (i : Instance). holds_slots i.state) (is.instances.each k d inside) ∙ settled_holds_in (get_or x.instances k d).state t _ (get_or x.instances k d) refl)
+
+pub occupied_settled : (t : ℕ) (dags : List DagRow) (pool : List ℕ) (xs ys : List Run) → AllZip (SettlesIfLive t dags) xs ys → occupied dags ys pool ≡ occupied dags xs pool
+occupied_settled t dags pool xs ys all = occupied_same dags pool xs ys (go xs ys all)
+  where
+    go : (xs ys : List Run) → AllZip (SettlesIfLive t dags) xs ys → AllZip (λ x y. hold_run dags pool y ≡ hold_run dags pool x) xs ys
+    go [] [] all = tt
+    go [] (y ∷ ys) all = absurd all
+    go (x ∷ xs) [] all = absurd all
+    go (x ∷ xs) (y ∷ ys) all = (hold_settles t dags pool x y (is_live dags x) all.0, go xs ys all.1)
+
+-- ---- new runs hold nothing
+pub hold_new : (pool : List ℕ) (ts us : List TaskSpec) → hold pool ts (new_instances us) ≡ 0
+unfolding hold
+hold_new pool [] us = refl
+hold_new pool (t ∷ ts) [] = refl
+hold_new pool (t ∷ ts) (u ∷ us) =
+    let rest = hold_new pool ts us in
+    ⊎_elim (λ (is : same_name t.pool pool ≡ true). rw is (omega (arith, rest))) (λ (not : same_name t.pool pool ≡ false). rw not (omega (arith, rest))) (cases_Bool (same_name t.pool pool))
+
+pub occupied_push : (dags : List DagRow) (runs : List Run) (run : Run) (pool : List ℕ) → hold_run dags pool run ≡ 0 → occupied dags (runs ++ run ∷ []) pool ≡ occupied dags runs pool
+occupied_push dags [] run pool none = occupied_cons dags run [] pool ∙ (omega (arith, none))
+occupied_push dags (x ∷ runs) run pool none =
+    occupied_cons dags x (runs ++ run ∷ []) pool ∙ ap (λ n. hold_run dags pool x + n) (occupied_push dags runs run pool none) ∙ sym (occupied_cons dags x runs pool)
+
+-- ---- what is queued is held
+given_cons : (q : Placed → Bool) (p : Placed) (ps : List Placed) → given q (p ∷ ps) ≡ cond (q p) p.task.pool_slots 0 + given q ps
+given_cons q p ps =
+    ⊎_elim
+    (λ (is : q p ≡ true). rw is (sum_by-cons (λ (o : OccupantRow). o.slots) (occupant_of p) (map occupant_of (filter q ps))))
+    (λ (not : q p ≡ false). rw not (let zero_plus : given q ps ≡ 0 + given q ps = omega arith in zero_plus))
+    (cases_Bool (q p))
+
+queued_holds : (b m : Bool) (x : Instance) (n : ℕ) → (b ≡ true → holds_slots x.state ≡ false) → cond (m && holds_slots (cond b (queued_instance x) x).state) n 0 ≡ cond (m && holds_slots x.state) n 0 + cond (b && m) n 0
+queued_holds true true x n idle = rw (idle refl) (omega arith)
+queued_holds true false x n idle = omega arith
+queued_holds false m x n idle = omega arith
+
+module _ (q : ℕ → ℕ → Bool) (pool : List ℕ) where
+  abbrev pub queues : Placed → Bool
+  queues o = q o.run.number o.place && same_name o.task.pool pool
+
+  abbrev pub Idle : List Placed → Type 0
+  Idle ps = AllByRecursion (λ o. q o.run.number o.place ≡ true → holds_slots o.instance.state ≡ false) ps
+
+  hold_queued : (run : Run) (n : ℕ) (ts : List TaskSpec) (xs : List Instance) (ys : List Placed) → Idle (rows run n ts xs ++ ys) → (hold pool ts (queued_at (q run.number) n xs) + given queues ys ≡ hold pool ts xs + given queues (rows run n ts xs ++ ys)) × Idle ys
+  unfolding hold
+  hold_queued run n [] xs ys idle = (refl, idle)
+  hold_queued run n (t ∷ ts) [] ys idle = (refl, idle)
+  hold_queued run n (t ∷ ts) (x ∷ xs) ys idle =
+      let rest = hold_queued run (n + 1) ts xs ys idle.1 in
+      let here = queued_holds (q run.number n) (same_name t.pool pool) x t.pool_slots idle.0 in
+      let more = given_cons queues (record { run = run; place = n; task = t; instance = x }) (rows run (n + 1) ts xs ++ ys) in
+      (omega (arith, rest.0, here, more), rest.1)
+
+  pub occupied_queued : (dags : List DagRow) (runs : List Run) → Idle (placed_in dags runs) → occupied dags (map (λ run. with_queued (q run.number) run) runs) pool ≡ occupied dags runs pool + given queues (placed_in dags runs)
+  occupied_queued dags [] idle = refl
+  occupied_queued dags (run ∷ runs) idle =
+      let here = hold_queued run 0 (tasks_of dags run.dag_id) run.instances (placed_in dags runs) idle in
+      let rest = occupied_queued dags runs here.1 in
+      let new = occupied_cons dags (with_queued (q run.number) run) (map (λ r. with_queued (q r.number) r) runs) pool in
+      let old = occupied_cons dags run runs pool in
+      omega (arith, here.0, rest, new, old)
