@@ -346,6 +346,15 @@ fn is_before(state: &State) -> Result<bool, Fail> {
     Ok(state.runs().is_empty() && cursor_is(state, "2024-01-01T00:00:00Z")?)
 }
 
+/// How many runs have their one instance queued.
+fn queued_in(state: &State) -> usize {
+    state
+        .runs()
+        .iter()
+        .filter(|run| are(run, &[TaskState::Queued]))
+        .count()
+}
+
 #[test]
 fn a_refused_growth_leaves_the_state(rt: HostRuntime) -> Result<(), Fail> {
     let alloc = rt.alloc();
@@ -360,16 +369,9 @@ fn a_refused_growth_leaves_the_state(rt: HostRuntime) -> Result<(), Fail> {
         return Ok(());
     };
     assert!(rt; changes && state.runs().len() == 16, "sixteen runs");
-    let queued = |state: &State| {
-        state
-            .runs()
-            .iter()
-            .filter(|run| are(run, &[TaskState::Queued]))
-            .count()
-    };
     match state.claim(alloc, moment) {
-        Ok(claim) => assert!(rt; claim.is_some() && queued(&state) == 1, "one is claimed"),
-        Err(_) => assert!(rt; queued(&state) == 2, "as before the claim"),
+        Ok(claim) => assert!(rt; claim.is_some() && queued_in(&state) == 1, "one is claimed"),
+        Err(_) => assert!(rt; queued_in(&state) == 2, "as before the claim"),
     }
     Ok(())
 }
