@@ -1,10 +1,12 @@
 -- Laws about ticks, in words of their own.
-use Rattle.std.specs.Prelude.{ℕ, ◌≡◌, ◌≤◌, List, None, length, max}
+use Rattle.std.specs.Prelude.{ℕ, ◌≡◌, ◌≤◌, List, Bool, true, Some, None, length, max, Contains}
 use Rattle.af_graph.specs.Definition.{fault_of}
 use Rattle.af_graph.specs.declared.task_spec.TaskSpec.{TaskSpec}
 use Rattle.af_pool.specs.Pools.{slots_of}
-use Rattle.af_runs.specs.Runs.{AreRuns}
+use Rattle.af_runs.specs.Runs.{AreRuns, is_finished}
 use Rattle.af_runs.specs.declared.instance.Instance.{Instance}
+use Rattle.af_runs.specs.declared.run.Run.{Run}
+use Rattle.af_sched.specs.Due.{moved_cursor, taken_points}
 use Rattle.af_sched.specs.Queue.{Queues, occupied}
 use Rattle.af_sched.specs.Settle.{SettlesInstances, Settles}
 use Rattle.af_sched.specs.State.{StateRows, AreRows}
@@ -35,3 +37,13 @@ TickKeepsRows = (t : ℕ) (old new : StateRows) → AreRows old.dags old.runs �
 abbrev pub SlotsAreKept : Type 0
 SlotsAreKept =
     (t : ℕ) (old new : StateRows) (pool : List ℕ) → AreRuns old.runs old.next_run → IsTick t old new → occupied new.dags new.runs pool ≤ max (slots_of new.pools pool) (occupied old.dags old.runs pool)
+
+-- a run that has ended keeps its state and its dates through a tick
+abbrev pub EndedRunsStay : Type 0
+EndedRunsStay =
+    (t : ℕ) (old new : StateRows) (run : Run) → IsTick t old new → Contains old.runs run → is_finished run.state ≡ true → (later : Run) × Contains new.runs later × (later ≡ record run { instances = later.instances })
+
+-- no tick takes a point that an earlier one took: the points taken from where a cursor has moved to are beyond them
+abbrev pub NoPointIsTakenTwice : Type 0
+NoPointIsTakenTwice =
+    (catchup : Bool) (is_point : ℕ → Bool) (cursor later t u point : ℕ) → moved_cursor is_point (taken_points catchup is_point cursor t) cursor ≡ Some later → Contains (taken_points catchup is_point cursor t) point → Contains (taken_points catchup is_point later u) point → ⊥

@@ -1,4 +1,4 @@
-ghost use Rattle.af_sched.specs.Laws.{QueuedStateIsOne, SettlingIsOne, SettledStateIsOne, SlotsAreKept, TickIsOne, TickKeepsRows};
+ghost use Rattle.af_sched.specs.Laws.{EndedRunsStay, NoPointIsTakenTwice, QueuedStateIsOne, SettlingIsOne, SettledStateIsOne, SlotsAreKept, TickIsOne, TickKeepsRows};
 
 /// The trigger rules decide in one way what becomes of a run's instances, since no definition has a cycle.
 pub fn settling_is_one()
@@ -28,4 +28,14 @@ pub fn a_tick_keeps_the_rows()
 /// After a tick the slots occupied in a pool are at most the greater of its slots and of what was occupied before.
 pub fn a_tick_fills_no_pool()
     ensures { SlotsAreKept }
+{}
+
+/// A run that has ended keeps its state and its dates through a tick.
+pub fn ended_runs_stay()
+    ensures { EndedRunsStay }
+{}
+
+/// No tick takes a point that an earlier one took.
+pub fn no_point_is_taken_twice()
+    ensures { NoPointIsTakenTwice }
 {}

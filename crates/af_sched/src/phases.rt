@@ -68,7 +68,9 @@ fn finish_run(dags: &[DagRow], at: Instant, run: &mut Run)
     requires { IsWhole dags.now run.old }
     ensures { run.new ≡ finished_run at (tasks_of dags.now run.old.dag_id) run.old }
 {
-    if let Some(row) = dag_of(dags, &run.dag_id) {
-        finish(&row.dag, at, run);
+    if run.state == RunState::Running {
+        if let Some(row) = dag_of(dags, &run.dag_id) {
+            finish(&row.dag, at, run);
+        }
     }
 }
