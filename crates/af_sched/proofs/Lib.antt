@@ -9,6 +9,7 @@ mod PlanLemmas
 mod SeatLemmas
 mod SlotsLawLemmas
 mod SlotsLemmas
+mod StandingLemmas
 mod TakenLemmas
 mod TickLemmas
 pub mod FinishLemmas

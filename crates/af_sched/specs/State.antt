@@ -29,6 +29,10 @@ pub record StateWithRoom : Type 0 where
   pub spare_runs : ℕ
   pub spare_pools : ℕ
 
+-- the DAGs are in byte order of their ids, and no two have one id
+abbrev pub AreInOrder : List DagRow → Type 0
+AreInOrder dags = IsStrictlySortedBy (slice_cmp nat_cmp) (map (λ row. row.dag.dag_id) dags)
+
 -- whether the row is that of the DAG of this id
 abbrev pub is_of_id : List ℕ → DagRow → Bool
 is_of_id dag_id row = same_name row.dag.dag_id dag_id
@@ -55,8 +59,7 @@ IsWhole dags run = option_map (λ row. length row.dag.tasks) (dag_of dags run.da
 
 -- what holds of the rows at all times
 pub record AreRows (dags : List DagRow) (runs : List Run) : Type 0 where
-  -- the DAGs are in byte order of their ids, and no two have one id
-  pub in_order : IsStrictlySortedBy (slice_cmp nat_cmp) (map (λ row. row.dag.dag_id) dags)
+  pub in_order : AreInOrder dags
   pub few : length dags ≤ 1_024
   -- no definition has a fault
   pub sound : All (λ row. fault_of row.dag.tasks ≡ None) dags

@@ -1,5 +1,5 @@
 -- What the steps of the calls keep. No public contract cites this file.
-use Rattle.std.specs.Prelude.{ℕ, ◌≡◌, ◌++◌, Bool, fold, List, Option, Some, None, slice_index_or, slice_set, if◌then◌else◌}
+use Rattle.std.specs.Prelude.{ℕ, ◌≡◌, ◌<◌, ◌++◌, Bool, fold, length, List, Option, Some, None, slice_index_or, slice_set, if◌then◌else◌}
 use Rattle.af_graph.specs.declared.task_spec.TaskSpec.{TaskSpec}
 use Rattle.af_runs.specs.declared.instance.Instance.{Instance}
 use Rattle.af_runs.specs.Runs.{RunRows}
@@ -7,8 +7,13 @@ use Rattle.af_runs.specs.declared.new_run.NewRun.{NewRun}
 use Rattle.af_sched.specs.Create.{with_run, with_runs_of}
 use Rattle.af_sched.specs.Settle.{settled_instance, verdict_at}
 use Rattle.af_sched.specs.Placed.{Placed, comes_before, IsFirstOf}
-use Rattle.af_sched.specs.State.{StateRows}
+use Rattle.af_sched.specs.State.{StateRows, dag_of}
 use Rattle.af_sched.specs.declared.dag_row.DagRow.{DagRow}
+
+-- the row at this place is that of the DAG of this id
+pub record StandsAt (dags : List DagRow) (dag_id : List ℕ) (place : ℕ) : Type 0 where
+  pub within : place < length dags
+  pub found : (d : DagRow) → dag_of dags dag_id ≡ Some (slice_index_or dags place d)
 
 -- of two instances that come first, the one that does
 abbrev pub earlier : Option Placed → Placed → Placed

@@ -7,7 +7,7 @@ ghost use Rattle.af_sched.specs.Choosing.{AreCandidates, Chooses, held_of, is_am
 ghost use Rattle.af_sched.specs.Placed.{Placed};
 ghost use Rattle.af_sched.specs.Queue.{IsQueueing, may_queue, occupant_of};
 
-use crate::dag_row::DagRow;
+use crate::dags::Dags;
 use crate::placed::{PlacedInstance, placed_in};
 use crate::seat::Seat;
 use af_names::PoolName;
@@ -19,7 +19,7 @@ use std::alloc::{AllocError, Global};
 /// and all are gone over once for each pool of a scheduled one.
 pub(crate) fn chosen(
     alloc: Global,
-    dags: &[DagRow],
+    dags: &Dags<'_>,
     pools: &Pools,
     runs: &[Run],
 ) -> Result<Vec<Seat>, AllocError>
@@ -35,7 +35,7 @@ pub(crate) fn chosen(
 /// Those of these instances that may be queued.
 fn scheduled<'a>(
     alloc: Global,
-    dags: &[DagRow],
+    dags: &Dags<'_>,
     all: &[PlacedInstance<'a>],
 ) -> Result<Vec<PlacedInstance<'a>>, AllocError>
     ensures { IfOk result (λ candidates. candidates.items ≡ filter (may_queue dags.now) all.now) }

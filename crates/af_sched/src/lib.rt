@@ -6,6 +6,7 @@ mod choosing;
 mod claim;
 mod creating;
 mod dag_row;
+mod dags;
 mod due;
 mod executor;
 mod finishing;

@@ -4,7 +4,7 @@ ghost use Rattle.std.specs.Ordering.{nat_cmp};
 ghost use Rattle.af_sched.specs.Moves.{MovesOn};
 ghost use Rattle.af_sched.specs.State.{IsWhole};
 
-use crate::dag_row::DagRow;
+use crate::dags::Dags;
 use crate::phases::{finish_all, settle_all};
 use crate::queueing::queue_all;
 use crate::starting::start_all;
@@ -16,7 +16,7 @@ use std::alloc::{AllocError, Global};
 /// The runs after the second to the fifth phase of a tick. `AllocError` only where a growth was refused.
 pub(crate) fn moved_on(
     alloc: Global,
-    dags: &[DagRow],
+    dags: &Dags<'_>,
     pools: &Pools,
     at: Instant,
     runs: Runs,
@@ -34,7 +34,7 @@ pub(crate) fn moved_on(
 /// may have been done then.
 fn move_on(
     alloc: Global,
-    dags: &[DagRow],
+    dags: &Dags<'_>,
     pools: &Pools,
     at: Instant,
     runs: &mut [Run],

@@ -5,8 +5,7 @@ ghost use Rattle.af_sched.specs.Choosing.{pooled_cmp};
 ghost use Rattle.af_sched.specs.Placed.{comes_before, placed_cmp, placed_of, placed_in};
 ghost use Rattle.af_sched.specs.Queue.{may_queue, occupant_of};
 
-use crate::dag_row::DagRow;
-use crate::phases::{dag_of, tasks_of};
+use crate::dags::Dags;
 use crate::seat::Seat;
 use af_graph::{TaskSpec, TaskState};
 use af_names::{Instant, PoolName};
@@ -64,13 +63,13 @@ impl<'a> PlacedInstance<'a> {
     }
 
     /// Whether it may be queued: it is scheduled, and its run is running, of a DAG that is not paused.
-    pub(crate) fn may_queue(&self, dags: &[DagRow]) -> bool
+    pub(crate) fn may_queue(&self, dags: &Dags<'_>) -> bool
         ensures { result ≡ may_queue dags.now self.now }
     {
         if self.instance.state != TaskState::Scheduled || self.run.state != RunState::Running {
             return false;
         }
-        match dag_of(dags, &self.run.dag_id) {
+        match dags.get(&self.run.dag_id) {
             Some(row) => !row.is_paused,
             None => false,
         }
@@ -132,14 +131,14 @@ impl<'a> PlacedInstance<'a> {
 /// The instances of these runs, in the order of runs and places. `AllocError` only where a growth was refused.
 pub(crate) fn placed_in<'a>(
     alloc: Global,
-    dags: &'a [DagRow],
+    dags: &Dags<'a>,
     runs: &'a [Run],
 ) -> Result<Vec<PlacedInstance<'a>>, AllocError>
     ensures { IfOk result (λ all. all.items ≡ placed_in dags.now runs.now) }
 {
     let mut all = Vec::new(alloc);
     for run in runs {
-        place_run(tasks_of(dags, &run.dag_id), run, &mut all)?;
+        place_run(dags.tasks_of(&run.dag_id), run, &mut all)?;
     }
     Ok(all)
 }

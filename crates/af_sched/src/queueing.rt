@@ -7,7 +7,7 @@ ghost use Rattle.af_sched.specs.Choosing.{with_seat};
 ghost use Rattle.af_sched.specs.Queue.{QueuesRuns, queued_instance};
 
 use crate::choosing::chosen;
-use crate::dag_row::DagRow;
+use crate::dags::Dags;
 use crate::seat::Seat;
 use af_graph::TaskState;
 use af_pool::Pools;
@@ -19,7 +19,7 @@ use std::alloc::{AllocError, Global};
 /// where a growth was refused; then the runs are as before.
 pub(crate) fn queue_all(
     alloc: Global,
-    dags: &[DagRow],
+    dags: &Dags<'_>,
     pools: &Pools,
     runs: &mut [Run],
 ) -> Result<(), AllocError>

@@ -1,8 +1,7 @@
 ghost use Rattle.std.specs.Prelude.{◌≡◌, IfOk, OnOk, OnErr, map, if◌then◌else◌};
 ghost use Rattle.af_sched.specs.Start.{queued_before, running_of, started_run, started_runs, starts};
 
-use crate::dag_row::DagRow;
-use crate::phases::dag_of;
+use crate::dags::Dags;
 use af_names::{DagId, Instant};
 use af_runs::{Run, RunState};
 use std::alloc::{AllocError, Global};
@@ -11,7 +10,7 @@ use std::alloc::{AllocError, Global};
 /// `AllocError` only where a growth was refused; then the runs are as before.
 pub(crate) fn start_all(
     alloc: Global,
-    dags: &[DagRow],
+    dags: &Dags<'_>,
     at: Instant,
     runs: &mut [Run],
 ) -> Result<(), AllocError>
@@ -36,7 +35,7 @@ fn start_if(is_chosen: bool, at: Instant, run: &mut Run)
 }
 
 /// Of each run whether it starts.
-fn chosen(alloc: Global, dags: &[DagRow], runs: &[Run]) -> Result<Vec<bool>, AllocError>
+fn chosen(alloc: Global, dags: &Dags<'_>, runs: &[Run]) -> Result<Vec<bool>, AllocError>
     ensures { IfOk result (λ chosen. chosen.items ≡ map (starts dags.now runs.now) runs.now) }
 {
     runs.iter()
@@ -45,13 +44,13 @@ fn chosen(alloc: Global, dags: &[DagRow], runs: &[Run]) -> Result<Vec<bool>, All
 }
 
 /// Whether a run of these starts.
-fn starts(dags: &[DagRow], runs: &[Run], run: &Run) -> bool
+fn starts(dags: &Dags<'_>, runs: &[Run], run: &Run) -> bool
     ensures { result ≡ starts dags.now runs.now run.now }
 {
     if run.state != RunState::Queued {
         return false;
     }
-    match dag_of(dags, &run.dag_id) {
+    match dags.get(&run.dag_id) {
         Some(row) if !row.is_paused => {
             let most = row.dag.definition().max_active_runs as usize;
             let running = running_of(runs, &run.dag_id);

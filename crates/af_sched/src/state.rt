@@ -1,9 +1,11 @@
-ghost use Rattle.std.specs.Prelude.{◌≡◌, [], ◌∷◌, IfOk};
+ghost use Rattle.std.specs.Prelude.{◌≡◌, [], ◌∷◌, IfOk, option_copied};
 ghost use Rattle.af_pool.specs.Pools.{ArePools, default_name};
 ghost use Rattle.af_runs.specs.Runs.{AreRuns};
-ghost use Rattle.af_sched.specs.State.{AreRows};
+ghost use Rattle.af_sched.specs.State.{AreRows, dag_of};
 
 use crate::dag_row::DagRow;
+use crate::dags::Dags;
+use af_names::DagId;
 use af_pool::{Pool, Pools};
 use af_runs::{Run, Runs};
 use std::alloc::{AllocError, Global};
@@ -64,6 +66,20 @@ impl State {
         ensures kept { AreRows self.now.rows.dags self.now.rows.runs }
     {
         self.dags.as_slice()
+    }
+
+    /// The DAG of this id, found by halving.
+    pub fn dag(&self, dag_id: &DagId) -> Option<&DagRow>
+        ensures { option_copied result ≡ dag_of self.now.rows.dags dag_id.now }
+    {
+        self.by_id().get(dag_id)
+    }
+
+    /// The DAGs, lent.
+    pub(crate) fn by_id(&self) -> Dags<'_>
+        ensures { result ≡ self.now.rows.dags }
+    {
+        Dags::of(self.dags())
     }
 
     /// The runs of all DAGs, by number.

@@ -5,8 +5,7 @@ ghost use Rattle.af_sched.specs.State.{tasks_of};
 ghost use Rattle.af_sched.specs.Steps.{Continues, first_with};
 
 use crate::claim::Claim;
-use crate::dag_row::DagRow;
-use crate::phases::tasks_of;
+use crate::dags::Dags;
 use crate::placed::PlacedInstance;
 use crate::state::State;
 use af_graph::TaskSpec;
@@ -24,7 +23,7 @@ impl State {
         ensures spare_runs { self.new.spare_runs ≡ self.old.spare_runs }
         ensures spare_pools { self.new.spare_pools ≡ self.old.spare_pools }
     {
-        let Some(first) = first_claimable(self.dags.as_slice(), self.runs.rows()) else {
+        let Some(first) = first_claimable(&self.by_id(), self.runs.rows()) else {
             return Ok(None);
         };
         let claim = claim_of(alloc, &first)?;
@@ -36,12 +35,12 @@ impl State {
 }
 
 /// Of the instances that may be claimed, the first in the order.
-fn first_claimable<'a>(dags: &'a [DagRow], runs: &'a [Run]) -> Option<PlacedInstance<'a>>
+fn first_claimable<'a>(dags: &Dags<'a>, runs: &'a [Run]) -> Option<PlacedInstance<'a>>
     ensures { IsFirstOf is_claimable (placed_in dags.now runs.now) result }
 {
     let mut first = None;
     for run in runs {
-        first = first_after_run(first, tasks_of(dags, &run.dag_id), run);
+        first = first_after_run(first, dags.tasks_of(&run.dag_id), run);
     }
     first
 }

@@ -3,9 +3,8 @@ ghost use Rattle.af_sched.specs.Placed.{placed_of, placed_in};
 ghost use Rattle.af_sched.specs.Reports.{fault_at, is_claimed, report_fault, reported, reported_instance, failed_instance};
 
 use crate::claim::Claim;
-use crate::dag_row::DagRow;
+use crate::dags::Dags;
 use crate::outcome::Outcome;
-use crate::phases::tasks_of;
 use crate::placed::PlacedInstance;
 use crate::report_fault::ReportFault;
 use crate::state::State;
@@ -29,7 +28,7 @@ impl State {
         ensures ok { OnOk result (self.new ≡ record self.old { rows = reported at outcome self.old.rows claim.now }) }
         ensures err { OnErr result (self.new ≡ self.old) }
     {
-        let Some(placed) = instance_of(self.dags.as_slice(), self.runs.rows(), claim) else {
+        let Some(placed) = instance_of(&self.by_id(), self.runs.rows(), claim) else {
             return Err(ReportFault::NoSuchInstance);
         };
         if let Some(fault) = fault_at(claim, &placed) {
@@ -43,11 +42,11 @@ impl State {
 }
 
 /// The instance that a claim names: by the number of its run and the id of its task.
-fn instance_of<'a>(dags: &'a [DagRow], runs: &'a [Run], claim: &Claim) -> Option<PlacedInstance<'a>>
+fn instance_of<'a>(dags: &Dags<'a>, runs: &'a [Run], claim: &Claim) -> Option<PlacedInstance<'a>>
     ensures { result ≡ find (is_claimed claim.now) (placed_in dags.now runs.now) }
 {
     for run in runs {
-        let found = instance_in_run(tasks_of(dags, &run.dag_id), run, claim);
+        let found = instance_in_run(dags.tasks_of(&run.dag_id), run, claim);
         if found.is_some() {
             return found;
         }

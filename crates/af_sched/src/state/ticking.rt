@@ -20,7 +20,7 @@ impl State {
         let mut runs = self.runs.copied(alloc)?;
         let dags = self.dags.as_slice();
         let cursors = create_all(alloc, dags, at, &mut runs)?;
-        let runs = moved_on(alloc, dags, &self.pools, at, runs)?;
+        let runs = moved_on(alloc, &self.by_id(), &self.pools, at, runs)?;
         let is_change = !self.has(cursors.as_slice(), &runs);
         Ok(Plan {
             cursors,

@@ -1,3 +1,4 @@
+use crate::State;
 use crate::starting::start_all;
 use crate::tests::tables::{
     SECOND, dag, finished, has_states, instances, moment, run, settled, task, tried,
@@ -113,17 +114,16 @@ fn runs_start_by_number(rt: HostRuntime) -> Result<(), Fail> {
     let alloc = rt.alloc();
     let tasks = vec![in alloc; task(alloc, "t", &[], Rule::AllSuccess)?]?;
     let others = vec![in alloc; task(alloc, "t", &[], Rule::AllSuccess)?]?;
-    let dags = vec![in alloc;
-        dag(alloc, "g", tasks, false)?,
-        dag(alloc, "h", others, true)?,
-    ]?;
+    let mut state = State::new(alloc)?;
+    state.add_dag(dag(alloc, "g", tasks, false)?)?;
+    state.add_dag(dag(alloc, "h", others, true)?)?;
     let mut runs = vec![in alloc;
         run(alloc, 1, "g", Queued, instances(alloc, &[])?)?,
         run(alloc, 2, "h", Queued, instances(alloc, &[])?)?,
         run(alloc, 3, "g", Running, instances(alloc, &[])?)?,
         run(alloc, 4, "g", Queued, instances(alloc, &[])?)?,
     ]?;
-    start_all(alloc, dags.as_slice(), moment(5)?, runs.as_mut_slice())?;
+    start_all(alloc, &state.by_id(), moment(5)?, runs.as_mut_slice())?;
     assert!(rt;
         runs.iter()
             .map(|run| run.state)

@@ -1,5 +1,4 @@
 use crate::finishing::finish;
-use crate::phases::dag_of;
 use crate::settling::settle;
 use crate::{Claim, DagRow, Outcome, ReportFault, State};
 use af_graph::{Dag, DagSpec, Rule, TaskIds, TaskSpec, TaskSpecs, TaskState};
@@ -139,7 +138,7 @@ pub fn has_states(instances: &Instances, wanted: &[TaskState]) -> bool {
 
 /// Adds a run with one instance for each task of its DAG.
 pub fn add_run(state: &mut State, new: NewRun) -> Result<(), Fail> {
-    let Some(row) = dag_of(state.dags(), &new.dag_id) else {
+    let Some(row) = state.dag(&new.dag_id) else {
         return Err(Fail::from("no DAG"));
     };
     if row.dag.tasks().len() != new.instances.as_slice().len() {

@@ -15,7 +15,7 @@ moved_on-requires c =
     let state : StateRows = c.args.self.now.rows in
     let view = ap (λ (s : StateWithRoom). s.rows) c.self.view_is in
     let dags : c.as_slice-dags.result.now ≡ state.dags = c.as_slice-dags.ensures.value ∙ ap (λ (s : StateRows). s.dags) view in
-    subst (λ (rows : List DagRow). All (IsWhole rows) c.create_all.new.runs.rows) (sym dags)
+    subst (λ (rows : List DagRow). All (IsWhole rows) c.create_all.new.runs.rows) (sym c.by_id.ensures)
     (whole_created c.args.at state c.in_ok-runs.runs c.create_all.new.runs (subst (λ (s : StateRows). AreRows s.dags s.runs) view c.self.invariant) (c.in_ok-runs.ensures.rows ∙ ap (λ (s : StateRows). s.runs) view) (subst (λ (rows : List DagRow). TakesRunsOf c.args.at rows c.in_ok-runs.runs c.create_all.new.runs) dags c.in_ok-cursors.ensures.runs))
 
 pub returns : goal.returns
@@ -24,8 +24,8 @@ returns c =
     let view = ap (λ (s : StateWithRoom). s.rows) c.self.view_is in
     let dags : c.as_slice-dags.result.now ≡ state.dags = c.as_slice-dags.ensures.value ∙ ap (λ (s : StateRows). s.dags) view in
     let moves : MovesOn c.args.at state.dags state.pools c.create_all.new.runs.rows c.in_ok-runs-2.runs.rows =
-    subst (λ (rows : List DagRow). MovesOn c.args.at rows state.pools c.create_all.new.runs.rows c.in_ok-runs-2.runs.rows) dags
-    (subst (λ (pools : List Pool). MovesOn c.args.at c.as_slice-dags.result.now pools c.create_all.new.runs.rows c.in_ok-runs-2.runs.rows) (ap (λ (s : StateRows). s.pools) view) c.in_ok-runs-2.ensures.runs) in
+    subst (λ (rows : List DagRow). MovesOn c.args.at rows state.pools c.create_all.new.runs.rows c.in_ok-runs-2.runs.rows) c.by_id.ensures
+    (subst (λ (pools : List Pool). MovesOn c.args.at c.by_id.result pools c.create_all.new.runs.rows c.in_ok-runs-2.runs.rows) (ap (λ (s : StateRows). s.pools) view) c.in_ok-runs-2.ensures.runs) in
     let tells : (c.has-is_change.result ≡ true) ↔ HasRows state c.in_ok-cursors.cursors.items c.in_ok-runs-2.runs =
     subst (λ (cursors : List (Option ℕ)). (c.has-is_change.result ≡ true) ↔ HasRows state cursors c.in_ok-runs-2.runs) c.as_slice.ensures.value c.has-is_change.ensures in
     plan_is c.args.at state c.in_ok-runs.runs c.create_all.new.runs c.in_ok-runs-2.runs c.in_ok-cursors.cursors.items c.has-is_change.result

@@ -1,0 +1,70 @@
+ghost use Rattle.std.specs.Prelude.{◌≡◌, None, MatchOption, option_copied};
+ghost use Rattle.af_sched.specs.State.{AreInOrder, dag_of, tasks_of};
+ghost use Rattle.af_sched.specs.Steps.{StandsAt};
+
+use crate::dag_row::DagRow;
+use af_graph::TaskSpec;
+use af_names::DagId;
+use std::marker::Model;
+
+/// The DAGs of a state, lent: in byte order of their ids, each id once. Contracts see them as that list of rows.
+#[derive(Drop)]
+pub(crate) struct Dags<'a> {
+    rows: &'a [DagRow],
+}
+
+impl<'a> Model for Dags<'a> {
+    ghost use Rattle.std.specs.Prelude.{List};
+    ghost use Rattle.af_sched.specs.State.{AreInOrder};
+    ghost use Rattle.af_sched.specs.declared.dag_row.DagRow.{DagRow};
+
+    ghost Value = { List DagRow };
+
+    ghost view = { λ dags. dags.rows.now };
+
+    ghost invariant = { λ dags. AreInOrder dags.rows.now };
+}
+
+impl<'a> Dags<'a> {
+    pub(crate) fn of(rows: &'a [DagRow]) -> Dags<'a>
+        requires { AreInOrder rows.now }
+        ensures { result ≡ rows.now }
+    {
+        Dags { rows }
+    }
+
+    /// The rows, by id.
+    pub(crate) fn rows(&self) -> &'a [DagRow]
+        ensures { result.now ≡ self.now }
+    {
+        self.rows
+    }
+
+    /// The DAG of this id, found by halving.
+    pub(crate) fn get(&self, dag_id: &DagId) -> Option<&'a DagRow>
+        ensures { option_copied result ≡ dag_of self.now dag_id.now }
+    {
+        let place = self.place_of(dag_id)?;
+        let rows = self.rows();
+        Some(&rows[place])
+    }
+
+    /// Where the row of the DAG of this id stands.
+    fn place_of(&self, dag_id: &DagId) -> Option<usize>
+        ensures { MatchOption result (dag_of self.now dag_id.now ≡ None) (StandsAt self.now dag_id.now) }
+    {
+        self.rows
+            .binary_search_by(|row| row.dag.dag_id().cmp(dag_id))
+            .ok()
+    }
+
+    /// The tasks of the DAG of this id; none where it is not there.
+    pub(crate) fn tasks_of(&self, dag_id: &DagId) -> &'a [TaskSpec]
+        ensures { result.now ≡ tasks_of self.now dag_id.now }
+    {
+        match self.get(dag_id) {
+            Some(row) => row.dag.tasks(),
+            None => &[],
+        }
+    }
+}
