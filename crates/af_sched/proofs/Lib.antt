@@ -3,6 +3,7 @@ mod ChoosingLemmas
 mod CreateLemmas
 mod DueLemmas
 mod EndedLemmas
+mod IdleLemmas
 mod KeyLemmas
 mod LikeLemmas
 mod PlanLemmas

@@ -1,15 +1,19 @@
 -- Laws about ticks, in words of their own.
-use Rattle.std.specs.Prelude.{ℕ, ◌≡◌, ◌≤◌, List, Bool, true, Some, None, length, max, Contains}
+use Rattle.std.specs.Prelude.{ℕ, ◌≡◌, ◌≤◌, ◌&&◌, List, [], Bool, true, false, All, Some, None, length, max, Contains}
 use Rattle.af_graph.specs.Definition.{fault_of}
 use Rattle.af_graph.specs.declared.task_spec.TaskSpec.{TaskSpec}
 use Rattle.af_pool.specs.Pools.{slots_of}
 use Rattle.af_runs.specs.Runs.{AreRuns, is_finished}
 use Rattle.af_runs.specs.declared.instance.Instance.{Instance}
 use Rattle.af_runs.specs.declared.run.Run.{Run}
+use Rattle.af_sched.specs.Create.{runs_of_row}
 use Rattle.af_sched.specs.Due.{moved_cursor, taken_points}
-use Rattle.af_sched.specs.Queue.{Queues, occupied}
-use Rattle.af_sched.specs.Settle.{SettlesInstances, Settles}
-use Rattle.af_sched.specs.State.{StateRows, AreRows}
+use Rattle.af_sched.specs.Finish.{ends}
+use Rattle.af_sched.specs.Placed.{Placed, placed_in}
+use Rattle.af_sched.specs.Queue.{Queues, finds_room, may_queue, occupied}
+use Rattle.af_sched.specs.Settle.{SettlesInstances, Settles, is_live}
+use Rattle.af_sched.specs.Start.{starts}
+use Rattle.af_sched.specs.State.{StateRows, AreRows, tasks_of}
 use Rattle.af_sched.specs.Tick.{IsTick}
 
 -- since a definition without a fault has no cycle, the rules leave one way in which a run's instances may be settled
@@ -47,3 +51,16 @@ EndedRunsStay =
 abbrev pub NoPointIsTakenTwice : Type 0
 NoPointIsTakenTwice =
     (catchup : Bool) (is_point : ℕ → Bool) (cursor later t u point : ℕ) → moved_cursor is_point (taken_points catchup is_point cursor t) cursor ≡ Some later → Contains (taken_points catchup is_point cursor t) point → Contains (taken_points catchup is_point later u) point → ⊥
+
+-- nothing is due at t: no run is to be created, to start or to end, the instances of running runs of unpaused DAGs are
+-- settled as they are, and none that may be queued finds room
+pub record NothingIsDue (t : ℕ) (state : StateRows) : Type 0 where
+  pub creates_none : All (λ row. runs_of_row t row ≡ []) state.dags
+  pub starts_none : All (λ run. starts state.dags state.runs run ≡ false) state.runs
+  pub settles_none : All (λ run. is_live state.dags run ≡ true → SettlesInstances t (tasks_of state.dags run.dag_id) run.instances run.instances) state.runs
+  pub queues_none : (placed : Placed) → Contains (placed_in state.dags state.runs) placed → (may_queue state.dags placed && finds_room state.dags state.runs state.pools (λ _ _. false) placed) ≡ false
+  pub ends_none : All (λ run. ends run ≡ false) state.runs
+
+-- a tick where nothing is due leaves the state as it was
+abbrev pub NothingDueChangesNothing : Type 0
+NothingDueChangesNothing = (t : ℕ) (old new : StateRows) → AreRows old.dags old.runs → NothingIsDue t old → IsTick t old new → new ≡ old

@@ -1,4 +1,4 @@
-ghost use Rattle.af_sched.specs.Laws.{EndedRunsStay, NoPointIsTakenTwice, QueuedStateIsOne, SettlingIsOne, SettledStateIsOne, SlotsAreKept, TickIsOne, TickKeepsRows};
+ghost use Rattle.af_sched.specs.Laws.{EndedRunsStay, NoPointIsTakenTwice, NothingDueChangesNothing, QueuedStateIsOne, SettlingIsOne, SettledStateIsOne, SlotsAreKept, TickIsOne, TickKeepsRows};
 
 /// The trigger rules decide in one way what becomes of a run's instances, since no definition has a cycle.
 pub fn settling_is_one()
@@ -38,4 +38,9 @@ pub fn ended_runs_stay()
 /// No tick takes a point that an earlier one took.
 pub fn no_point_is_taken_twice()
     ensures { NoPointIsTakenTwice }
+{}
+
+/// A tick where nothing is due leaves the state as it was.
+pub fn where_nothing_is_due_nothing_changes()
+    ensures { NothingDueChangesNothing }
 {}

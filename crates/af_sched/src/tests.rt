@@ -1,4 +1,6 @@
 mod claims;
+mod creating;
 mod phases;
+mod story;
 mod tables;
 mod ticks;

@@ -45,9 +45,7 @@ pub fn dag(
         catchup: true,
         max_active_runs: 2,
     };
-    let Ok(dag) = Dag::new(alloc, spec) else {
-        return Err(Fail::from("no DAG"));
-    };
+    let dag = Dag::new(alloc, spec)?;
     Ok(DagRow {
         dag,
         is_paused,
