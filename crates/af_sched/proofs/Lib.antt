@@ -1,5 +1,6 @@
 mod CandidateLemmas
 mod ChoosingLemmas
+mod ClaimLemmas
 mod CreateLemmas
 mod DueLemmas
 mod EndedLemmas

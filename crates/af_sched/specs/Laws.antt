@@ -1,4 +1,4 @@
--- Laws about ticks, in words of their own.
+-- Laws about ticks and claims, in words of their own.
 use Rattle.std.specs.Prelude.{ℕ, ◌≡◌, ◌≤◌, ◌&&◌, List, [], Bool, true, false, All, Some, None, length, max, Contains}
 use Rattle.af_graph.specs.Definition.{fault_of}
 use Rattle.af_graph.specs.declared.task_spec.TaskSpec.{TaskSpec}
@@ -6,6 +6,7 @@ use Rattle.af_pool.specs.Pools.{slots_of}
 use Rattle.af_runs.specs.Runs.{AreRuns, is_finished}
 use Rattle.af_runs.specs.declared.instance.Instance.{Instance}
 use Rattle.af_runs.specs.declared.run.Run.{Run}
+use Rattle.af_sched.specs.Claims.{Claims}
 use Rattle.af_sched.specs.Create.{runs_of_row}
 use Rattle.af_sched.specs.Due.{moved_cursor, taken_points}
 use Rattle.af_sched.specs.Finish.{ends}
@@ -15,6 +16,7 @@ use Rattle.af_sched.specs.Settle.{SettlesInstances, Settles, is_live}
 use Rattle.af_sched.specs.Start.{starts}
 use Rattle.af_sched.specs.State.{StateRows, AreRows, tasks_of}
 use Rattle.af_sched.specs.Tick.{IsTick}
+use Rattle.af_sched.specs.declared.claim.Claim.{Claim}
 
 -- since a definition without a fault has no cycle, the rules leave one way in which a run's instances may be settled
 abbrev pub SettlingIsOne : Type 0
@@ -64,3 +66,8 @@ pub record NothingIsDue (t : ℕ) (state : StateRows) : Type 0 where
 -- a tick where nothing is due leaves the state as it was
 abbrev pub NothingDueChangesNothing : Type 0
 NothingDueChangesNothing = (t : ℕ) (old new : StateRows) → AreRows old.dags old.runs → NothingIsDue t old → IsTick t old new → new ≡ old
+
+-- a claim leaves one state, and tells one thing
+abbrev pub ClaimIsOne : Type 0
+ClaimIsOne =
+    (t : ℕ) (old one other : StateRows) (first second : Claim) → AreRuns old.runs old.next_run → Claims t old one first → Claims t old other second → (one ≡ other) × (first ≡ second)

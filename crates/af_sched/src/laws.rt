@@ -1,4 +1,4 @@
-ghost use Rattle.af_sched.specs.Laws.{EndedRunsStay, NoPointIsTakenTwice, NothingDueChangesNothing, QueuedStateIsOne, SettlingIsOne, SettledStateIsOne, SlotsAreKept, TickIsOne, TickKeepsRows};
+ghost use Rattle.af_sched.specs.Laws.{ClaimIsOne, EndedRunsStay, NoPointIsTakenTwice, NothingDueChangesNothing, QueuedStateIsOne, SettlingIsOne, SettledStateIsOne, SlotsAreKept, TickIsOne, TickKeepsRows};
 
 /// The trigger rules decide in one way what becomes of a run's instances, since no definition has a cycle.
 pub fn settling_is_one()
@@ -43,4 +43,9 @@ pub fn no_point_is_taken_twice()
 /// A tick where nothing is due leaves the state as it was.
 pub fn where_nothing_is_due_nothing_changes()
     ensures { NothingDueChangesNothing }
+{}
+
+/// A claim leaves one state, and tells one thing.
+pub fn a_claim_is_one()
+    ensures { ClaimIsOne }
 {}
