@@ -252,7 +252,8 @@ impl Runs {
 
     /// The number of the last run, 0 before the first.
     pub(crate) fn last(&self) -> u64
-        ensures { result + 1 ≡ self.now.next }
+        ensures next { result + 1 ≡ self.now.next }
+        ensures kept { AreRuns self.now.rows self.now.next }
     {
         self.last
     }
