@@ -1,8 +1,10 @@
+mod BusyLemmas
 mod CandidateLemmas
 mod ChoosingLemmas
 mod CreateLemmas
 mod DueLemmas
 mod EndedLemmas
+mod FrameLemmas
 mod KeyLemmas
 mod LikeLemmas
 mod PlanLemmas
