@@ -21,7 +21,7 @@ use Rattle.af_runs.specs.declared.run.Run.{Run}
 use Rattle.af_runs.specs.declared.run_fault.RunFault.{RunFault}
 use Rattle.af_runs.specs.declared.run_fault.RunFault.TheVariants.{RunExists, DateTaken, Full}
 use Rattle.af_runs.specs.declared.run_state.RunState.{RunState}
-use Rattle.af_runs.specs.Runs.{AreRuns, is_of, is_run, is_dated, is_numbered, run_at, runs_of, is_full, add_fault, queued_run, same_ids, same_date, with_state, with_instance}
+use Rattle.af_runs.specs.Runs.{AreRuns, is_of, is_run, is_dated, is_numbered, run_at, runs_of, is_full, add_fault, queued_run, same_ids, same_date, with_state, with_instance, advanced, with_advanced}
 use Rattle.af_runs.specs.Places.{StandsAt, StandsNowhere}
 use Rattle.af_names.proofs.OrderLemmas.{order-push, map-only, map-none, find-only, find-none, search_alone, search_none, search_rises}
 
@@ -113,6 +113,10 @@ bounded_push runs run dag_id bounded few =
     (λ other. rw (count_push_other (is_of dag_id) runs run other) bounded)
     (cases_Bool (is_of dag_id run))
 
+-- a DAG has as many runs in two lists as it has in one after the other
+pub count-append : (runs more : List Run) (dag_id : List ℕ) → length (runs_of (runs ++ more) dag_id) ≡ length (runs_of runs dag_id) + length (runs_of more dag_id)
+count-append runs more dag_id = rw (filter-append (is_of dag_id) runs more) (length-append (runs_of runs dag_id) (runs_of more dag_id))
+
 -- a run that meets no fault, added last
 pub AreRuns-push : (runs : List Run) (next : ℕ) (new : NewRun) → 0 < next → add_fault runs next new.dag_id new.run_id new.logical_date ≡ None → AreRuns runs next → AreRuns (runs ++ queued_run next new ∷ []) (next + 1)
 AreRuns-push runs next new first no_fault are =
@@ -173,3 +177,10 @@ module _ (runs : List Run) (number : ℕ) (nowhere : StandsNowhere runs number) 
 
   pub with_instance-same : (at : ℕ) (instance : Instance) → with_instance runs number at instance ≡ runs
   with_instance-same at instance = map-none (is_numbered number) (λ (run : Run). record run { instances = slice_set run.instances at instance }) runs nowhere.none
+
+-- ---- what is advanced
+pub with_advanced-is_set : (runs : List Run) (later : Run) (place : ℕ) → StandsAt runs later.number place → (d : Run) → with_advanced runs later ≡ set runs place (advanced (get_or runs place d) later)
+with_advanced-is_set runs later place stands d = map-only (is_numbered later.number) (λ (run : Run). advanced run later) runs place d stands.within stands.here stands.alone
+
+pub with_advanced-same : (runs : List Run) (later : Run) → StandsNowhere runs later.number → with_advanced runs later ≡ runs
+with_advanced-same runs later nowhere = map-none (is_numbered later.number) (λ (run : Run). advanced run later) runs nowhere.none

@@ -1,3 +1,4 @@
+pub mod Additions
 pub mod Instances
 pub mod Places
 pub mod Runs

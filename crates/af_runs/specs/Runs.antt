@@ -118,6 +118,14 @@ abbrev pub with_instance : List Run → ℕ → ℕ → Instance → List Run
 with_instance runs number place instance =
     map (λ run. if is_numbered number run then record run { instances = slice_set run.instances place instance } else run) runs
 
+-- a run with the state, the start, the end and the instances of another
+abbrev pub advanced : Run → Run → Run
+advanced run later = record run { state = later.state; start_date = later.start_date; end_date = later.end_date; instances = later.instances }
+
+-- the runs, that of the later one's number advanced to it; without such a run they are the same
+abbrev pub with_advanced : List Run → Run → List Run
+with_advanced runs later = map (λ run. if is_numbered later.number run then advanced run later else run) runs
+
 -- whether two runs are of one DAG and have one id
 abbrev pub same_ids : Run → Run → Bool
 same_ids run other = is_run run.dag_id run.run_id other

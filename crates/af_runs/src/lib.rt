@@ -2,6 +2,7 @@
 //! is reserved wants none.
 #![tactic(auto)]
 
+mod additions;
 mod instance;
 mod instances;
 mod interval;
@@ -12,6 +13,7 @@ mod run_state;
 mod run_type;
 mod runs;
 
+pub use additions::Additions;
 pub use instance::Instance;
 pub use instances::Instances;
 pub use interval::Interval;

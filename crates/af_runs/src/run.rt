@@ -1,5 +1,6 @@
-ghost use Rattle.std.specs.Prelude.{◌≡◌, ◌↔◌, IfOk, true};
-ghost use Rattle.af_runs.specs.Runs.{is_of, is_run, is_dated, queued_run};
+ghost use Rattle.std.specs.Prelude.{◌≡◌, ◌↔◌, IfOk, true, length};
+ghost use Rattle.std.specs.List.{list_any};
+ghost use Rattle.af_runs.specs.Runs.{is_of, is_run, is_dated, queued_run, runs_of};
 
 use crate::instances::Instances;
 use crate::interval::Interval;
@@ -104,4 +105,25 @@ impl Run {
     {
         self.is_of(dag_id) && self.logical_date == logical_date
     }
+}
+
+/// Whether one of the runs has these ids.
+pub(crate) fn has_ids(runs: &[Run], dag_id: &DagId, run_id: &RunId) -> bool
+    ensures { result ≡ list_any (is_run dag_id.now run_id.now) runs.now }
+{
+    runs.iter().any(|run| run.has_ids(dag_id, run_id))
+}
+
+/// Whether one of the runs is the DAG's of this logical date.
+pub(crate) fn has_date(runs: &[Run], dag_id: &DagId, logical_date: Instant) -> bool
+    ensures { result ≡ list_any (is_dated dag_id.now logical_date) runs.now }
+{
+    runs.iter().any(|run| run.has_date(dag_id, logical_date))
+}
+
+/// How many of the runs the DAG has.
+pub(crate) fn count_of(runs: &[Run], dag_id: &DagId) -> usize
+    ensures { result ≡ length (runs_of runs.now dag_id.now) }
+{
+    runs.iter().filter(|run| run.is_of(dag_id)).count()
 }

@@ -1,11 +1,10 @@
-ghost use Rattle.std.specs.Prelude.{◌≡◌, ◌≢◌, ◌↔◌, true, ◌+◌, ◌<◌, ◌≤◌, [], Err, IfOk, IfSome, IsNone, MatchOption, OnOk, OnErr, option_copied, length, nat_le, ◌^◌, IsOk, is_ok, if◌then◌else◌};
-ghost use Rattle.af_runs.specs.Runs.{AreRuns, Adds, SameRuns, IsOkOrOutOfMemory, add_fault, refusal, run_of, run_at, instances_of, unfinished_after, with_state, with_instance, is_full, is_run, is_dated, runs_of};
-ghost use Rattle.std.specs.List.{list_any};
+ghost use Rattle.std.specs.Prelude.{◌≡◌, ◌≢◌, ◌↔◌, true, ◌+◌, ◌++◌, ◌<◌, ◌≤◌, [], Err, IfOk, IfSome, IsNone, MatchOption, OnOk, OnErr, option_copied, length, nat_le, ◌^◌, IsOk, is_ok, if◌then◌else◌};
+ghost use Rattle.af_runs.specs.Runs.{AreRuns, Adds, SameRuns, IsOkOrOutOfMemory, add_fault, refusal, run_of, run_at, instances_of, unfinished_after, with_state, with_instance, with_advanced, is_full};
 ghost use Rattle.af_runs.specs.Places.{StandsAt, StandsNowhere};
 
 use crate::instance::Instance;
 use crate::new_run::NewRun;
-use crate::run::Run;
+use crate::run::{Run, count_of, has_date, has_ids};
 use crate::run_fault::RunFault;
 use crate::run_state::RunState;
 use af_names::{DagId, Instant, RunId};
@@ -13,7 +12,7 @@ use std::alloc::{AllocError, Global};
 use std::marker::Model;
 
 /// The most runs that a DAG has.
-const MOST_RUNS: usize = 65_536;
+pub(crate) const MOST_RUNS: usize = 65_536;
 
 /// The runs of all DAGs, in order of number. Contracts see them as that list of rows, each with its instances, beside
 /// the number that the next run gets and the number of rows for which memory is reserved.
@@ -161,9 +160,9 @@ impl Runs {
     ) -> Option<RunFault>
         ensures { result ≡ add_fault self.now.rows self.now.next dag_id.now run_id.now logical_date }
     {
-        if self.has_ids(dag_id, run_id) {
+        if has_ids(self.rows.as_slice(), dag_id, run_id) {
             Some(RunFault::RunExists)
-        } else if self.has_date(dag_id, logical_date) {
+        } else if has_date(self.rows.as_slice(), dag_id, logical_date) {
             Some(RunFault::DateTaken)
         } else if self.is_full(dag_id) {
             Some(RunFault::Full)
@@ -222,6 +221,43 @@ impl Runs {
         }
     }
 
+    /// Advances the run of the later one's number to it: its state, its start, its end and its instances become those
+    /// of the later one. Where there is no such run nothing changes.
+    pub fn advance(&mut self, later: Run)
+        ensures { self.new ≡ record self.old { rows = with_advanced self.old.rows later } }
+    {
+        if let Some(place) = self.place_of(later.number) {
+            let earlier = &mut self.rows[place];
+            earlier.state = later.state;
+            earlier.start_date = later.start_date;
+            earlier.end_date = later.end_date;
+            earlier.instances = later.instances;
+        }
+    }
+
+    /// Adds these runs after the others, the last of all of this number: what `Additions::into_rows` gave, where memory
+    /// is reserved for them.
+    pub fn append(&mut self, added: Vec<Run>, last: u64)
+        requires room { length added.items ≤ self.old.spare }
+        requires kept { AreRuns (self.old.rows ++ added.items) (last + 1) }
+        ensures rows { self.new.rows ≡ self.old.rows ++ added.items }
+        ensures next { self.new.next ≡ last + 1 }
+        ensures spare { self.old.spare ≤ self.new.spare + length added.items }
+    {
+        let mut added = added;
+        // There is room for them, so it succeeds.
+        let _done = self.rows.append(&mut added);
+        self.last = last;
+    }
+
+    /// The number of the last run, 0 before the first.
+    pub(crate) fn last(&self) -> u64
+        ensures next { result + 1 ≡ self.now.next }
+        ensures kept { AreRuns self.now.rows self.now.next }
+    {
+        self.last
+    }
+
     /// Where the row of the run of this number stands.
     fn place_of(&self, number: u64) -> Option<usize>
         ensures { MatchOption result (StandsNowhere self.now.rows number) (StandsAt self.now.rows number) }
@@ -231,32 +267,11 @@ impl Runs {
             .ok()
     }
 
-    fn has_ids(&self, dag_id: &DagId, run_id: &RunId) -> bool
-        ensures { result ≡ list_any (is_run dag_id.now run_id.now) self.now.rows }
-    {
-        self.rows.iter().any(|run| run.has_ids(dag_id, run_id))
-    }
-
-    fn has_date(&self, dag_id: &DagId, logical_date: Instant) -> bool
-        ensures { result ≡ list_any (is_dated dag_id.now logical_date) self.now.rows }
-    {
-        self.rows
-            .iter()
-            .any(|run| run.has_date(dag_id, logical_date))
-    }
-
     /// Whether the DAG has as many runs as it may have, or no number is left for another.
     fn is_full(&self, dag_id: &DagId) -> bool
         ensures { result ≡ is_full self.now.rows self.now.next dag_id.now }
     {
-        self.count_of(dag_id) >= MOST_RUNS || self.is_spent()
-    }
-
-    /// How many runs the DAG has.
-    fn count_of(&self, dag_id: &DagId) -> usize
-        ensures { result ≡ length (runs_of self.now.rows dag_id.now) }
-    {
-        self.rows.iter().filter(|run| run.is_of(dag_id)).count()
+        count_of(self.rows.as_slice(), dag_id) >= MOST_RUNS || self.is_spent()
     }
 
     /// Whether no number is left for another run.

@@ -1,9 +1,11 @@
+mod BusyLemmas
 mod CandidateLemmas
 mod ChoosingLemmas
 mod ClaimLemmas
 mod CreateLemmas
 mod DueLemmas
 mod EndedLemmas
+mod FrameLemmas
 mod IdleLemmas
 mod KeyLemmas
 mod LikeLemmas

@@ -1,8 +1,8 @@
 -- After a tick no pool holds more than the greater of its slots and of what it held before.
-use Rattle.std.proofs.Common.{◌≡◌, ◌<◌, ◌≤◌, ◌+◌, ◌∙◌, ℕ, List, [], ◌∷◌, ◌++◌, length, map, get_or, refl, sym, ap, subst, arith, zero, suc, Bool, true, false, cond, ◌&&◌, ⊎_elim, ◌⊎◌, inl, inr, max}
+use Rattle.std.proofs.Common.{◌≡◌, ◌<◌, ◌≤◌, ◌+◌, ◌∙◌, ℕ, List, [], ◌∷◌, ◌++◌, length, map, get_or, refl, sym, ap, subst, arith, zero, suc, Bool, true, false, cond, ◌&&◌, ◌||◌, ⊎_elim, ◌⊎◌, inl, inr, max}
 use Rattle.std.specs.Prelude.{Contains, filter, zip, MatchBool, None}
 use Rattle.std.specs.Option.{option_map_or}
-use Rattle.std.specs.List.{enumerate_from, AllZip, AllByRecursion, IsDistinct}
+use Rattle.std.specs.List.{enumerate_from, AllZip, AllByRecursion, IsDistinct, list_any}
 use Rattle.std.specs.Ordering.{nat_cmp, is_lt}
 use Rattle.std.specs.declared.cmp.Ordering.{Ordering}
 use Rattle.std.specs.declared.cmp.Ordering.TheVariants.{Less, Equal, Greater}
@@ -184,7 +184,7 @@ held_rows run n (t ∷ ts) (x ∷ xs) ys pool =
     let rest = held_rows run (n + 1) ts xs ys pool in
     here ∙ (omega (arith, rest))
 
-occupied_cons : (dags : List DagRow) (run : Run) (runs : List Run) (pool : List ℕ) → occupied dags (run ∷ runs) pool ≡ hold_run dags pool run + occupied dags runs pool
+pub occupied_cons : (dags : List DagRow) (run : Run) (runs : List Run) (pool : List ℕ) → occupied dags (run ∷ runs) pool ≡ hold_run dags pool run + occupied dags runs pool
 occupied_cons dags run runs pool = held_rows run 0 (tasks_of dags run.dag_id) run.instances (placed_in dags runs) pool
 
 pub occupied_same : (dags : List DagRow) (pool : List ℕ) (xs ys : List Run) → AllZip (λ x y. hold_run dags pool y ≡ hold_run dags pool x) xs ys → occupied dags ys pool ≡ occupied dags xs pool
@@ -266,6 +266,25 @@ hold_new pool (t ∷ ts) [] = refl
 hold_new pool (t ∷ ts) (u ∷ us) =
     let rest = hold_new pool ts us in
     ⊎_elim (λ (is : same_name t.pool pool ≡ true). rw is (omega (arith, rest))) (λ (not : same_name t.pool pool ≡ false). rw not (omega (arith, rest))) (cases_Bool (same_name t.pool pool))
+
+-- ---- nor do runs of which no instance is queued or running
+pub none_held : (pool : List ℕ) (tasks : List TaskSpec) (instances : List Instance) → list_any (λ instance. holds_slots instance.state) instances ≡ false → hold pool tasks instances ≡ 0
+unfolding hold
+none_held pool [] instances none = refl
+none_held pool (t ∷ ts) [] none = refl
+none_held pool (t ∷ ts) (x ∷ xs) none =
+    let parts = neither (holds_slots x.state) (list_any (λ instance. holds_slots instance.state) xs) none in
+    let rest = none_held pool ts xs parts.1 in
+    let here : cond (same_name t.pool pool && holds_slots x.state) t.pool_slots 0 ≡ 0 = ap (λ (b : Bool). cond b t.pool_slots 0) (both_fail (same_name t.pool pool) (holds_slots x.state) parts.0) in
+    omega (arith, here, rest)
+  where
+    neither : (a b : Bool) → (a || b) ≡ false → (a ≡ false) × (b ≡ false)
+    neither true b fails = absurd (true≢false fails)
+    neither false b fails = (refl, fails)
+
+    both_fail : (a b : Bool) → b ≡ false → (a && b) ≡ false
+    both_fail true b fails = fails
+    both_fail false b fails = refl
 
 pub occupied_push : (dags : List DagRow) (runs : List Run) (run : Run) (pool : List ℕ) → hold_run dags pool run ≡ 0 → occupied dags (runs ++ run ∷ []) pool ≡ occupied dags runs pool
 occupied_push dags [] run pool none = occupied_cons dags run [] pool ∙ (omega (arith, none))

@@ -1,6 +1,7 @@
 ghost use Rattle.std.specs.Prelude.{◌≡◌, ◌∷◌, [], IfOk, OnOk, map, codes, ◌++◌};
 ghost use Rattle.af_names.specs.Isoformat.{isoformat};
 ghost use Rattle.af_graph.specs.Schedules.{is_scheduled};
+ghost use Rattle.af_runs.specs.Additions.{together};
 ghost use Rattle.af_sched.specs.Create.{moved_row, run_for, runs_due, runs_of_row, cursor_due};
 ghost use Rattle.af_sched.specs.Steps.{TakesRuns, TakesRunsOf};
 
@@ -8,7 +9,7 @@ use crate::dag_row::DagRow;
 use crate::due::{moved_cursor, taken_points};
 use af_graph::{Dag, Schedule};
 use af_names::{Instant, RunId};
-use af_runs::{Instances, Interval, NewRun, RunFault, RunType, Runs};
+use af_runs::{Additions, Instances, Interval, NewRun, RunFault, RunType};
 use std::alloc::{AllocError, Global};
 
 /// What of a DAG is due at a moment: its new runs, and where its cursor then stands.
@@ -18,20 +19,21 @@ struct Due {
     cursor: Option<Instant>,
 }
 
-/// The first phase of a tick, on these runs: those due of each DAG are added, and the cursors of all DAGs are told.
-/// `AllocError` only where a growth was refused; some runs may have been added then.
+/// The first phase of a tick: the runs due of each DAG are put with the additions, and the cursors of all DAGs are told.
+/// `AllocError` only where a growth was refused; some runs may be there then.
 pub(crate) fn create_all(
     alloc: Global,
     dags: &[DagRow],
     at: Instant,
-    runs: &mut Runs,
+    additions: &mut Additions<'_>,
 ) -> Result<Vec<Option<Instant>>, AllocError>
-    ensures runs { OnOk result (TakesRunsOf at dags.now runs.old runs.new) }
+    ensures runs { OnOk result (TakesRunsOf at dags.now (together additions.old) (together additions.new)) }
+    ensures before { additions.new.before ≡ additions.old.before }
     ensures cursors { IfOk result (λ cursors. cursors.items ≡ map (λ row. (moved_row at row).cursor) dags.now) }
 {
     let mut cursors = Vec::with_capacity(alloc, dags.len())?;
     for row in dags {
-        let cursor = create_of(alloc, row, at, runs)?;
+        let cursor = create_of(alloc, row, at, additions)?;
         cursors.push(cursor)?;
     }
     Ok(cursors)
@@ -42,14 +44,15 @@ fn create_of(
     alloc: Global,
     row: &DagRow,
     at: Instant,
-    runs: &mut Runs,
+    additions: &mut Additions<'_>,
 ) -> Result<Option<Instant>, AllocError>
-    ensures runs { OnOk result (TakesRuns (runs_of_row at row.now) runs.old runs.new) }
+    ensures runs { OnOk result (TakesRuns (runs_of_row at row.now) (together additions.old) (together additions.new)) }
+    ensures before { additions.new.before ≡ additions.old.before }
     ensures cursor { IfOk result (λ cursor. cursor ≡ (moved_row at row.now).cursor) }
 {
     let due = due_of_row(alloc, row, at)?;
     let cursor = due.cursor;
-    add_all(due.runs, runs)?;
+    add_all(due.runs, additions)?;
     Ok(cursor)
 }
 
@@ -147,20 +150,22 @@ fn run_id_for(alloc: Global, date: Instant) -> Result<RunId, AllocError>
 }
 
 /// Adds these runs, in their order; one that can not be added is passed over.
-fn add_all(added: Vec<NewRun>, runs: &mut Runs) -> Result<(), AllocError>
-    ensures { OnOk result (TakesRuns added.items runs.old runs.new) }
+fn add_all(added: Vec<NewRun>, additions: &mut Additions<'_>) -> Result<(), AllocError>
+    ensures runs { OnOk result (TakesRuns added.items (together additions.old) (together additions.new)) }
+    ensures before { additions.new.before ≡ additions.old.before }
 {
     for new in added {
-        add(new, runs)?;
+        add(new, additions)?;
     }
     Ok(())
 }
 
 /// Adds a run, unless its id or its date is taken, or its DAG is at its limit of runs.
-fn add(new: NewRun, runs: &mut Runs) -> Result<(), AllocError>
-    ensures { OnOk result (TakesRuns (new ∷ []) runs.old runs.new) }
+fn add(new: NewRun, additions: &mut Additions<'_>) -> Result<(), AllocError>
+    ensures runs { OnOk result (TakesRuns (new ∷ []) (together additions.old) (together additions.new)) }
+    ensures before { additions.new.before ≡ additions.old.before }
 {
-    match runs.add_run(new) {
+    match additions.add_run(new) {
         Err(RunFault::OutOfMemory) => Err(AllocError),
         _ => Ok(()),
     }

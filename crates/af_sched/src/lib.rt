@@ -2,6 +2,7 @@
 #![tactic(auto)]
 
 mod add_dag_fault;
+mod busy;
 mod choosing;
 mod claim;
 mod creating;

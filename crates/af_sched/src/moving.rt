@@ -1,33 +1,42 @@
-ghost use Rattle.std.specs.Prelude.{◌≡◌, All, IfOk, OnOk, map};
+ghost use Rattle.std.specs.Prelude.{◌≡◌, ◌++◌, All, IfOk, OnOk, length, map};
 ghost use Rattle.std.specs.List.Sorted.{IsStrictlySortedBy};
 ghost use Rattle.std.specs.Ordering.{nat_cmp};
+ghost use Rattle.af_sched.specs.Busy.{busy_of};
 ghost use Rattle.af_sched.specs.Moves.{MovesOn};
 ghost use Rattle.af_sched.specs.State.{IsWhole};
 
+use crate::busy::busy_of;
 use crate::dags::Dags;
 use crate::phases::{finish_all, settle_all};
 use crate::queueing::queue_all;
 use crate::starting::start_all;
 use af_names::Instant;
 use af_pool::Pools;
-use af_runs::{Run, Runs};
+use af_runs::Run;
 use std::alloc::{AllocError, Global};
 
-/// The runs after the second to the fifth phase of a tick. `AllocError` only where a growth was refused.
+/// The busy ones of these runs, and the added ones, after the second to the fifth phase of a tick. `AllocError` only where a
+/// growth was refused.
 pub(crate) fn moved_on(
     alloc: Global,
     dags: &Dags<'_>,
     pools: &Pools,
     at: Instant,
-    runs: Runs,
-) -> Result<Runs, AllocError>
-    requires { All (IsWhole dags.now) runs.rows }
-    ensures runs { IfOk result (λ moved. MovesOn at dags.now pools.now.rows runs.rows moved.rows) }
-    ensures next { IfOk result (λ moved. moved.next ≡ runs.next) }
+    runs: &[Run],
+    added: Vec<Run>,
+) -> Result<(Vec<Run>, Vec<Run>), AllocError>
+    requires whole { All (IsWhole dags.now) (runs.now ++ added.items) }
+    requires in_order { IsStrictlySortedBy nat_cmp (map (λ run. run.number) (runs.now ++ added.items)) }
+    ensures runs { IfOk result (λ moved. MovesOn at dags.now pools.now.rows (busy_of runs.now ++ added.items) (moved.0.items ++ moved.1.items)) }
+    ensures count { IfOk result (λ moved. length moved.0.items ≡ length (busy_of runs.now)) }
 {
-    let (mut rows, last) = runs.into_rows();
-    move_on(alloc, dags, pools, at, rows.as_mut_slice())?;
-    Ok(Runs::of_rows(rows, last))
+    let mut added = added;
+    let mut work = busy_of(alloc, runs)?;
+    let count = work.len();
+    work.append(&mut added)?;
+    move_on(alloc, dags, pools, at, work.as_mut_slice())?;
+    let added = work.split_off(count)?;
+    Ok((work, added))
 }
 
 /// The second to the fifth phase of a tick, on these runs. `AllocError` only where a growth was refused; some of the phases

@@ -1,27 +1,33 @@
 ghost use Rattle.std.specs.Prelude.{◌≡◌};
 
 use af_names::Instant;
-use af_runs::Runs;
+use af_runs::Run;
 use std::marker::Model;
 
-/// A tick that is worked out and not yet done, with all the memory that it takes. Contracts see the cursors of the DAGs and
-/// the runs that it will leave, and whether these are a change.
+/// A tick that is worked out and not yet done, with all the memory that it takes. Contracts see the cursors of the DAGs, the
+/// busy runs as it will leave them, the runs that it will add, and whether these are a change.
 #[derive(Drop)]
 pub struct Plan {
     pub(crate) cursors: Vec<Option<Instant>>,
-    pub(crate) runs: Runs,
+    /// Those runs of the state that are busy, as they will be.
+    pub(crate) moved: Vec<Run>,
+    pub(crate) added: Vec<Run>,
+    /// The number of the last run of all.
+    pub(crate) last: u64,
     pub(crate) is_change: bool,
 }
 
 impl Model for Plan {
+    ghost use Rattle.std.specs.Prelude.{◌+◌};
     ghost use Rattle.af_sched.specs.Plan.{PlanRows};
 
     ghost Value = { PlanRows };
 
     ghost view = { λ plan. record {
       cursors = plan.cursors.items;
-      runs = plan.runs.rows;
-      next_run = plan.runs.next;
+      moved = plan.moved.items;
+      added = plan.added.items;
+      next_run = plan.last + 1;
       changes = plan.is_change;
     } };
 }

@@ -1,47 +1,77 @@
-ghost use Rattle.std.specs.Prelude.{◌≡◌, ◌≢◌, ◌↔◌, IfOk, OnOk, OnErr, length, true};
+ghost use Rattle.std.specs.Prelude.{◌≡◌, ◌≢◌, ◌↔◌, ◌≤◌, IfOk, OnOk, OnErr, fold, length, true};
+ghost use Rattle.af_runs.specs.Runs.{with_advanced};
 ghost use Rattle.af_sched.specs.Plan.{Fits, HasRows, IsPlan, applied, with_cursors};
 ghost use Rattle.af_sched.specs.Tick.{IsTick};
 
+use crate::busy::are_busy_of;
 use crate::creating::create_all;
 use crate::dag_row::DagRow;
 use crate::moving::moved_on;
 use crate::plan::Plan;
 use crate::state::State;
 use af_names::Instant;
-use af_runs::Runs;
+use af_runs::{Additions, Run, Runs};
 use std::alloc::{AllocError, Global};
 
 impl State {
-    /// Works out a tick at a moment and takes all the memory that it needs; the state stays as it is. `AllocError` only
-    /// where a growth was refused.
-    pub fn plan_tick(&self, alloc: Global, at: Instant) -> Result<Plan, AllocError>
+    /// Works out a tick at a moment and takes all the memory that it needs; the rows stay as they are. `AllocError` only
+    /// where a growth was refused; then the state is as before.
+    pub fn plan_tick(&mut self, alloc: Global, at: Instant) -> Result<Plan, AllocError>
+        ensures ok { IfOk result (IsPlan at self.old.rows) }
+        ensures room { IfOk result (λ plan. length plan.added ≤ self.new.spare_runs) }
+        ensures rows { self.new.rows ≡ self.old.rows }
+        ensures spare_runs { self.old.spare_runs ≤ self.new.spare_runs }
+        ensures spare_pools { self.new.spare_pools ≡ self.old.spare_pools }
+        ensures err { OnErr result (self.new ≡ self.old) }
+    {
+        let plan = self.planned(alloc, at)?;
+        self.runs.reserve(plan.added.len())?;
+        Ok(plan)
+    }
+
+    /// Works out a tick at a moment. `AllocError` only where a growth was refused.
+    fn planned(&self, alloc: Global, at: Instant) -> Result<Plan, AllocError>
         ensures { IfOk result (IsPlan at self.now.rows) }
     {
-        let mut runs = self.runs.copied(alloc)?;
         let dags = self.dags.as_slice();
-        let cursors = create_all(alloc, dags, at, &mut runs)?;
-        let runs = moved_on(alloc, &self.by_id(), &self.pools, at, runs)?;
-        let is_change = !self.has(cursors.as_slice(), &runs);
+        let mut additions = Additions::of(alloc, &self.runs);
+        let cursors = create_all(alloc, dags, at, &mut additions)?;
+        let (added, last) = additions.into_rows();
+        let (moved, added) = moved_on(
+            alloc,
+            &self.by_id(),
+            &self.pools,
+            at,
+            self.runs.rows(),
+            added,
+        )?;
+        let is_change = !self.has(cursors.as_slice(), moved.as_slice(), added.as_slice());
         Ok(Plan {
             cursors,
-            runs,
+            moved,
+            added,
+            last,
             is_change,
         })
     }
 
-    /// Does a planned tick. It takes no memory.
+    /// Does a planned tick, where memory is reserved for the runs that it adds. It takes no memory.
     pub fn commit(&mut self, plan: Plan)
-        requires { Fits plan self.old.rows }
+        requires fits { Fits plan self.old.rows }
+        requires room { length plan.added ≤ self.old.spare_runs }
         ensures rows { self.new.rows ≡ applied plan self.old.rows }
         ensures spare_pools { self.new.spare_pools ≡ self.old.spare_pools }
     {
         let Plan {
             cursors,
-            runs,
+            moved,
+            added,
+            last,
             is_change: _,
         } = plan;
         set_cursors(self.dags.as_mut_slice(), cursors.as_slice());
-        self.runs = runs;
+        advance_all(&mut self.runs, moved);
+        self.runs.append(added, last);
     }
 
     /// Ticks at a moment: creates the runs that are due, starts queued runs, settles and queues instances, and ends runs.
@@ -58,12 +88,23 @@ impl State {
         Ok(changes)
     }
 
-    /// Whether these are the cursors of its DAGs, and its runs.
-    fn has(&self, cursors: &[Option<Instant>], runs: &Runs) -> bool
+    /// Whether these are the cursors of its DAGs and its busy runs, and no run is added.
+    fn has(&self, cursors: &[Option<Instant>], moved: &[Run], added: &[Run]) -> bool
         requires { length cursors.now ≡ length self.now.rows.dags }
-        ensures { (result ≡ true) ↔ HasRows self.now.rows cursors.now runs.now }
+        ensures { (result ≡ true) ↔ HasRows self.now.rows cursors.now moved.now added.now }
     {
-        have_cursors(self.dags.as_slice(), cursors) && self.runs.is_same(runs)
+        added.is_empty()
+            && have_cursors(self.dags.as_slice(), cursors)
+            && are_busy_of(self.runs.rows(), moved)
+    }
+}
+
+/// Advances those of these runs that have the numbers of the moved ones.
+fn advance_all(runs: &mut Runs, moved: Vec<Run>)
+    ensures { runs.new ≡ record runs.old { rows = fold with_advanced runs.old.rows moved.items } }
+{
+    for later in moved {
+        runs.advance(later);
     }
 }
 

@@ -1,15 +1,19 @@
-use Rattle.std.proofs.Common.{◌≡◌, ◌+◌, subst, rules, length, List, drop}
+use Rattle.std.proofs.Common.{◌≡◌, ◌++◌, rules, subst, sym, List}
+use Rattle.std.specs.Prelude.{All}
+use Rattle.std.specs.List.Sorted.{IsStrictlySortedBy}
+use Rattle.std.specs.Ordering.{nat_cmp}
 use Rattle.af_runs.specs.declared.run.Run.{Run}
-use Rattle.af_sched.specs.Moves.{MovesOn}
-use Rattle.af_sched.proofs.KeyLemmas.{AreRuns-keeps, keeps_moved}
-use Rattle.af_sched.proofs.LikeLemmas.{front}
+use Rattle.af_sched.specs.Busy.{busy_of}
+use Rattle.af_sched.specs.State.{IsWhole}
+use Rattle.af_sched.proofs.BusyLemmas.{All-busy, numbers, order_busy}
 use Rattle.af_sched.proofs.moving.moved_on.Goals as goal
 
-pub of_rows-requires : goal.of_rows-requires
-of_rows-requires c =
-    let old : List Run = c.into_rows-rows.result.0.items in
-    let new : List Run = c.move_on.new.runs in
-    let long : c.into_rows-rows.result.0.len ≡ length new = search rules in
-    let moves : MovesOn c.args.at c.args.dags.now c.args.pools.now.rows old new = subst (λ (xs : List Run). MovesOn c.args.at c.args.dags.now c.args.pools.now.rows xs new) (search rules) c.in_ok-move_on.ensures in
-    rw (front c.into_rows-rows.result.0.len new (drop (length new) old) long)
-    (AreRuns-keeps old new (c.into_rows-rows.result.1 + 1) (keeps_moved c.args.at c.args.dags.now c.args.pools.now.rows old new moves) c.into_rows-rows.ensures.kept)
+pub move_on-requires-clause-whole : goal.move_on-requires-clause-whole
+move_on-requires-clause-whole c =
+    let work : c.as_mut_slice.result.now ≡ busy_of c.args.runs.now ++ c.args.added.items = search rules in
+    subst (All (IsWhole c.args.dags.now)) (sym work) (All-busy (IsWhole c.args.dags.now) c.args.runs.now c.args.added.items c.requires.whole)
+
+pub move_on-requires-clause-in_order : goal.move_on-requires-clause-in_order
+move_on-requires-clause-in_order c =
+    let work : c.as_mut_slice.result.now ≡ busy_of c.args.runs.now ++ c.args.added.items = search rules in
+    subst (λ (runs : List Run). IsStrictlySortedBy nat_cmp (numbers runs)) (sym work) (order_busy c.args.runs.now c.args.added.items c.requires.in_order)
