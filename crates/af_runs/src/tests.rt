@@ -1,3 +1,5 @@
+mod additions;
+
 use crate::{Instance, Instances, Interval, NewRun, Run, RunFault, RunState, RunType, Runs};
 use af_graph::{Dag, DagSpec, Rule, TaskIds, TaskSpec, TaskSpecs, TaskState};
 use af_names::{DagId, Instant, PoolName, RunId, TaskId};
@@ -29,6 +31,15 @@ fn untried() -> Instance {
         start_date: None,
         end_date: None,
         retry_at: None,
+    }
+}
+
+/// An instance that failed at its first try.
+fn failed() -> Instance {
+    Instance {
+        state: TaskState::Failed,
+        try_number: 1,
+        ..untried()
     }
 }
 
@@ -111,16 +122,11 @@ fn runs_of_two_dags(rt: HostRuntime) -> Result<(), Fail> {
     );
     assert!(rt; runs.unfinished_after(3).is_none(), "none after 3");
 
-    let failed = Instance {
-        state: TaskState::Failed,
-        try_number: 1,
-        ..untried()
-    };
-    runs.set_instance(3, 1, failed);
-    runs.set_instance(3, 2, failed);
+    runs.set_instance(3, 1, failed());
+    runs.set_instance(3, 2, failed());
     let of_b = runs.instances(&b, &r1);
     assert!(rt;
-        of_b == Some([untried(), failed].as_slice()),
+        of_b == Some([untried(), failed()].as_slice()),
         "the second of run 3"
     );
     let of_a = runs.instances(&DagId::parse(alloc, "a")?, &r1);
