@@ -1,4 +1,4 @@
-ghost use Rattle.std.specs.Prelude.{◌≡◌, ◌≢◌, ◌↔◌, true, ◌+◌, ◌++◌, ◌<◌, ◌≤◌, [], Err, IfOk, IfSome, IsNone, MatchOption, OnOk, OnErr, option_copied, length, nat_le, ◌^◌, IsOk, is_ok, if◌then◌else◌};
+ghost use Rattle.std.specs.Prelude.{◌≡◌, ◌≢◌, ◌+◌, ◌++◌, ◌<◌, ◌≤◌, [], Err, IfOk, IfSome, IsNone, MatchOption, OnOk, OnErr, option_copied, length, nat_le, ◌^◌, IsOk, is_ok, if◌then◌else◌};
 ghost use Rattle.af_runs.specs.Runs.{AreRuns, Adds, SameRuns, IsOkOrOutOfMemory, add_fault, refusal, run_of, run_at, instances_of, unfinished_after, with_state, with_instance, with_advanced, is_full};
 ghost use Rattle.af_runs.specs.Places.{StandsAt, StandsNowhere};
 
@@ -61,33 +61,6 @@ impl Runs {
             rows,
             last: self.last,
         })
-    }
-
-    /// Whether they are the same runs as others, with the same next number.
-    pub fn is_same(&self, other: &Runs) -> bool
-        ensures { (result ≡ true) ↔ SameRuns self.now other.now }
-    {
-        self.last == other.last && same_rows(self.rows.as_slice(), other.rows.as_slice())
-    }
-
-    /// The rows, given back, and the number of the last run, 0 before the first.
-    pub fn into_rows(self) -> (Vec<Run>, u64)
-        ensures rows { result.0.items ≡ self.rows }
-        ensures next { result.1 + 1 ≡ self.next }
-        ensures kept { AreRuns result.0.items (result.1 + 1) }
-    {
-        let Runs { rows, last } = self;
-        (rows, last)
-    }
-
-    /// The runs of these rows, where the last run had this number: what `into_rows` gave, each with its number, ids and
-    /// date.
-    pub fn of_rows(rows: Vec<Run>, last: u64) -> Runs
-        requires { AreRuns rows.items (last + 1) }
-        ensures rows { result.rows ≡ rows.items }
-        ensures next { result.next ≡ last + 1 }
-    {
-        Runs { rows, last }
     }
 
     /// The rows, in order of number.
@@ -280,19 +253,4 @@ impl Runs {
     {
         self.last == u64::MAX
     }
-}
-
-/// Whether two lists have the same runs.
-fn same_rows(one: &[Run], other: &[Run]) -> bool
-    ensures { (result ≡ true) ↔ (one.now ≡ other.now) }
-{
-    if one.len() != other.len() {
-        return false;
-    }
-    for place in 0..one.len() {
-        if !one[place].is_same(&other[place]) {
-            return false;
-        }
-    }
-    true
 }
