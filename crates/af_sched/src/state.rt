@@ -76,7 +76,7 @@ impl State {
     }
 
     /// The DAGs, lent.
-    pub(crate) fn by_id(&self) -> Dags<'_>
+    fn by_id(&self) -> Dags<'_>
         ensures { result ≡ self.now.rows.dags }
     {
         Dags::of(self.dags())

@@ -1,10 +1,6 @@
-use crate::State;
-use crate::starting::start_all;
-use crate::tests::tables::{
-    SECOND, dag, finished, has_states, instances, moment, run, settled, task, tried,
-};
+use crate::tests::tables::{dag, finished, has_states, instances, moment, run, settled, task};
 use af_graph::{Rule, TaskState};
-use af_runs::{Instances, RunState};
+use af_runs::RunState;
 use std::alloc::Global;
 use std::test::Fail;
 
@@ -87,48 +83,5 @@ fn a_failure_goes_down_in_one_phase(rt: HostRuntime) -> Result<(), Fail> {
         "the leaf is upstream_failed"
     );
     assert!(rt; only.end_date == Some(moment(8)?), "ended");
-    Ok(())
-}
-
-#[test]
-fn a_retry_waits_for_its_moment(rt: HostRuntime) -> Result<(), Fail> {
-    let alloc = rt.alloc();
-    let tasks = vec![in alloc; task(alloc, "t", &[], Rule::AllSuccess)?]?;
-    let row = dag(alloc, "g", tasks, false)?;
-    let mut waiting = tried(TaskState::UpForRetry, 1);
-    waiting.retry_at = Some(moment(300 * SECOND)?);
-    let mut only = Instances::of(vec![in alloc; waiting]?);
-    settled(&row, 300 * SECOND - 1, &mut only)?;
-    assert!(rt;
-        has_states(&only, &[TaskState::UpForRetry]),
-        "a microsecond early"
-    );
-    settled(&row, 300 * SECOND, &mut only)?;
-    assert!(rt; has_states(&only, &[TaskState::Scheduled]), "at its moment");
-    Ok(())
-}
-
-#[test]
-fn runs_start_by_number(rt: HostRuntime) -> Result<(), Fail> {
-    use RunState::{Queued, Running};
-    let alloc = rt.alloc();
-    let tasks = vec![in alloc; task(alloc, "t", &[], Rule::AllSuccess)?]?;
-    let others = vec![in alloc; task(alloc, "t", &[], Rule::AllSuccess)?]?;
-    let mut state = State::new(alloc)?;
-    state.add_dag(dag(alloc, "g", tasks, false)?)?;
-    state.add_dag(dag(alloc, "h", others, true)?)?;
-    let mut runs = vec![in alloc;
-        run(alloc, 1, "g", Queued, instances(alloc, &[])?)?,
-        run(alloc, 2, "h", Queued, instances(alloc, &[])?)?,
-        run(alloc, 3, "g", Running, instances(alloc, &[])?)?,
-        run(alloc, 4, "g", Queued, instances(alloc, &[])?)?,
-    ]?;
-    start_all(alloc, &state.by_id(), moment(5)?, runs.as_mut_slice())?;
-    assert!(rt;
-        runs.iter()
-            .map(|run| run.state)
-            .eq([Running, Queued, Running, Queued]),
-        "one more of g beside the running one, none of the paused h"
-    );
     Ok(())
 }

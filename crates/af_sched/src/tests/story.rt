@@ -23,6 +23,8 @@ pub enum Step {
     Cursor(&'static str),
     /// There are so many runs, and so many of them are running.
     Runs(usize, usize),
+    /// The runs are in these states.
+    States(&'static [RunState]),
     /// The first run has this id, and its interval ends at this moment.
     First(&'static str, &'static str),
 }
@@ -51,6 +53,7 @@ fn goes(alloc: Global, state: &mut State, step: Step) -> Result<bool, Fail> {
         Step::Are(wanted) => Ok(first_are(state, wanted)),
         Step::Cursor(moment) => cursor_is(state, moment),
         Step::Runs(all, running) => Ok(state.runs().len() == all && running_in(state) == running),
+        Step::States(wanted) => Ok(states_are(state, wanted)),
         Step::First(run_id, end) => first_is(state, run_id, end),
     }
 }
@@ -96,6 +99,15 @@ fn running_in(state: &State) -> usize {
         .iter()
         .filter(|run| run.state == RunState::Running)
         .count()
+}
+
+fn states_are(state: &State, wanted: &[RunState]) -> bool {
+    let rows = state.runs();
+    rows.len() == wanted.len()
+        && rows
+            .iter()
+            .zip(wanted)
+            .all(|(run, want)| run.state == *want)
 }
 
 fn first_is(state: &State, run_id: &str, end: &str) -> Result<bool, Fail> {

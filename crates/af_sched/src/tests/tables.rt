@@ -70,16 +70,23 @@ pub fn instances(alloc: Global, states: &[TaskState]) -> Result<Instances, Fail>
     Ok(Instances::of(items))
 }
 
+fn ids(alloc: Global, dag_id: &str, run_id: &str) -> Result<(DagId, RunId), Fail> {
+    let dag_id = DagId::parse(alloc, dag_id)?;
+    let run_id = RunId::parse(alloc, run_id)?;
+    Ok((dag_id, run_id))
+}
+
 pub fn new_run(
     alloc: Global,
     dag_id: &str,
     run_id: &str,
     instances: Instances,
 ) -> Result<NewRun, Fail> {
+    let (dag_id, run_id) = ids(alloc, dag_id, run_id)?;
     let at = moment(0)?;
     Ok(NewRun {
-        dag_id: DagId::parse(alloc, dag_id)?,
-        run_id: RunId::parse(alloc, run_id)?,
+        dag_id,
+        run_id,
         logical_date: at,
         interval: Interval { start: at, end: at },
         run_type: RunType::Manual,
@@ -94,11 +101,12 @@ pub fn run(
     state: RunState,
     instances: Instances,
 ) -> Result<Run, Fail> {
+    let (dag_id, run_id) = ids(alloc, dag_id, "r")?;
     let at = moment(0)?;
     Ok(Run {
         number,
-        dag_id: DagId::parse(alloc, dag_id)?,
-        run_id: RunId::parse(alloc, "r")?,
+        dag_id,
+        run_id,
         logical_date: at,
         interval: Interval { start: at, end: at },
         run_type: RunType::Manual,

@@ -1,9 +1,10 @@
 use crate::tests::creating::scheduled;
 use crate::tests::story::{Step, are, at, first_fault};
-use crate::tests::tables::{add_run, dag, instances, new_run, task};
+use crate::tests::tables::{add_run, dag, instances, moment, new_run, task};
 use crate::{Outcome, State};
 use af_graph::{Rule, TaskSpec, TaskState};
 use af_names::{PoolName, Preset};
+use af_runs::RunState;
 use std::alloc::Global;
 use std::test::Fail;
 
@@ -26,6 +27,46 @@ fn with_pool(alloc: Global, tasks: Vec<TaskSpec>, states: &[TaskState]) -> Resul
         new_run(alloc, "g", "r", instances(alloc, states)?)?,
     )?;
     Ok(state)
+}
+
+/// Two DAGs of one task, two runs of each at a time, of which h is paused, and queued runs 1, 3, 4 of g and 2 of h.
+fn two_dags(alloc: Global) -> Result<State, Fail> {
+    let mut state = State::new(alloc)?;
+    for (dag_id, is_paused) in [("g", false), ("h", true)] {
+        let tasks = vec![in alloc; task(alloc, "t", &[], Rule::AllSuccess)?]?;
+        state.add_dag(dag(alloc, dag_id, tasks, is_paused)?)?;
+    }
+    for (dag_id, run_id, date) in [("g", "a", 0), ("h", "a", 0), ("g", "b", 1), ("g", "c", 2)] {
+        let mut new = new_run(
+            alloc,
+            dag_id,
+            run_id,
+            instances(alloc, &[TaskState::NoStatus])?,
+        )?;
+        new.logical_date = moment(date)?;
+        add_run(&mut state, new)?;
+    }
+    Ok(state)
+}
+
+#[test]
+fn runs_start_by_number(rt: HostRuntime) -> Result<(), Fail> {
+    use RunState::{Queued, Running, Success};
+    let alloc = rt.alloc();
+    let mut state = two_dags(alloc)?;
+    let steps = [
+        Step::Changes("2024-01-01T00:00:00Z"),
+        Step::States(&[Running, Queued, Running, Queued]),
+        Step::Ends("t", Outcome::Success, 5),
+        Step::Changes("2024-01-01T00:00:01Z"),
+        Step::States(&[Success, Queued, Running, Queued]),
+        Step::Changes("2024-01-01T00:00:02Z"),
+        Step::States(&[Success, Queued, Running, Running]),
+        Step::Rests("2024-01-01T00:00:03Z"),
+    ];
+    let fault = first_fault(alloc, &mut state, &steps)?;
+    assert!(rt; fault.is_none(), "step {fault:?}");
+    Ok(())
 }
 
 #[test]
