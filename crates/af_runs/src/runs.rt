@@ -113,7 +113,7 @@ impl Runs {
             .map(|run| run.instances.as_slice())
     }
 
-    /// The first run after this number that has not ended: by it a tick goes over the runs that it may move on.
+    /// The first run after this number that has not ended.
     pub fn unfinished_after(&self, number: u64) -> Option<&Run>
         ensures { option_copied result ≡ unfinished_after self.now.rows number }
     {
@@ -208,10 +208,11 @@ impl Runs {
         }
     }
 
-    /// Adds these runs after the others, the last of all of this number: what `Additions::into_rows` gave, where memory
-    /// is reserved for them.
+    /// Adds these runs after the others, where memory is reserved for them, and goes on from this number: what
+    /// `Additions::into_rows` gave, some of them moved on since.
     pub fn append(&mut self, added: Vec<Run>, last: u64)
         requires room { length added.items ≤ self.old.spare }
+        requires numbers { self.old.next ≤ last + 1 }
         requires kept { AreRuns (self.old.rows ++ added.items) (last + 1) }
         ensures rows { self.new.rows ≡ self.old.rows ++ added.items }
         ensures next { self.new.next ≡ last + 1 }

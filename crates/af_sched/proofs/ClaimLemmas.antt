@@ -1,5 +1,6 @@
 -- A claim leaves one state, and tells one thing.
 use Rattle.std.proofs.Common.{◌≡◌, ◌∙◌, ℕ, ap, sym, refl, Bool, true, false, ◌&&◌}
+use Rattle.std.specs.Prelude.{Option, Some, None}
 use Rattle.std.specs.Ordering.{nat_cmp, int_cmp, ordering_then, ordering_reverse, is_eq, is_lt}
 use Rattle.std.specs.Cmp.{unsigned_ties}
 use Rattle.std.specs.declared.cmp.Ordering.{Ordering}
@@ -8,6 +9,7 @@ use Rattle.std.proofs.lemmas.Bool.{true≢false}
 use Rattle.af_runs.specs.Runs.{AreRuns, with_instance}
 use Rattle.af_sched.specs.Choosing.{same_seat}
 use Rattle.af_sched.specs.Claims.{Claims, claim_of, claimed_instance, is_claimable}
+use Rattle.af_sched.specs.Laws.{IsClaim}
 use Rattle.af_sched.specs.Placed.{Placed, placed_cmp, placed_in}
 use Rattle.af_sched.specs.State.{StateRows}
 use Rattle.af_sched.specs.declared.claim.Claim.{Claim}
@@ -37,10 +39,17 @@ one_seat a b same =
     let place = unsigned_ties a.place b.place ∙ ap is_eq parts.1 in
     λ i. number i && place i
 
-pub claim_is_one : (t : ℕ) (old one other : StateRows) (first second : Claim) → AreRuns old.runs old.next_run → Claims t old one first → Claims t old other second → (one ≡ other) × (first ≡ second)
-claim_is_one t old one other first second are a b =
+claims_are_one : (t : ℕ) (old one other : StateRows) (first second : Claim) → AreRuns old.runs old.next_run → Claims t old one first → Claims t old other second → (one ≡ other) × (first ≡ second)
+claims_are_one t old one other first second are a b =
     let equal = neither (placed_cmp a.first b.first) (placed_cmp b.first a.first) (placed_order.antisymm a.first b.first) (b.is_first.before_others a.first a.is_first.member a.is_first.passes) (a.is_first.before_others b.first b.is_first.member b.is_first.passes) in
     let same : a.first ≡ b.first = alike (placed_in old.dags old.runs) a.first b.first (distinct_in old.dags old.runs (rise_from old.runs are.in_order)) a.is_first.member b.is_first.member (one_seat a.first b.first equal) in (
       a.state ∙ ap (λ (p : Placed). record old { runs = with_instance old.runs p.run.number p.place (claimed_instance t p.instance) }) same ∙ sym b.state,
       a.told ∙ ap claim_of same ∙ sym b.told,
     )
+
+pub claim_is_one : (t : ℕ) (old one other : StateRows) (first second : Option Claim) → AreRuns old.runs old.next_run → IsClaim t old one first → IsClaim t old other second → (one ≡ other) × (first ≡ second)
+claim_is_one t old one other None None are a b = (a.state ∙ sym b.state, refl)
+claim_is_one t old one other None (Some second) are a b = absurd (true≢false (sym b.is_first.passes ∙ a.none b.first b.is_first.member))
+claim_is_one t old one other (Some first) None are a b = absurd (true≢false (sym a.is_first.passes ∙ b.none a.first a.is_first.member))
+claim_is_one t old one other (Some first) (Some second) are a b =
+    let both = claims_are_one t old one other first second are a b in (both.0, ap Some both.1)

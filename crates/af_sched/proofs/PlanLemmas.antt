@@ -1,5 +1,5 @@
 -- A plan is a tick.
-use Rattle.std.proofs.Common.{◌≡◌, ◌≢◌, ◌<◌, ◌+◌, ◌∙◌, ◌↔◌, ℕ, List, [], ◌∷◌, ◌++◌, length, map, get_or, refl, sym, ap, subst, arith, suc, Bool, true, false, cond}
+use Rattle.std.proofs.Common.{◌≡◌, ◌≤◌, ◌<◌, ◌+◌, ◌∙◌, ◌↔◌, ℕ, List, [], ◌∷◌, ◌++◌, length, map, get_or, refl, sym, ap, subst, arith, suc, Bool, true, false, cond}
 use Rattle.std.specs.Prelude.{All, None, Some, Option, option_map, fold, not, is_none}
 use Rattle.std.specs.Option.{option_map_or}
 use Rattle.std.specs.List.Sorted.{IsStrictlySortedBy}
@@ -7,7 +7,7 @@ use Rattle.std.specs.Ordering.{nat_cmp, is_eq}
 use Rattle.std.specs.declared.cmp.Ordering.{Ordering}
 use Rattle.std.specs.declared.cmp.Ordering.TheVariants.{Less, Equal, Greater}
 use Rattle.std.specs.Cmp.Lexicographic.{slice_cmp, nat_list_cmp_total, nat_list_eq_equiv, texts_ties}
-use Rattle.std.proofs.lemmas.Bool.{false≢true}
+use Rattle.std.proofs.lemmas.Bool.{false≢true, true≢false}
 use Rattle.std.proofs.lemmas.List.{append-nil, length-append, length_push}
 use Rattle.std.proofs.lemmas.List.Elements.{All-nil, All-cons, All-push, length_all_zip}
 use Rattle.std.proofs.Math.ListN.{length-map}
@@ -31,7 +31,7 @@ use Rattle.af_sched.specs.Tick.{IsTick}
 use Rattle.af_sched.specs.declared.dag_row.DagRow.{DagRow}
 use Rattle.af_sched.proofs.BusyLemmas.{advanced_fill, fill_all, frame_of, keeps_front, moves_all, order_front, same_from}
 use Rattle.af_sched.proofs.FrameLemmas.{fill}
-use Rattle.af_sched.proofs.KeyLemmas.{AreRuns-keeps, Keeps, keeps_moved, key_of, whole_moved}
+use Rattle.af_sched.proofs.KeyLemmas.{AreRuns-keeps, Keeps, keeps_moved, key_of, whole_moved, numbers_same}
 use Rattle.af_sched.proofs.LikeLemmas.{Alike, alike_with, moved_with, started_alike, settled_alike, queueing_alike, finished_alike}
 use Rattle.af_sched.proofs.StartLemmas.{get_or-same}
 
@@ -167,10 +167,16 @@ module _ (t : ℕ) (state : StateRows) (first last : RunAdditions) (cursors : Li
       (λ i. record ((ap (λ (s : StateRows). fold (with_runs_of t) s state.dags) (sym start) ∙ sym (works.takes state)) i) { dags = map (moved_row t) state.dags })
       ∙ (λ i. record state { dags = map (moved_row t) state.dags; runs = new_rows i; next_run = last.next })
 
+  all_counted : length (last.before ++ last.added) + state.next_run ≡ length state.runs + last.next
+  all_counted =
+      let start : length (first.before ++ first.added) + state.next_run ≡ length state.runs + first.next = (let long = ap length old_rows in let next = works.next in omega (arith, long, next)) in
+      subst (Counted (length state.runs) state.next_run) (sym (works.takes state)) (counted_rows (length state.runs) state.next_run t state.dags (with_rows state old) start)
+
   plan_fits : (changes : Bool) → Fits (record { cursors = cursors; moved = moved; added = more; next_run = last.next; changes = changes }) state
   plan_fits changes = record {
     count = long;
     whole = whole_moved state.dags t state.pools (state.runs ++ added) (fold with_advanced state.runs moved ++ more) all_move all_whole;
+    numbers = let counted = all_counted in let all = ap length new_rows ∙ length-append state.runs last.added in omega (arith, counted, all);
     kept = AreRuns-keeps (state.runs ++ added) (fold with_advanced state.runs moved ++ more) last.next (keeps_moved t state.dags state.pools (state.runs ++ added) (fold with_advanced state.runs moved ++ more) all_move) works.kept;
   }
 
@@ -203,8 +209,7 @@ module _ (t : ℕ) (state : StateRows) (first last : RunAdditions) (cursors : Li
 
   same_next : more ≡ [] → last.next ≡ state.next_run
   same_next none =
-      let start : length (first.before ++ first.added) + state.next_run ≡ length state.runs + first.next = (let long = ap length old_rows in let next = works.next in omega (arith, long, next)) in
-      let counted : length (last.before ++ last.added) + state.next_run ≡ length state.runs + last.next = subst (Counted (length state.runs) state.next_run) (sym (works.takes state)) (counted_rows (length state.runs) state.next_run t state.dags (with_rows state old) start) in
+      let counted = all_counted in
       let busy : length (busy_of state.runs ++ last.added) ≡ length (moved ++ more) = length_all_zip (λ one other. key_of other ≡ key_of one) (busy_of state.runs ++ last.added) (moved ++ more) (keeps_moved t state.dags state.pools (busy_of state.runs ++ added) (moved ++ more) works.moves) in
       let old_busy = length-append (busy_of state.runs) last.added in
       let new_busy = length-append moved more in
@@ -223,9 +228,9 @@ module _ (t : ℕ) (state : StateRows) (first last : RunAdditions) (cursors : Li
       let runs : fold with_advanced state.runs moved ++ more ≡ state.runs = filled ∙ (λ i. fill (frame_of state.runs) (all.1 i ++ all.2 i)) ∙ fill_all state.runs [] ∙ append-nil state.runs in
       λ i. record state { dags = all.0 i; runs = runs i; next_run = same_next all.2 i }
 
-  told_by : (b : Bool) → (b ≡ true) ↔ HasRows state cursors moved more → (not b ≡ true) ↔ (applied (record { cursors = cursors; moved = moved; added = more; next_run = last.next; changes = not b }) state ≢ state)
-  told_by true tells = (λ wrong. absurd (false≢true wrong), λ differs. absurd (differs (is_state false (tells.0 refl))))
-  told_by false tells = (λ _ is. absurd (false≢true (tells.1 (has true is))), λ _. refl)
+  told_by : (b : Bool) → (b ≡ true) ↔ HasRows state cursors moved more → (not b ≡ false) ↔ (applied (record { cursors = cursors; moved = moved; added = more; next_run = last.next; changes = not b }) state ≡ state)
+  told_by true tells = (λ _. is_state false (tells.0 refl), λ _. refl)
+  told_by false tells = (λ wrong. absurd (true≢false wrong), λ is. absurd (false≢true (tells.1 (has true is))))
 
   pub plan_is : (same : Bool) → (same ≡ true) ↔ HasRows state cursors moved more → IsPlan t state (record { cursors = cursors; moved = moved; added = more; next_run = last.next; changes = not same })
-  plan_is same tells = record { fits = plan_fits (not same); tick = plan_ticks (not same); changed = told_by same tells }
+  plan_is same tells = record { fits = plan_fits (not same); tick = plan_ticks (not same); busy = numbers_same (busy_of state.runs) moved keeps_busy; changed = told_by same tells }

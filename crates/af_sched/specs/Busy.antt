@@ -1,5 +1,6 @@
--- Which runs a tick works on (this product's own rule). The others have ended, and none of their instances holds slots of
--- a pool: no phase changes them, and none counts them.
+-- Which runs a tick works on after its first phase (this product's own rule). The others have ended, and none of their
+-- instances holds slots of a pool: no later phase changes them, and none counts them. (The first looks at the ids, the dates
+-- and the number of all runs of a DAG.)
 use Rattle.std.specs.Prelude.{List, Bool, not, ◌||◌, filter}
 use Rattle.std.specs.List.{list_any}
 use Rattle.af_pool.specs.Occupants.{holds_slots}

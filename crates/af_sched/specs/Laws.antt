@@ -1,12 +1,12 @@
 -- Laws about ticks and claims, in words of their own.
-use Rattle.std.specs.Prelude.{ℕ, ◌≡◌, ◌≤◌, ◌&&◌, List, [], Bool, true, false, All, Some, None, length, max, Contains}
+use Rattle.std.specs.Prelude.{ℕ, ◌≡◌, ◌≤◌, ◌&&◌, List, [], Bool, true, false, All, Option, Some, None, MatchOption, length, max, Contains}
 use Rattle.af_graph.specs.Definition.{fault_of}
 use Rattle.af_graph.specs.declared.task_spec.TaskSpec.{TaskSpec}
 use Rattle.af_pool.specs.Pools.{slots_of}
 use Rattle.af_runs.specs.Runs.{AreRuns, is_finished}
 use Rattle.af_runs.specs.declared.instance.Instance.{Instance}
 use Rattle.af_runs.specs.declared.run.Run.{Run}
-use Rattle.af_sched.specs.Claims.{Claims}
+use Rattle.af_sched.specs.Claims.{Claims, ClaimsNone}
 use Rattle.af_sched.specs.Create.{runs_of_row}
 use Rattle.af_sched.specs.Due.{moved_cursor, taken_points}
 use Rattle.af_sched.specs.Finish.{ends}
@@ -54,7 +54,7 @@ abbrev pub NoPointIsTakenTwice : Type 0
 NoPointIsTakenTwice =
     (catchup : Bool) (is_point : ℕ → Bool) (cursor later t u point : ℕ) → moved_cursor is_point (taken_points catchup is_point cursor t) cursor ≡ Some later → Contains (taken_points catchup is_point cursor t) point → Contains (taken_points catchup is_point later u) point → ⊥
 
--- nothing is due at t: no run is to be created, to start or to end, the instances of running runs of unpaused DAGs are
+-- nothing is due at t: no point is, no run is to start or to end, the instances of running runs of unpaused DAGs are
 -- settled as they are, and none that may be queued finds room
 pub record NothingIsDue (t : ℕ) (state : StateRows) : Type 0 where
   pub creates_none : All (λ row. runs_of_row t row ≡ []) state.dags
@@ -67,7 +67,11 @@ pub record NothingIsDue (t : ℕ) (state : StateRows) : Type 0 where
 abbrev pub NothingDueChangesNothing : Type 0
 NothingDueChangesNothing = (t : ℕ) (old new : StateRows) → AreRows old.dags old.runs → NothingIsDue t old → IsTick t old new → new ≡ old
 
+-- what a claim at t leaves and tells, or that there is nothing to claim
+abbrev pub IsClaim : ℕ → StateRows → StateRows → Option Claim → Type 0
+IsClaim t old new told = MatchOption told (ClaimsNone old new) (Claims t old new)
+
 -- a claim leaves one state, and tells one thing
 abbrev pub ClaimIsOne : Type 0
 ClaimIsOne =
-    (t : ℕ) (old one other : StateRows) (first second : Claim) → AreRuns old.runs old.next_run → Claims t old one first → Claims t old other second → (one ≡ other) × (first ≡ second)
+    (t : ℕ) (old one other : StateRows) (first second : Option Claim) → AreRuns old.runs old.next_run → IsClaim t old one first → IsClaim t old other second → (one ≡ other) × (first ≡ second)

@@ -4,8 +4,9 @@ use af_names::Instant;
 use af_runs::Run;
 use std::marker::Model;
 
-/// A tick that is worked out and not yet done, with all the memory that it takes. Contracts see the cursors of the DAGs, the
-/// busy runs as it will leave them, the runs that it will add, and whether these are a change.
+/// A tick that is worked out and not yet done, with all the memory that it takes. Contracts see the cursors of the DAGs,
+/// runs of the state as it will leave them, the runs that it will add, the number that the next one gets, and whether these
+/// are a change.
 #[derive(Drop)]
 pub struct Plan {
     pub(crate) cursors: Vec<Option<Instant>>,

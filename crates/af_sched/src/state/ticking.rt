@@ -1,4 +1,4 @@
-ghost use Rattle.std.specs.Prelude.{◌≡◌, ◌≢◌, ◌↔◌, ◌≤◌, IfOk, OnOk, OnErr, fold, length, true};
+ghost use Rattle.std.specs.Prelude.{◌≡◌, ◌↔◌, ◌≤◌, ◌+◌, IfOk, OnOk, OnErr, fold, length, true, false};
 ghost use Rattle.af_runs.specs.Runs.{with_advanced};
 ghost use Rattle.af_sched.specs.Plan.{Fits, HasRows, IsPlan, applied, with_cursors};
 ghost use Rattle.af_sched.specs.Tick.{IsTick};
@@ -55,11 +55,13 @@ impl State {
         })
     }
 
-    /// Does a planned tick, where memory is reserved for the runs that it adds. It takes no memory.
+    /// Does a planned tick on the state that it was planned for, where memory is reserved for the runs that it adds. It takes
+    /// no memory.
     pub fn commit(&mut self, plan: Plan)
         requires fits { Fits plan self.old.rows }
         requires room { length plan.added ≤ self.old.spare_runs }
         ensures rows { self.new.rows ≡ applied plan self.old.rows }
+        ensures spare_runs { self.old.spare_runs ≤ self.new.spare_runs + length plan.added }
         ensures spare_pools { self.new.spare_pools ≡ self.old.spare_pools }
     {
         let Plan {
@@ -78,7 +80,7 @@ impl State {
     /// Tells whether that changed the state. `AllocError` only where a growth was refused; then the state is as before.
     pub fn tick(&mut self, alloc: Global, at: Instant) -> Result<bool, AllocError>
         ensures ok { OnOk result (IsTick at self.old.rows self.new.rows) }
-        ensures changed { IfOk result (λ changed. (changed ≡ true) ↔ (self.new.rows ≢ self.old.rows)) }
+        ensures changed { IfOk result (λ changed. (changed ≡ false) ↔ (self.new.rows ≡ self.old.rows)) }
         ensures err { OnErr result (self.new ≡ self.old) }
         ensures spare_pools { self.new.spare_pools ≡ self.old.spare_pools }
     {

@@ -118,6 +118,27 @@ fn a_retry_waits_for_its_moment(rt: HostRuntime) -> Result<(), Fail> {
     Ok(())
 }
 
+/// Plans a tick, and does it: whether the plan leaves the runs as they are, and tells a change.
+fn planned(alloc: Global, state: &mut State, moment: &str) -> Result<bool, Fail> {
+    let before = state.runs().len();
+    let plan = state.plan_tick(alloc, at(moment)?)?;
+    let is_planned = plan.changes() && state.runs().len() == before;
+    state.commit(plan);
+    Ok(is_planned)
+}
+
+#[test]
+fn a_tick_is_planned_and_then_done(rt: HostRuntime) -> Result<(), Fail> {
+    let alloc = rt.alloc();
+    let mut state = scheduled(alloc, Preset::Hourly, "2024-01-01T00:00:00Z", true, false)?;
+    let holds = planned(alloc, &mut state, "2024-01-02T00:00:00Z")?;
+    assert!(rt; holds, "a plan changes nothing");
+    let steps = [Step::Runs(16, 2), Step::Cursor("2024-01-01T16:00:00Z")];
+    let fault = first_fault(alloc, &mut state, &steps)?;
+    assert!(rt; fault.is_none(), "step {fault:?}");
+    Ok(())
+}
+
 /// How many runs have their one instance queued.
 fn queued_in(state: &State) -> usize {
     state
