@@ -1,6 +1,5 @@
-use crate::tests::tables::{dag, finished, has_states, instances, moment, run, settled, task};
+use crate::tests::tables::{dag, has_states, instances, settled, task};
 use af_graph::{Rule, TaskState};
-use af_runs::RunState;
 use std::alloc::Global;
 use std::test::Fail;
 
@@ -57,31 +56,5 @@ fn a_diamond_goes_by_its_rule(rt: HostRuntime) -> Result<(), Fail> {
         let holds = becomes(rt.alloc(), rule, b, c, wanted)?;
         assert!(rt; holds, "{rule:?} of {b:?} and {c:?}");
     }
-    Ok(())
-}
-
-#[test]
-fn a_failure_goes_down_in_one_phase(rt: HostRuntime) -> Result<(), Fail> {
-    use TaskState::{Failed, NoStatus, UpstreamFailed};
-    let alloc = rt.alloc();
-    let tasks = vec![in alloc;
-        task(alloc, "z", &["y"], Rule::AllSuccess)?,
-        task(alloc, "y", &["x"], Rule::AllSuccess)?,
-        task(alloc, "x", &[], Rule::AllSuccess)?,
-    ]?;
-    let row = dag(alloc, "g", tasks, false)?;
-    let mut chain = instances(alloc, &[NoStatus, NoStatus, Failed])?;
-    settled(&row, 7, &mut chain)?;
-    assert!(rt;
-        has_states(&chain, &[UpstreamFailed, UpstreamFailed, Failed]),
-        "both below"
-    );
-    let mut only = run(alloc, 1, "g", RunState::Running, chain)?;
-    finished(&row, 8, &mut only)?;
-    assert!(rt;
-        only.state == RunState::Failed,
-        "the leaf is upstream_failed"
-    );
-    assert!(rt; only.end_date == Some(moment(8)?), "ended");
     Ok(())
 }

@@ -1,9 +1,8 @@
-use crate::finishing::finish;
 use crate::settling::settle;
 use crate::{Claim, DagRow, Outcome, ReportFault, State};
 use af_graph::{Dag, DagSpec, Rule, TaskIds, TaskSpec, TaskSpecs, TaskState};
 use af_names::{DagId, Instant, PoolName, RunId, TaskId};
-use af_runs::{Instance, Instances, Interval, NewRun, Run, RunState, RunType};
+use af_runs::{Instance, Instances, Interval, NewRun, RunType};
 use std::alloc::Global;
 use std::test::Fail;
 
@@ -94,29 +93,6 @@ pub fn new_run(
     })
 }
 
-pub fn run(
-    alloc: Global,
-    number: u64,
-    dag_id: &str,
-    state: RunState,
-    instances: Instances,
-) -> Result<Run, Fail> {
-    let (dag_id, run_id) = ids(alloc, dag_id, "r")?;
-    let at = moment(0)?;
-    Ok(Run {
-        number,
-        dag_id,
-        run_id,
-        logical_date: at,
-        interval: Interval { start: at, end: at },
-        run_type: RunType::Manual,
-        state,
-        start_date: None,
-        end_date: None,
-        instances,
-    })
-}
-
 /// Settles a run's instances, one for each task.
 pub fn settled(row: &DagRow, micros: u64, instances: &mut Instances) -> Result<(), Fail> {
     let at = moment(micros)?;
@@ -124,12 +100,6 @@ pub fn settled(row: &DagRow, micros: u64, instances: &mut Instances) -> Result<(
         return Err(Fail::from("not one instance a task"));
     }
     settle(&row.dag, at, instances);
-    Ok(())
-}
-
-pub fn finished(row: &DagRow, micros: u64, run: &mut Run) -> Result<(), Fail> {
-    let at = moment(micros)?;
-    finish(&row.dag, at, run);
     Ok(())
 }
 

@@ -96,6 +96,27 @@ fn a_lowered_pool_is_not_filled(rt: HostRuntime) -> Result<(), Fail> {
 }
 
 #[test]
+fn a_failure_goes_down_in_one_tick(rt: HostRuntime) -> Result<(), Fail> {
+    use TaskState::{Failed, NoStatus, UpstreamFailed};
+    let alloc = rt.alloc();
+    let tasks = vec![in alloc;
+        task(alloc, "z", &["y"], Rule::AllSuccess)?,
+        task(alloc, "y", &["x"], Rule::AllSuccess)?,
+        task(alloc, "x", &[], Rule::AllSuccess)?,
+    ]?;
+    let mut state = with_pool(alloc, tasks, &[NoStatus, NoStatus, Failed])?;
+    let steps = [
+        Step::Changes("2024-01-01T00:00:00Z"),
+        Step::Are(&[UpstreamFailed, UpstreamFailed, Failed]),
+        Step::States(&[RunState::Failed]),
+        Step::Rests("2024-01-01T00:00:01Z"),
+    ];
+    let fault = first_fault(alloc, &mut state, &steps)?;
+    assert!(rt; fault.is_none(), "step {fault:?}");
+    Ok(())
+}
+
+#[test]
 fn a_retry_waits_for_its_moment(rt: HostRuntime) -> Result<(), Fail> {
     use TaskState::{Failed, NoStatus, Queued, UpForRetry};
     let alloc = rt.alloc();
