@@ -1,19 +1,20 @@
 -- Runs of which the busy ones are moved on, and to which others are added.
-use Rattle.std.proofs.Common.{◌≡◌, ◌+◌, ◌∙◌, ℕ, List, [], ◌∷◌, ◌++◌, length, map, fold, drop, take, get_or, refl, sym, ap, subst, arith, zero, suc, Bool, true, false, cond, ◌==◌, Option, Some, None}
-use Rattle.std.specs.Prelude.{All, filter}
+use Rattle.std.proofs.Common.{◌≡◌, ◌+◌, ◌∙◌, ℕ, List, [], ◌∷◌, ◌++◌, length, map, fold, drop, get_or, refl, sym, ap, subst, arith, suc, Bool, true, false, cond, ◌==◌, Option, Some, None}
+use Rattle.std.specs.Prelude.{All}
 use Rattle.std.specs.List.{AllByRecursion}
 use Rattle.std.specs.List.Sorted.{IsStrictlySortedBy}
 use Rattle.std.specs.Ordering.{nat_cmp}
 use Rattle.std.specs.declared.cmp.Ordering.TheVariants.{Less}
 use Rattle.std.proofs.lemmas.Bool.Decides.{nat_tests}
-use Rattle.std.proofs.lemmas.List.Elements.{All-nil, All-cons}
+use Rattle.std.proofs.lemmas.List.Elements.{All-cons}
 use Rattle.af_pool.specs.declared.pool.Pool.{Pool}
 use Rattle.af_runs.specs.Runs.{advanced, is_numbered, with_advanced}
 use Rattle.af_runs.specs.declared.run.Run.{Run}
 use Rattle.af_sched.specs.Busy.{busy_of, is_busy}
 use Rattle.af_sched.specs.Moves.{MovesOn}
 use Rattle.af_sched.specs.declared.dag_row.DagRow.{DagRow}
-use Rattle.af_sched.proofs.FrameLemmas.{AllOf, Above, Idle, fill, moves_fill}
+use Rattle.af_sched.proofs.FillLemmas.{Above, Idle, fill}
+use Rattle.af_sched.proofs.FrameLemmas.{moves_fill}
 use Rattle.af_sched.proofs.KeyLemmas.{Keeps, key_of, keeps_moved, numbers_same}
 
 abbrev pub numbers : List Run → List ℕ

@@ -1,5 +1,5 @@
 -- A claim leaves one state, and tells one thing.
-use Rattle.std.proofs.Common.{◌≡◌, ◌∙◌, ℕ, ap, sym, refl, Bool, true, false, ◌&&◌}
+use Rattle.std.proofs.Common.{◌≡◌, ◌∙◌, ℕ, ap, sym, refl, true, false, ◌&&◌}
 use Rattle.std.specs.Prelude.{Option, Some, None}
 use Rattle.std.specs.Ordering.{nat_cmp, int_cmp, ordering_then, ordering_reverse, is_eq, is_lt}
 use Rattle.std.specs.Cmp.{unsigned_ties}
@@ -8,13 +8,13 @@ use Rattle.std.specs.declared.cmp.Ordering.TheVariants.{Less, Equal, Greater}
 use Rattle.std.proofs.lemmas.Bool.{true≢false}
 use Rattle.af_runs.specs.Runs.{AreRuns, with_instance}
 use Rattle.af_sched.specs.Choosing.{same_seat}
-use Rattle.af_sched.specs.Claims.{Claims, claim_of, claimed_instance, is_claimable}
+use Rattle.af_sched.specs.Claims.{Claims, claim_of, claimed_instance}
 use Rattle.af_sched.specs.Laws.{IsClaim}
 use Rattle.af_sched.specs.Placed.{Placed, placed_cmp, placed_in}
 use Rattle.af_sched.specs.State.{StateRows}
 use Rattle.af_sched.specs.declared.claim.Claim.{Claim}
 use Rattle.af_sched.proofs.CandidateLemmas.{distinct_in, rise_from}
-use Rattle.af_sched.proofs.ChoosingLemmas.{alike}
+use Rattle.af_sched.proofs.PassingLemmas.{alike}
 use Rattle.af_sched.proofs.PlacedLemmas.{placed_order}
 
 -- neither is before the other

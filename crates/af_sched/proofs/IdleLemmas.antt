@@ -1,7 +1,7 @@
 -- A tick where nothing is due leaves the state as it was.
-use Rattle.std.proofs.Common.{◌≡◌, ◌∙◌, ◌+◌, ℕ, List, [], ◌∷◌, map, fold, refl, sym, ap, subst, arith, suc, Bool, true, false, cond}
+use Rattle.std.proofs.Common.{◌≡◌, ◌∙◌, ◌+◌, ℕ, List, [], ◌∷◌, map, fold, refl, sym, ap, subst, Bool, true, false, cond}
 use Rattle.std.specs.Prelude.{All, MatchBool, Option, Some, None}
-use Rattle.std.specs.List.{AllZip, enumerate_from, last_or}
+use Rattle.std.specs.List.{AllZip, enumerate_from}
 use Rattle.std.specs.Option.{option_map_or}
 use Rattle.std.proofs.lemmas.List.Elements.{All-head, All-tail}
 use Rattle.af_graph.specs.Schedules.{is_scheduled}
@@ -9,8 +9,8 @@ use Rattle.af_graph.specs.declared.schedule.Schedule.{Schedule}
 use Rattle.af_runs.specs.declared.instance.Instance.{Instance}
 use Rattle.af_runs.specs.declared.run.Run.{Run}
 use Rattle.af_sched.specs.Create.{created, cursor_due, moved_row, run_for, runs_due, runs_of_row, with_run, with_runs_of}
-use Rattle.af_sched.specs.Due.{moved_cursor, next_after, taken_points}
-use Rattle.af_sched.specs.Finish.{ended_run, ends, finished, finished_run}
+use Rattle.af_sched.specs.Due.{moved_cursor, taken_points}
+use Rattle.af_sched.specs.Finish.{ends, finished, finished_run}
 use Rattle.af_sched.specs.Laws.{NothingIsDue}
 use Rattle.af_sched.specs.Queue.{queued_instance, with_queued}
 use Rattle.af_sched.specs.Settle.{Settles, SettlesIfLive, SettlesInstances, SettlesRun, is_live}

@@ -5,10 +5,13 @@ mod ClaimLemmas
 mod CreateLemmas
 mod DueLemmas
 mod EndedLemmas
+mod FillLemmas
+mod FittingLemmas
 mod FrameLemmas
 mod IdleLemmas
 mod KeyLemmas
 mod LikeLemmas
+mod PassingLemmas
 mod PlanLemmas
 mod SeatLemmas
 mod SlotsLawLemmas

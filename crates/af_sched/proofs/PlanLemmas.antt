@@ -1,9 +1,9 @@
 -- A plan is a tick.
-use Rattle.std.proofs.Common.{◌≡◌, ◌≤◌, ◌<◌, ◌+◌, ◌∙◌, ◌↔◌, ℕ, List, [], ◌∷◌, ◌++◌, length, map, get_or, refl, sym, ap, subst, arith, suc, Bool, true, false, cond}
+use Rattle.std.proofs.Common.{◌≡◌, ◌<◌, ◌+◌, ◌∙◌, ◌↔◌, ℕ, List, [], ◌∷◌, ◌++◌, length, map, get_or, refl, sym, ap, subst, arith, suc, Bool, true, false, cond}
 use Rattle.std.specs.Prelude.{All, None, Some, Option, option_map, fold, not, is_none}
 use Rattle.std.specs.Option.{option_map_or}
 use Rattle.std.specs.List.Sorted.{IsStrictlySortedBy}
-use Rattle.std.specs.Ordering.{nat_cmp, is_eq}
+use Rattle.std.specs.Ordering.{nat_cmp}
 use Rattle.std.specs.declared.cmp.Ordering.{Ordering}
 use Rattle.std.specs.declared.cmp.Ordering.TheVariants.{Less, Equal, Greater}
 use Rattle.std.specs.Cmp.Lexicographic.{slice_cmp, nat_list_cmp_total, nat_list_eq_equiv, texts_ties}
@@ -23,14 +23,14 @@ use Rattle.af_sched.specs.Busy.{busy_of}
 use Rattle.af_sched.specs.Create.{with_run, with_runs_of, runs_of_row, runs_due, run_for, moved_row, created}
 use Rattle.af_sched.specs.Due.{taken_points}
 use Rattle.af_sched.specs.Moves.{MovesOn}
-use Rattle.af_sched.specs.Plan.{PlanRows, Fits, HasRows, IsPlan, applied, with_cursors}
+use Rattle.af_sched.specs.Plan.{Fits, HasRows, IsPlan, applied, with_cursors}
 use Rattle.af_sched.specs.Start.{started, started_runs}
 use Rattle.af_sched.specs.State.{StateRows, AreRows, IsWhole, dag_of, is_of_id}
 use Rattle.af_sched.specs.Steps.{TakesRunsOf, with_rows}
 use Rattle.af_sched.specs.Tick.{IsTick}
 use Rattle.af_sched.specs.declared.dag_row.DagRow.{DagRow}
 use Rattle.af_sched.proofs.BusyLemmas.{advanced_fill, fill_all, frame_of, keeps_front, moves_all, order_front, same_from}
-use Rattle.af_sched.proofs.FrameLemmas.{fill}
+use Rattle.af_sched.proofs.FillLemmas.{fill}
 use Rattle.af_sched.proofs.KeyLemmas.{AreRuns-keeps, Keeps, keeps_moved, key_of, whole_moved, numbers_same}
 use Rattle.af_sched.proofs.LikeLemmas.{Alike, alike_with, moved_with, started_alike, settled_alike, queueing_alike, finished_alike}
 use Rattle.af_sched.proofs.StartLemmas.{get_or-same}

@@ -35,7 +35,8 @@ use Rattle.af_sched.specs.declared.dag_row.DagRow.{DagRow}
 use Rattle.af_sched.proofs.CandidateLemmas.{distinct_in, rise_from}
 use Rattle.af_sched.proofs.KeyLemmas.{keeps_settled_too, numbers_same}
 use Rattle.af_sched.proofs.LikeLemmas.{placed_alike}
-use Rattle.af_sched.proofs.SlotsLemmas.{hold, hold_new, occupied_push, occupied_started, occupied_settled, occupied_finished, occupied_queued, given_fits, Idle}
+use Rattle.af_sched.proofs.FittingLemmas.{given_fits}
+use Rattle.af_sched.proofs.SlotsLemmas.{hold, hold_new, occupied_push, occupied_started, occupied_settled, occupied_finished, occupied_queued, Idle}
 use Rattle.af_sched.proofs.StartLemmas.{get_or-same}
 use Rattle.af_sched.proofs.TickLemmas.{alike_moved}
 

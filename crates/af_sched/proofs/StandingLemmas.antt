@@ -1,6 +1,6 @@
 -- What a search for the id of a DAG found.
 use Rattle.std.proofs.Common.{◌≡◌, ◌∙◌, ℕ, List, length, get_or, ap}
-use Rattle.std.specs.Prelude.{None, Option, Result, Ok, Err, MatchOption}
+use Rattle.std.specs.Prelude.{None, Result, Ok, Err, MatchOption}
 use Rattle.std.specs.Result.{result_ok}
 use Rattle.std.specs.List.Sorted.{IsSearchInRange, IsBinarySearchResult}
 use Rattle.std.specs.Ordering.{nat_cmp, is_eq}

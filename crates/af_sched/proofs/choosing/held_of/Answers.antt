@@ -1,5 +1,5 @@
 use Rattle.std.proofs.Common.{◌∙◌, sym, rules}
-use Rattle.af_sched.proofs.ChoosingLemmas.{held_as_given}
+use Rattle.af_sched.proofs.PassingLemmas.{held_as_given}
 use Rattle.af_sched.proofs.choosing.held_of.Goals as goal
 
 pub returns : goal.returns
