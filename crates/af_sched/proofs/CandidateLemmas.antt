@@ -23,7 +23,7 @@ use Rattle.af_sched.specs.State.{tasks_of}
 use Rattle.af_sched.specs.declared.dag_row.DagRow.{DagRow}
 use Rattle.af_sched.specs.declared.seat.Seat.{Seat}
 use Rattle.af_sched.proofs.PassingLemmas.{same_seat_laws}
-use Rattle.af_sched.proofs.ChoosingLemmas.{pooled_order}
+use Rattle.af_sched.proofs.PooledLemmas.{pooled_order}
 use Rattle.af_sched.proofs.StartLemmas.{get_or-same}
 
 -- ---- the instances of all runs are apart

@@ -13,6 +13,7 @@ mod KeyLemmas
 mod LikeLemmas
 mod PassingLemmas
 mod PlanLemmas
+mod PooledLemmas
 mod SeatLemmas
 mod SlotsLawLemmas
 mod SlotsLemmas

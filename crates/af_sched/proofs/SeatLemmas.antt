@@ -10,7 +10,7 @@ use Rattle.af_runs.specs.Places.{StandsAt, StandsNowhere}
 use Rattle.af_sched.specs.Choosing.{is_at, is_among, with_seat}
 use Rattle.af_sched.specs.Queue.{queued_instance, with_queued}
 use Rattle.af_sched.specs.declared.seat.Seat.{Seat}
-use Rattle.af_sched.proofs.ChoosingLemmas.{among_more}
+use Rattle.af_sched.proofs.PooledLemmas.{among_more}
 use Rattle.af_sched.proofs.FinishLemmas.{map-from}
 use Rattle.af_sched.proofs.SettleLemmas.{map-agree}
 use Rattle.std.proofs.lemmas.Bool.{cases_lt}

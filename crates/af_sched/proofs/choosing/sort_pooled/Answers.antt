@@ -3,7 +3,7 @@ use Rattle.std.specs.Ordering.{is_lt}
 use Rattle.std.proofs.lemmas.Fn.{always_returns_same}
 use Rattle.std.proofs.lemmas.List.MinMax.{ranks_by}
 use Rattle.af_sched.specs.Choosing.{pooled_cmp}
-use Rattle.af_sched.proofs.ChoosingLemmas.{pooled_order}
+use Rattle.af_sched.proofs.PooledLemmas.{pooled_order}
 use Rattle.af_sched.proofs.choosing.sort_pooled.Goals as goal
 
 -- the closure gives how one stands to the other
