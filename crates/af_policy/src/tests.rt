@@ -38,24 +38,24 @@ const READ_RUNS: Need = Need {
     at_dag: false,
 };
 
-/// Why a fixture is not made: a name of this file that is none, or want of memory.
+/// Why a fixture is not made: a name of this file that is none, a row that is refused, or want of memory.
 #[derive(Debug, Drop)]
 enum Failed {
-    Name,
-    Memory,
+    Name(NameError),
+    Memory(AllocError),
     Row(RowFault),
     NoAdmin,
 }
 
 impl From<NameError> for Failed {
-    fn from(_error: NameError) -> Failed {
-        Failed::Name
+    fn from(error: NameError) -> Failed {
+        Failed::Name(error)
     }
 }
 
 impl From<AllocError> for Failed {
-    fn from(_error: AllocError) -> Failed {
-        Failed::Memory
+    fn from(error: AllocError) -> Failed {
+        Failed::Memory(error)
     }
 }
 
@@ -99,37 +99,25 @@ fn both(alloc: Global, first: DagId, second: DagId) -> Result<Vec<DagId>, AllocE
     Ok(dags)
 }
 
-fn add(
-    alloc: Global,
-    draft: &mut PolicyDraft,
-    name: &str,
-    digest: [u8; 32],
-    role: &str,
-) -> Result<Option<RowFault>, Failed> {
-    let user = user(alloc, name, digest, role)?;
-    Ok(draft.add_user(alloc, user).err())
-}
-
-fn add_reader(
-    alloc: Global,
-    draft: &mut PolicyDraft,
-    name: &str,
-    dag: &str,
-) -> Result<Option<RowFault>, Failed> {
-    let role = reader_of(alloc, name, dag)?;
-    Ok(draft.add_role(role).err())
+/// What is told of a row, if it is refused. Want of memory ends the test.
+fn told(added: Result<(), RowFault>) -> Result<Option<RowFault>, Failed> {
+    match added {
+        Ok(()) => Ok(None),
+        Err(RowFault::OutOfMemory) => Err(Failed::Row(RowFault::OutOfMemory)),
+        Err(fault) => Ok(Some(fault)),
+    }
 }
 
 /// vera is a Viewer, bob reads the DAG b, adam is an Admin; they stand in another order than that of their names.
 fn policy(alloc: Global) -> Result<Policy, Failed> {
     let mut draft = PolicyDraft::new(alloc)?;
-    add_reader(alloc, &mut draft, "OnlyB", "b")?;
+    draft.add_role(reader_of(alloc, "OnlyB", "b")?)?;
     for (name, digest, role) in [
         ("vera", TEST, "Viewer"),
         ("bob", FOO, "OnlyB"),
         ("adam", ADMIN, "Admin"),
     ] {
-        add(alloc, &mut draft, name, digest, role)?;
+        draft.add_user(alloc, user(alloc, name, digest, role)?)?;
     }
     Ok(draft.finish()?)
 }
@@ -223,7 +211,7 @@ fn rows_are_refused_in_order(rt: HostRuntime) -> Result<(), Failed> {
     let alloc = rt.alloc();
     let mut draft = PolicyDraft::new(alloc)?;
     assert_eq!(rt;
-        add_reader(alloc, &mut draft, "Viewer", "b")?,
+        told(draft.add_role(reader_of(alloc, "Viewer", "b")?))?,
         Some(RowFault::Exists)
     );
     for (name, digest, role, fault) in [
@@ -233,11 +221,8 @@ fn rows_are_refused_in_order(rt: HostRuntime) -> Result<(), Failed> {
         ("bob", TEST, "Viewer", Some(RowFault::Exists)),
         ("bob", FOO, "Viewer", None),
     ] {
-        assert_eq!(rt;
-            add(alloc, &mut draft, name, digest, role)?,
-            fault,
-            "of {name}"
-        );
+        let user = user(alloc, name, digest, role)?;
+        assert_eq!(rt; told(draft.add_user(alloc, user))?, fault, "of {name}");
     }
     assert_eq!(rt; draft.finish().is_err(), true);
     Ok(())
