@@ -13,12 +13,9 @@ use Rattle.af_runs.specs.declared.run.Run.{Run}
 use Rattle.af_sched.specs.Busy.{busy_of, is_busy}
 use Rattle.af_sched.specs.Moves.{MovesOn}
 use Rattle.af_sched.specs.declared.dag_row.DagRow.{DagRow}
-use Rattle.af_sched.proofs.FillLemmas.{Above, Idle, fill}
+use Rattle.af_sched.proofs.FillLemmas.{Above, Idle, fill, numbers}
 use Rattle.af_sched.proofs.FrameLemmas.{moves_fill}
 use Rattle.af_sched.proofs.KeyLemmas.{Keeps, key_of, keeps_moved, numbers_same}
-
-abbrev pub numbers : List Run → List ℕ
-numbers runs = map (λ (run : Run). run.number) runs
 
 -- ---- those that are not busy, and where the busy ones stand
 abbrev pub frame_of : List Run → List (Option Run)

@@ -1,8 +1,10 @@
 -- The order of instances is total, and going over them keeps the first that passes a test.
-use Rattle.std.proofs.Common.{◌≡◌, ◌<◌, ◌+◌, ◌∙◌, ℕ, List, [], ◌∷◌, ◌++◌, length, map, get_or, take, sym, refl, ap, subst, arith, zero, suc, Bool, true, false, cond, ⊎_elim, append_assoc, append-nil, add-one}
+use Rattle.std.proofs.Common.{◌≡◌, ◌≢◌, ◌<◌, ◌+◌, ◌∙◌, ℕ, List, [], ◌∷◌, ◌++◌, length, map, get_or, take, sym, refl, ap, subst, arith, zero, suc, Bool, true, false, cond, ◌||◌, ⊎_elim, append_assoc, append-nil, add-one}
 use Rattle.std.specs.Prelude.{Some, None, Option, Contains, find, flat_map, zip, min, is_some}
 use Rattle.std.proofs.lemmas.Option.{none-some}
-use Rattle.std.specs.List.{enumerate_from}
+use Rattle.std.specs.List.{enumerate_from, list_any}
+use Rattle.std.specs.Option.{option_or}
+use Rattle.std.proofs.lemmas.List.Folds.{find-append}
 use Rattle.std.specs.Ordering.{nat_cmp, int_cmp, is_lt}
 use Rattle.std.specs.declared.cmp.Ordering.TheVariants.{Less, Equal, Greater}
 use Rattle.std.specs.declared.cmp.Ordering.{Ordering}
@@ -13,7 +15,7 @@ use Rattle.af_graph.specs.declared.task_spec.TaskSpec.{TaskSpec}
 use Rattle.af_runs.specs.declared.instance.Instance.{Instance}
 use Rattle.af_runs.specs.declared.run.Run.{Run}
 use Rattle.af_sched.specs.Placed.{Placed, placed_cmp, comes_before, placed_of, IsFirst, IsFirstOf, NonePasses}
-use Rattle.af_sched.specs.Steps.{first_with}
+use Rattle.af_sched.specs.Steps.{Continues, first_with}
 
 -- ---- the order
 pub placed_order : IsTotalOrder placed_cmp
@@ -84,6 +86,16 @@ module _ (test : Placed → Bool) where
       (cases_Bool (test next))
 
   -- nothing has been seen
+  -- more of which none passes
+  pub skips_none : (more : List Placed) (one : Option Placed) → ((p : Placed) → Contains more p → test p ≡ false) → Continues test more one one
+  skips_none more None fails seen none = λ other has. ⊎_elim (none other) (fails other) (Contains-append_cases seen more other has)
+  skips_none more (Some first) fails seen is = record {
+    member = Contains-append_left seen more first is.member;
+    passes = is.passes;
+    before_others = λ other has passes.
+        ⊎_elim (λ (in_seen : Contains seen other). is.before_others other in_seen passes) (λ (in_more : Contains more other). absurd (false≢true (sym (fails other in_more) ∙ passes))) (Contains-append_cases seen more other has);
+  }
+
   pub IsFirstOf-none : IsFirstOf test [] None
   IsFirstOf-none other has = absurd (omega (arith, has.1))
 
@@ -169,3 +181,51 @@ pub placed_here : (tasks : List TaskSpec) (run : Run) (place : ℕ) (d : Placed)
 placed_here tasks run place d task instance first second is_task is_instance =
     get_or-placed_of tasks run place d task instance first second
     ∙ sym (λ i. record { run = run; place = place; task = is_task i; instance = is_instance i })
+
+-- ---- the runs and the states of instances
+pub run_of_placed : (tasks : List TaskSpec) (run : Run) (placed : Placed) → Contains (placed_of tasks run) placed → run ≡ placed.run
+run_of_placed tasks run placed has = go 0 tasks run.instances has
+  where
+    go : (n : ℕ) (ts : List TaskSpec) (xs : List Instance) → Contains (map (λ row. record { run = run; place = row.0; task = row.1.0; instance = row.1.1 }) (enumerate_from n (zip ts xs))) placed → run ≡ placed.run
+    go n [] xs in_rows = absurd (omega (arith, in_rows.1))
+    go n (t ∷ ts) [] in_rows = absurd (omega (arith, in_rows.1))
+    go n (t ∷ ts) (x ∷ xs) (zero, low, is) = ap (λ (p : Placed). p.run) is
+    go n (t ∷ ts) (x ∷ xs) (suc k, low, is) = go (n + 1) ts xs (k, omega arith, is)
+
+-- where no instance of a run passes a test, none passes among them with their tasks
+pub none_placed : (test : Instance → Bool) (tasks : List TaskSpec) (run : Run) → list_any test run.instances ≡ false → (placed : Placed) → Contains (placed_of tasks run) placed → test placed.instance ≡ false
+none_placed test tasks run none placed has = go 0 tasks run.instances none has
+  where
+    neither : (a b : Bool) → (a || b) ≡ false → (a ≡ false) × (b ≡ false)
+    neither true b fails = absurd (true≢false fails)
+    neither false b fails = (refl, fails)
+
+    go : (n : ℕ) (ts : List TaskSpec) (xs : List Instance) → list_any test xs ≡ false → Contains (map (λ row. record { run = run; place = row.0; task = row.1.0; instance = row.1.1 }) (enumerate_from n (zip ts xs))) placed → test placed.instance ≡ false
+    go n [] xs fails in_rows = absurd (omega (arith, in_rows.1))
+    go n (t ∷ ts) [] fails in_rows = absurd (omega (arith, in_rows.1))
+    go n (t ∷ ts) (x ∷ xs) fails (zero, low, is) = ap (λ (p : Placed). test p.instance) (sym is) ∙ (neither (test x) (list_any test xs) fails).0
+    go n (t ∷ ts) (x ∷ xs) fails (suc k, low, is) = go (n + 1) ts xs (neither (test x) (list_any test xs) fails).1 (k, omega arith, is)
+
+-- ---- what is found where one row alone may have it
+module _ {X Y : Type 0} (test : Y → Bool) (g : X → List Y) where
+  find-absent : (ys : List Y) → ((y : Y) → Contains ys y → test y ≡ false) → find test ys ≡ None
+  find-absent [] fails = refl
+  find-absent (y ∷ ys) fails = rw (fails y (zero, omega arith, refl)) (find-absent ys (λ z has. fails z (suc has.0, omega (arith, has.1), has.2)))
+
+  pub find-nowhere : (xs : List X) → ((j : ℕ) (e : X) → j < length xs → (y : Y) → Contains (g (get_or xs j e)) y → test y ≡ false) → find test (flat_map g xs) ≡ None
+  find-nowhere [] fails = refl
+  find-nowhere (x ∷ xs) fails =
+      find-append test (g x) (flat_map g xs)
+      ∙ (λ i. option_or (find-absent (g x) (fails 0 x (omega arith)) i) (find-nowhere xs (λ j e inside. fails (suc j) e (omega arith)) i))
+
+  or_none : (o : Option Y) → option_or o None ≡ o
+  or_none None = refl
+  or_none (Some y) = refl
+
+  pub find-alone : (xs : List X) (k : ℕ) (d : X) → k < length xs → ((j : ℕ) (e : X) → j < length xs → j ≢ k → (y : Y) → Contains (g (get_or xs j e)) y → test y ≡ false) → find test (g (get_or xs k d)) ≡ find test (flat_map g xs)
+  find-alone [] k d inside fails = absurd (omega (arith, inside))
+  find-alone (x ∷ xs) zero d inside fails =
+      sym (find-append test (g x) (flat_map g xs) ∙ ap (option_or (find test (g x))) (find-nowhere xs (λ j e low. fails (suc j) e (omega arith) (λ same. absurd (omega (arith, same))))) ∙ or_none (find test (g x)))
+  find-alone (x ∷ xs) (suc k) d inside fails =
+      find-alone xs k d (omega arith) (λ j e low apart. fails (suc j) e (omega arith) (λ same. apart (omega (arith, same))))
+      ∙ sym (find-append test (g x) (flat_map g xs) ∙ ap (λ (o : Option Y). option_or o (find test (flat_map g xs))) (find-absent (g x) (fails 0 x (omega arith) (λ same. absurd (omega (arith, same))))))

@@ -1,9 +1,13 @@
 -- What the steps of the calls keep. No public contract cites this file.
 use Rattle.std.specs.Prelude.{ℕ, ◌≡◌, ◌<◌, ◌++◌, Bool, fold, length, List, Option, Some, None, slice_index_or, slice_set, if◌then◌else◌}
+use Rattle.std.specs.List.{list_any}
+use Rattle.af_graph.specs.States.{same_state}
 use Rattle.af_graph.specs.declared.task_spec.TaskSpec.{TaskSpec}
+use Rattle.af_graph.specs.declared.task_state.TaskState.TheVariants.{Queued}
 use Rattle.af_runs.specs.declared.instance.Instance.{Instance}
 use Rattle.af_runs.specs.Runs.{RunRows}
 use Rattle.af_runs.specs.declared.new_run.NewRun.{NewRun}
+use Rattle.af_runs.specs.declared.run.Run.{Run}
 use Rattle.af_sched.specs.Create.{with_run, with_runs_of}
 use Rattle.af_sched.specs.Settle.{settled_instance, verdict_at}
 use Rattle.af_sched.specs.Placed.{Placed, comes_before, IsFirstOf}
@@ -27,6 +31,10 @@ first_with test first next = if test next then Some (earlier first next) else fi
 -- where one instance is the first of a list, the other is the first of the list with these after it
 abbrev pub Continues : (Placed → Bool) → List Placed → Option Placed → Option Placed → Type 0
 Continues test more one other = (seen : List Placed) → IsFirstOf test seen one → IsFirstOf test (seen ++ more) other
+
+-- whether an instance of a run is queued
+abbrev pub has_queued : Run → Bool
+has_queued run = list_any (λ instance. same_state instance.state Queued) run.instances
 
 -- the instance at a place is settled, by what its rule decides on the states that those upstream of it have
 abbrev pub SetsSettled : ℕ → List TaskSpec → ℕ → List Instance → List Instance → Type 0

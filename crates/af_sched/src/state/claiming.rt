@@ -2,13 +2,13 @@ ghost use Rattle.std.specs.Prelude.{◌≡◌, IfOk, OnErr, MatchOption, true};
 ghost use Rattle.af_sched.specs.Claims.{is_claimable, Claims, ClaimsNone, claim_of};
 ghost use Rattle.af_sched.specs.Placed.{IsFirstOf, placed_of, placed_in};
 ghost use Rattle.af_sched.specs.State.{tasks_of};
-ghost use Rattle.af_sched.specs.Steps.{Continues, first_with};
+ghost use Rattle.af_sched.specs.Steps.{Continues, first_with, has_queued};
 
 use crate::claim::Claim;
 use crate::dags::Dags;
 use crate::placed::PlacedInstance;
 use crate::state::State;
-use af_graph::TaskSpec;
+use af_graph::{TaskSpec, TaskState};
 use af_names::Instant;
 use af_runs::Run;
 use std::alloc::{AllocError, Global};
@@ -40,12 +40,36 @@ fn first_claimable<'a>(dags: &Dags<'a>, runs: &'a [Run]) -> Option<PlacedInstanc
 {
     let mut first = None;
     for run in runs {
-        first = first_after_run(first, dags.tasks_of(&run.dag_id), run);
+        first = first_after(first, dags, run);
     }
     first
 }
 
-/// The first in the order, once the instances of this run have been seen too.
+/// The first in the order, once the instances of this run have been seen too. The DAG is looked up where one is queued.
+fn first_after<'a>(
+    so_far: Option<PlacedInstance<'a>>,
+    dags: &Dags<'a>,
+    run: &'a Run,
+) -> Option<PlacedInstance<'a>>
+    ensures { Continues is_claimable (placed_of (tasks_of dags.now run.now.dag_id) run.now) so_far.entry result }
+{
+    if !has_queued(run) {
+        return so_far;
+    }
+    first_after_run(so_far, dags.tasks_of(&run.dag_id), run)
+}
+
+/// Whether an instance of a run is queued.
+fn has_queued(run: &Run) -> bool
+    ensures { result ≡ has_queued run.now }
+{
+    run.instances
+        .as_slice()
+        .iter()
+        .any(|instance| instance.state == TaskState::Queued)
+}
+
+/// The first in the order, once the instances of this run of these tasks have been seen too.
 fn first_after_run<'a>(
     so_far: Option<PlacedInstance<'a>>,
     tasks: &'a [TaskSpec],

@@ -1,4 +1,6 @@
-ghost use Rattle.std.specs.Prelude.{◌≡◌, Err, Some, IfSome, IsNone, IsOk, OnOk, OnErr, find};
+ghost use Rattle.std.specs.Prelude.{◌≡◌, Err, Some, IfSome, IsNone, IsOk, OnOk, OnErr, find, map};
+ghost use Rattle.std.specs.List.Sorted.{IsStrictlySortedBy};
+ghost use Rattle.std.specs.Ordering.{nat_cmp};
 ghost use Rattle.af_sched.specs.Placed.{placed_of, placed_in};
 ghost use Rattle.af_sched.specs.Reports.{fault_at, is_claimed, report_fault, reported, reported_instance, failed_instance};
 
@@ -6,6 +8,7 @@ use crate::claim::Claim;
 use crate::dags::Dags;
 use crate::outcome::Outcome;
 use crate::placed::PlacedInstance;
+use crate::queueing::row_of;
 use crate::report_fault::ReportFault;
 use crate::state::State;
 use af_graph::{TaskSpec, TaskState};
@@ -41,17 +44,14 @@ impl State {
     }
 }
 
-/// The instance that a claim names: by the number of its run and the id of its task.
+/// The instance that a claim names: by the number of its run, which is searched by halving, and the id of its task.
 fn instance_of<'a>(dags: &Dags<'a>, runs: &'a [Run], claim: &Claim) -> Option<PlacedInstance<'a>>
+    requires { IsStrictlySortedBy nat_cmp (map (λ run. run.number) runs.now) }
     ensures { result ≡ find (is_claimed claim.now) (placed_in dags.now runs.now) }
 {
-    for run in runs {
-        let found = instance_in_run(dags.tasks_of(&run.dag_id), run, claim);
-        if found.is_some() {
-            return found;
-        }
-    }
-    None
+    let row = row_of(runs, claim.run_number)?;
+    let run = &runs[row];
+    instance_in_run(dags.tasks_of(&run.dag_id), run, claim)
 }
 
 /// The instance of a run that a claim names.

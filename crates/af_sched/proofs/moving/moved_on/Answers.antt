@@ -5,7 +5,8 @@ use Rattle.std.specs.Ordering.{nat_cmp}
 use Rattle.af_runs.specs.declared.run.Run.{Run}
 use Rattle.af_sched.specs.Busy.{busy_of}
 use Rattle.af_sched.specs.State.{IsWhole}
-use Rattle.af_sched.proofs.BusyLemmas.{All-busy, numbers, order_busy}
+use Rattle.af_sched.proofs.BusyLemmas.{All-busy, order_busy}
+use Rattle.af_sched.proofs.FillLemmas.{numbers}
 use Rattle.af_sched.proofs.moving.moved_on.Goals as goal
 
 pub move_on-requires-clause-whole : goal.move_on-requires-clause-whole
