@@ -42,7 +42,7 @@ stays_map f stays [] = tt
 stays_map f stays (x ∷ xs) = (stays x, stays_map f stays xs)
 
 -- ---- the phases
-starts_no_ended : (dags : List DagRow) (runs : List Run) (run : Run) → is_finished run.state ≡ true → starts dags runs run ≡ false
+pub starts_no_ended : (dags : List DagRow) (runs : List Run) (run : Run) → is_finished run.state ≡ true → starts dags runs run ≡ false
 starts_no_ended dags runs run ended = by run.state refl
   where
     by : (state : RunState) → run.state ≡ state → starts dags runs run ≡ false
@@ -73,7 +73,7 @@ stays_settled t dags (x ∷ xs) (y ∷ ys) all = (here (is_live dags x) all.0, s
     here true is ended = is.rest
     here false is ended = is ∙ ap (λ (run : Run). record x { instances = run.instances }) (sym is)
 
-ends_no_ended : (run : Run) → is_finished run.state ≡ true → ends run ≡ false
+pub ends_no_ended : (run : Run) → is_finished run.state ≡ true → ends run ≡ false
 ends_no_ended run ended = by run.state refl
   where
     by : (state : RunState) → run.state ≡ state → ends run ≡ false

@@ -47,7 +47,7 @@ fold_idle t state (row ∷ dags) all =
     ap (λ (news : List Rattle.af_runs.specs.declared.new_run.NewRun.NewRun). fold (with_runs_of t) (fold with_run state news) dags) (All-head (λ (r : DagRow). runs_of_row t r ≡ []) row dags all)
     ∙ fold_idle t state dags (All-tail (λ (r : DagRow). runs_of_row t r ≡ []) row dags all)
 
-created_idle : (t : ℕ) (state : StateRows) → All (λ row. runs_of_row t row ≡ []) state.dags → created t state ≡ state
+pub created_idle : (t : ℕ) (state : StateRows) → All (λ row. runs_of_row t row ≡ []) state.dags → created t state ≡ state
 created_idle t state all =
     let rows : map (moved_row t) state.dags ≡ state.dags = map_idle (moved_row t) state.dags (λ k d inside. row_idle t _ (all k d inside)) in
     λ i. record (fold_idle t state state.dags all i) { dags = rows i }

@@ -18,6 +18,7 @@ mod SeatLemmas
 mod SlotsLawLemmas
 mod SlotsLemmas
 mod StandingLemmas
+mod StillLemmas
 mod TakenLemmas
 mod TickLemmas
 pub mod FinishLemmas

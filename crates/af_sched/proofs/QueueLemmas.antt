@@ -77,7 +77,7 @@ module _ (dags : List DagRow) (runs : List Run) (pools : List Pool) (f g : ℕ �
   same_choice placed has = agree (suc (length (filter (λ o. comes_before o placed) (placed_in dags runs)))) placed has (omega arith)
 
 -- ---- each instance of a run is among those of all runs
-member_at : (xs : List Placed) (i : ℕ) → i < length xs → (x : Placed) × Contains xs x × ((d : Placed) → get_or xs i d ≡ x)
+pub member_at : (xs : List Placed) (i : ℕ) → i < length xs → (x : Placed) × Contains xs x × ((d : Placed) → get_or xs i d ≡ x)
 member_at [] i inside = absurd (omega arith)
 member_at (x ∷ xs) zero inside = (x, (zero, omega arith, refl), λ d. refl)
 member_at (x ∷ xs) (suc i) inside =
@@ -91,13 +91,13 @@ row_fields run n (t ∷ tasks) (x ∷ xs) zero d first second = (refl, omega ari
 row_fields run n (t ∷ tasks) (x ∷ xs) (suc i) d first second =
     let rest = row_fields run (n + 1) tasks xs i d (omega arith) (omega arith) in (rest.0, omega (arith, rest.1))
 
-rows_long : (run : Run) (n : ℕ) (tasks : List TaskSpec) (instances : List Instance) (i : ℕ) → i < length tasks → i < length instances → i < length {A = Placed} (map (λ row. record { run = run; place = row.0; task = row.1.0; instance = row.1.1 }) (enumerate_from n (zip tasks instances)))
+pub rows_long : (run : Run) (n : ℕ) (tasks : List TaskSpec) (instances : List Instance) (i : ℕ) → i < length tasks → i < length instances → i < length {A = Placed} (map (λ row. record { run = run; place = row.0; task = row.1.0; instance = row.1.1 }) (enumerate_from n (zip tasks instances)))
 rows_long run n [] instances i first second = absurd (omega arith)
 rows_long run n (t ∷ tasks) [] i first second = absurd (omega arith)
 rows_long run n (t ∷ tasks) (x ∷ xs) zero first second = omega arith
 rows_long run n (t ∷ tasks) (x ∷ xs) (suc i) first second = omega (arith, rows_long run (n + 1) tasks xs i (omega arith) (omega arith))
 
-contains_flat : (g : Run → List Placed) (runs : List Run) (k : ℕ) (d : Run) (x : Placed) → k < length runs → Contains (g (get_or runs k d)) x → Contains (flat_map g runs) x
+pub contains_flat : (g : Run → List Placed) (runs : List Run) (k : ℕ) (d : Run) (x : Placed) → k < length runs → Contains (g (get_or runs k d)) x → Contains (flat_map g runs) x
 contains_flat g [] k d x inside has = absurd (omega arith)
 contains_flat g (run ∷ runs) zero d x inside has = Contains-append_left (g run) (flat_map g runs) x has
 contains_flat g (run ∷ runs) (suc k) d x inside has = Contains-append_right (g run) (flat_map g runs) x (contains_flat g runs k d x (omega arith) has)

@@ -1,4 +1,4 @@
--- The points that one tick takes are below those that a later one takes.
+-- The points that one tick takes are below those that a later one takes, and below where they leave the cursor.
 use Rattle.std.proofs.Common.{◌≡◌, ◌∙◌, ◌<◌, ◌≤◌, ◌+◌, ◌-◌, ℕ, List, [], ◌∷◌, refl, sym, ap, arith, zero, suc, Bool, true, false, cond, take, Option, Some, None}
 use Rattle.std.specs.Prelude.{Contains, filter, find, option_to_list}
 use Rattle.std.specs.Option.{option_map_or}
@@ -101,3 +101,18 @@ no_point_is_taken_twice catchup is_point cursor later t u point moved first seco
 
     by : (xs : List ℕ) → Rising cursor xs → Contains xs point → option_map_or (next_after is_point) (last_or None xs) (Some cursor) ≡ Some later → ⊥
     by xs rising has after = at_last xs rising has (last_or None xs) refl after
+
+-- where the cursor stays, no point was taken
+pub taken_none : (catchup : Bool) (is_point : ℕ → Bool) (cursor t : ℕ) → moved_cursor is_point (taken_points catchup is_point cursor t) cursor ≡ Some cursor → taken_points catchup is_point cursor t ≡ []
+taken_none catchup is_point cursor t =
+    by (taken_points catchup is_point cursor t) (rising_taken catchup is_point cursor t)
+  where
+    at_last : (x : ℕ) (xs : List ℕ) (o : Option ℕ) → Rising cursor (x ∷ xs) → last_or None (x ∷ xs) ≡ o → option_map_or (next_after is_point) o (Some cursor) ≡ Some cursor → x ∷ xs ≡ []
+    at_last x xs None rising is after = absurd (some_last xs x is)
+    at_last x xs (Some last) rising is after =
+        let low = last_low cursor (x ∷ xs) None last (λ z never. absurd (none_is_none z never)) rising is in
+        let high = next_low is_point last cursor after in absurd (omega (arith, low, high))
+
+    by : (xs : List ℕ) → Rising cursor xs → moved_cursor is_point xs cursor ≡ Some cursor → xs ≡ []
+    by [] rising stays = refl
+    by (x ∷ xs) rising stays = at_last x xs (last_or None (x ∷ xs)) rising refl stays

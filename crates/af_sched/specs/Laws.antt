@@ -1,5 +1,5 @@
 -- Laws about ticks and claims, in words of their own.
-use Rattle.std.specs.Prelude.{ℕ, ◌≡◌, ◌≤◌, ◌&&◌, List, [], Bool, true, false, All, Option, Some, None, MatchOption, length, max, Contains}
+use Rattle.std.specs.Prelude.{ℕ, ◌≡◌, ◌≤◌, ◌↔◌, ◌&&◌, List, [], Bool, true, false, All, Option, Some, None, MatchOption, length, max, Contains}
 use Rattle.af_graph.specs.Definition.{fault_of}
 use Rattle.af_graph.specs.declared.task_spec.TaskSpec.{TaskSpec}
 use Rattle.af_pool.specs.Pools.{slots_of}
@@ -63,9 +63,10 @@ pub record NothingIsDue (t : ℕ) (state : StateRows) : Type 0 where
   pub queues_none : (placed : Placed) → Contains (placed_in state.dags state.runs) placed → (may_queue state.dags placed && finds_room state.dags state.runs state.pools (λ _ _. false) placed) ≡ false
   pub ends_none : All (λ run. ends run ≡ false) state.runs
 
--- a tick where nothing is due leaves the state as it was
-abbrev pub NothingDueChangesNothing : Type 0
-NothingDueChangesNothing = (t : ℕ) (old new : StateRows) → AreRows old.dags old.runs → NothingIsDue t old → IsTick t old new → new ≡ old
+-- a tick leaves the state as it was exactly where nothing is due
+abbrev pub NothingChangesExactlyWhereNothingIsDue : Type 0
+NothingChangesExactlyWhereNothingIsDue =
+    (t : ℕ) (old new : StateRows) → AreRows old.dags old.runs → IsTick t old new → NothingIsDue t old ↔ (new ≡ old)
 
 -- what a claim at t leaves and tells, or that there is nothing to claim
 abbrev pub IsClaim : ℕ → StateRows → StateRows → Option Claim → Type 0

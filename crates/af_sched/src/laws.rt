@@ -1,4 +1,4 @@
-ghost use Rattle.af_sched.specs.Laws.{ClaimIsOne, EndedRunsStay, NoPointIsTakenTwice, NothingDueChangesNothing, QueuedStateIsOne, SettlingIsOne, SettledStateIsOne, SlotsAreKept, TickIsOne, TickKeepsRows};
+ghost use Rattle.af_sched.specs.Laws.{ClaimIsOne, EndedRunsStay, NoPointIsTakenTwice, NothingChangesExactlyWhereNothingIsDue, QueuedStateIsOne, SettlingIsOne, SettledStateIsOne, SlotsAreKept, TickIsOne, TickKeepsRows};
 
 /// The trigger rules decide in one way what becomes of a run's instances, since no definition has a cycle.
 pub fn settling_is_one()
@@ -40,9 +40,9 @@ pub fn no_point_is_taken_twice()
     ensures { NoPointIsTakenTwice }
 {}
 
-/// A tick where nothing is due leaves the state as it was.
-pub fn where_nothing_is_due_nothing_changes()
-    ensures { NothingDueChangesNothing }
+/// A tick leaves the state as it was exactly where nothing is due.
+pub fn nothing_changes_exactly_where_nothing_is_due()
+    ensures { NothingChangesExactlyWhereNothingIsDue }
 {}
 
 /// A claim leaves one state, and tells one thing.
