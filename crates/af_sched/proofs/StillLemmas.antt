@@ -1,9 +1,9 @@
 -- Where a tick leaves the state as it was, nothing was due; and where nothing is due, it leaves it so.
 use Rattle.std.proofs.Common.{◌≡◌, ◌↔◌, ◌<◌, ◌+◌, ◌∙◌, ℕ, List, [], ◌∷◌, length, map, get_or, refl, sym, ap, subst, arith, zero, suc, Bool, true, false, cond, ◌&&◌, ⊎_elim, Option, Some, None}
-use Rattle.std.specs.Prelude.{All, Contains, MatchBool, filter, nat_le, zip}
+use Rattle.std.specs.Prelude.{All, Contains, MatchBool, nat_le, zip}
 use Rattle.std.specs.List.{AllZip, enumerate_from}
 use Rattle.std.specs.Option.{option_map_or}
-use Rattle.std.proofs.lemmas.Bool.{cases_Bool, false≢true, true≢false}
+use Rattle.std.proofs.lemmas.Bool.{cases_Bool, false≢true}
 use Rattle.std.proofs.lemmas.List.Elements.{All-cons, AllZip-get_or, Contains-append_cases}
 use Rattle.std.proofs.lemmas.Slice.Zip.{AllZip-long}
 use Rattle.af_graph.specs.Graph.{same_name}
@@ -19,11 +19,11 @@ use Rattle.af_runs.specs.Runs.{is_finished}
 use Rattle.af_runs.specs.declared.instance.Instance.{Instance}
 use Rattle.af_runs.specs.declared.run.Run.{Run}
 use Rattle.af_runs.specs.declared.run_state.RunState.TheVariants as run_state
-use Rattle.af_sched.specs.Create.{created, cursor_due, moved_row, run_for, runs_due, runs_of_row}
+use Rattle.af_sched.specs.Create.{cursor_due, moved_row, run_for, runs_due, runs_of_row}
 use Rattle.af_sched.specs.Finish.{end_state, ended_run, ends, finished, finished_run, some_leaf_failed}
 use Rattle.af_sched.specs.Laws.{NothingIsDue}
 use Rattle.af_sched.specs.Placed.{Placed, placed_in, placed_of, comes_before}
-use Rattle.af_sched.specs.Queue.{IsQueueing, Queues, finds_room, may_queue, occupant_of, occupied, queued_earlier, queued_instance, with_queued}
+use Rattle.af_sched.specs.Queue.{IsQueueing, Queues, finds_room, may_queue, occupant_of, occupied, queued_instance, with_queued}
 use Rattle.af_sched.specs.Settle.{Settles, SettlesIfLive, SettlesInstances, SettlesRun, is_live, settled_instance, verdict_at}
 use Rattle.af_sched.specs.Start.{started, started_run, starts}
 use Rattle.af_sched.specs.State.{StateRows, AreRows, IsWhole, tasks_of}
