@@ -1,5 +1,5 @@
 -- Runs of which the busy ones are moved on, and to which others are added.
-use Rattle.std.proofs.Common.{◌≡◌, ◌+◌, ◌∙◌, ℕ, List, [], ◌∷◌, ◌++◌, length, map, fold, drop, get_or, refl, sym, ap, subst, arith, suc, Bool, true, false, cond, ◌==◌, Option, Some, None}
+use Rattle.std.proofs.Common.{◌≡◌, ◌∙◌, ℕ, List, [], ◌∷◌, ◌++◌, length, map, fold, drop, get_or, refl, sym, ap, subst, arith, suc, Bool, true, false, cond, ◌==◌, Option, Some, None}
 use Rattle.std.specs.Prelude.{All}
 use Rattle.std.specs.List.{AllByRecursion}
 use Rattle.std.specs.List.Sorted.{IsStrictlySortedBy}

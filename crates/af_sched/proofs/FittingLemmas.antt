@@ -11,8 +11,6 @@ use Rattle.std.proofs.lemmas.Slice.Eq.{slice_eq-Decides}
 use Rattle.std.specs.Cmp.{unsigned_Decides}
 use Rattle.std.specs.Cmp.Lexicographic.{nat_list_eq_equiv}
 use Rattle.af_graph.specs.Graph.{same_name}
-use Rattle.af_graph.specs.declared.task_state.TaskState.TheVariants as task_state
-use Rattle.af_graph.specs.declared.verdict.Verdict.TheVariants as verdict
 use Rattle.af_pool.specs.Pools.{slots_of}
 use Rattle.af_pool.specs.declared.pool.Pool.{Pool}
 use Rattle.af_runs.specs.declared.run.Run.{Run}

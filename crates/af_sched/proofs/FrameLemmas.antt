@@ -16,12 +16,11 @@ use Rattle.af_pool.specs.declared.pool.Pool.{Pool}
 use Rattle.af_runs.specs.declared.instance.Instance.{Instance}
 use Rattle.af_runs.specs.declared.run.Run.{Run}
 use Rattle.af_sched.specs.Busy.{is_busy}
-use Rattle.af_sched.specs.Finish.{ends}
 use Rattle.af_sched.specs.Moves.{MovesOn}
 use Rattle.af_sched.specs.Placed.{Placed, placed_in, placed_of, comes_before}
 use Rattle.af_sched.specs.Queue.{IsQueueing, QueuesRuns, finds_room, may_queue, occupant_of, occupied, queued_earlier, with_queued}
 use Rattle.af_sched.specs.Settle.{SettlesIfLive, is_live}
-use Rattle.af_sched.specs.Start.{is_queued, started_runs}
+use Rattle.af_sched.specs.Start.{started_runs}
 use Rattle.af_sched.specs.State.{StateRows, is_unpaused, tasks_of}
 use Rattle.af_sched.specs.declared.dag_row.DagRow.{DagRow}
 use Rattle.af_sched.proofs.KeyLemmas.{keeps_settled_too, numbers_same}

@@ -1,5 +1,5 @@
 -- After a tick no pool holds more than the greater of its slots and of what it held before.
-use Rattle.std.proofs.Common.{◌≡◌, ◌<◌, ◌+◌, ◌∙◌, ℕ, List, [], ◌∷◌, ◌++◌, length, map, get_or, refl, sym, ap, arith, suc, Bool, true, false, cond, ◌&&◌, ◌||◌, ⊎_elim, ◌⊎◌}
+use Rattle.std.proofs.Common.{◌≡◌, ◌<◌, ◌+◌, ◌∙◌, ℕ, List, [], ◌∷◌, ◌++◌, length, map, get_or, refl, sym, ap, arith, suc, Bool, true, false, cond, ◌&&◌, ◌||◌, ⊎_elim}
 use Rattle.std.specs.Prelude.{filter, zip, MatchBool, None}
 use Rattle.std.specs.List.{enumerate_from, AllZip, AllByRecursion, list_any}
 use Rattle.std.proofs.lemmas.Bool.{cases_Bool, true≢false}

@@ -1,7 +1,5 @@
 use Rattle.std.proofs.Common.{◌≡◌, sym, subst, rules, length, List, drop, Option, ℕ}
-use Rattle.af_runs.specs.declared.run.Run.{Run}
-use Rattle.af_sched.specs.Plan.{runs_after, with_cursors}
-use Rattle.af_sched.specs.State.{AreRows}
+use Rattle.af_sched.specs.Plan.{with_cursors}
 use Rattle.af_sched.specs.declared.dag_row.DagRow.{DagRow}
 use Rattle.af_sched.proofs.LikeLemmas.{Alike, front, AreRows-alike, alike_with}
 use Rattle.af_sched.proofs.state.State.commit.Goals as goal
