@@ -66,7 +66,7 @@ rows_still t old tick =
     ap (λ (s : StateRows). s.dags) tick.ends ∙ ap (λ (s : StateRows). s.dags) tick.queues.state ∙ ap (λ (s : StateRows). s.dags) tick.settles.rest in
     λ k d inside. row_still t (get_or old.dags k d) (map_still (moved_row t) old.dags (sym dags) k d inside)
 
--- ---- run by run
+-- ---- run by run: none starts, and none ends
 -- a run before a tick that leaves it as it was, and the same run after the third phase
 record Kept (t : ℕ) (dags : List DagRow) (runs : List Run) (q : ℕ → ℕ → Bool) (old later : Run) : Type 0 where
   no_start : starts dags runs old ≡ false
@@ -82,6 +82,7 @@ ended_finished tasks instances = by (some_leaf_failed tasks instances)
     by false = refl
 
 module _ (t : ℕ) (dags : List DagRow) (runs : List Run) (q : ℕ → ℕ → Bool) where
+  -- settling keeps the states of runs
   state_settled : (old later : Run) → SettlesIfLive t dags old later → later.state ≡ old.state
   state_settled old later = by (is_live dags old)
     where
@@ -89,6 +90,7 @@ module _ (t : ℕ) (dags : List DagRow) (runs : List Run) (q : ℕ → ℕ → B
       by true settles = ap (λ (run : Run). run.state) settles.rest
       by false same = ap (λ (run : Run). run.state) same
 
+  -- a run that started or ended would be in another state
   kept : (tasks : List TaskSpec) (old later : Run) → SettlesIfLive t dags (cond (starts dags runs old) (started_run t old) old) later → finished_run t tasks (with_queued (q later.number) later) ≡ old → Kept t dags runs q old later
   kept tasks old later = by (starts dags runs old) (ends queued) refl refl
     where
@@ -120,6 +122,18 @@ module _ (t : ℕ) (dags : List DagRow) (runs : List Run) (q : ℕ → ℕ → B
       (kept (tasks queued) x y settles.0 here, kept_all tasks xs ys settles.1 rest)
 
 -- ---- instance by instance
+-- no instance of the runs is queued
+abbrev NoneQueued : (ℕ → ℕ → Bool) → List Run → Type 0
+NoneQueued q runs =
+    (k : ℕ) (d : Run) (place : ℕ) → k < length runs → place < length (get_or runs k d).instances → q (get_or runs k d).number place ≡ false
+
+none_first : (q : ℕ → ℕ → Bool) (run : Run) (runs : List Run) → NoneQueued q (run ∷ runs) → (i : ℕ) → i < length run.instances → q run.number (0 + i) ≡ false
+none_first q run runs none i within =
+    let at : i ≡ 0 + i = omega arith in subst (λ (n : ℕ). q run.number n ≡ false) at (none 0 run i (omega arith) within)
+
+none_rest : (q : ℕ → ℕ → Bool) (run : Run) (runs : List Run) → NoneQueued q (run ∷ runs) → NoneQueued q runs
+none_rest q run runs none k d place inside within = none (suc k) d place (omega arith) within
+
 queued_at-get : (q : ℕ → Bool) (n i : ℕ) (xs : List Instance) (d : Instance) → i < length xs → get_or (queued_at q n xs) i d ≡ cond (q (n + i)) (queued_instance (get_or xs i d)) (get_or xs i d)
 queued_at-get q n i [] d inside = absurd (omega arith)
 queued_at-get q n zero (x ∷ xs) d inside =
@@ -132,7 +146,7 @@ both : (a b : Bool) → (a && b) ≡ true → (a ≡ true) × (b ≡ true)
 both true b is = (refl, is)
 both false b is = absurd (false≢true is)
 
--- an instance that stays was not queued: it would be queued before the tick, and settled as it is, so not scheduled
+-- were an instance queued, it would be queued before the tick, and settled as it is, and so not be scheduled
 module _ (t : ℕ) (dags : List DagRow) (runs : List Run) (q : ℕ → ℕ → Bool) (old later : Run) (stays : Kept t dags runs q old later) (place : ℕ) (d : Instance) (within : place < length later.instances) (chosen : q later.number place ≡ true) where
   was_queued : get_or old.instances place d ≡ queued_instance (get_or later.instances place d)
   was_queued =
@@ -153,8 +167,9 @@ module _ (t : ℕ) (dags : List DagRow) (runs : List Run) (q : ℕ → ℕ → B
   not_scheduled : same_state (get_or later.instances place d).state task_state.Scheduled ≡ true → ⊥
   not_scheduled is = false≢true (sym (ap (λ state. same_state state task_state.Scheduled) is_queued) ∙ is)
 
+-- so none is
 module _ (t : ℕ) (dags : List DagRow) (runs : List Run) (pools : List Pool) (q : ℕ → ℕ → Bool) (xs ys : List Run) (all : AllZip (Kept t dags runs q) xs ys) (queueing : IsQueueing dags ys pools q) (whole : All (IsWhole dags) ys) where
-  none_at : (k : ℕ) (d : Run) (place : ℕ) → k < length ys → place < length (get_or ys k d).instances → q (get_or ys k d).number place ≡ false
+  none_at : NoneQueued q ys
   none_at k d place inside within =
       let run : Run = get_or ys k d in
       let tasks : List TaskSpec = tasks_of dags run.dag_id in
@@ -174,15 +189,14 @@ module _ (t : ℕ) (dags : List DagRow) (runs : List Run) (pools : List Pool) (q
       (cases_Bool (q run.number place))
 
 -- where no instance is queued, the runs after the third phase are those before the tick
-same_runs : (t : ℕ) (dags : List DagRow) (runs : List Run) (q : ℕ → ℕ → Bool) (xs ys : List Run) → AllZip (Kept t dags runs q) xs ys → ((k : ℕ) (d : Run) (place : ℕ) → k < length ys → place < length (get_or ys k d).instances → q (get_or ys k d).number place ≡ false) → ys ≡ xs
+same_runs : (t : ℕ) (dags : List DagRow) (runs : List Run) (q : ℕ → ℕ → Bool) (xs ys : List Run) → AllZip (Kept t dags runs q) xs ys → NoneQueued q ys → ys ≡ xs
 same_runs t dags runs q [] [] all none = refl
 same_runs t dags runs q [] (y ∷ ys) all none = absurd all
 same_runs t dags runs q (x ∷ xs) [] all none = absurd all
 same_runs t dags runs q (x ∷ xs) (y ∷ ys) all none =
-    let instances : queued_at (q y.number) 0 y.instances ≡ y.instances =
-    queued_at-none (q y.number) 0 y.instances (λ i within. let at : i ≡ 0 + i = omega arith in subst (λ (n : ℕ). q y.number n ≡ false) at (none 0 y i (omega arith) within)) in
+    let instances : queued_at (q y.number) 0 y.instances ≡ y.instances = queued_at-none (q y.number) 0 y.instances (none_first q y ys none) in
     let here : y ≡ x = ap (λ (zs : List Instance). record y { instances = zs }) (sym instances) ∙ all.0.queued in
-    let rest : ys ≡ xs = same_runs t dags runs q xs ys all.1 (λ k d place inside within. none (suc k) d place (omega arith) within) in
+    let rest : ys ≡ xs = same_runs t dags runs q xs ys all.1 (none_rest q y ys none) in
     cc
 
 -- where no instance of the runs is queued, none is among those with their tasks
@@ -196,12 +210,12 @@ module _ (q : ℕ → ℕ → Bool) where
   rows_none run n (task ∷ tasks) (x ∷ xs) none placed (suc k, low, is) =
       rows_none run (n + 1) tasks xs (λ i within. let at : n + suc i ≡ n + 1 + i = omega arith in subst (λ (m : ℕ). q run.number m ≡ false) at (none (suc i) (omega arith))) placed (k, omega arith, is)
 
-  placed_none : (dags : List DagRow) (ys : List Run) → ((k : ℕ) (d : Run) (place : ℕ) → k < length ys → place < length (get_or ys k d).instances → q (get_or ys k d).number place ≡ false) → (placed : Placed) → Contains (placed_in dags ys) placed → q placed.run.number placed.place ≡ false
+  placed_none : (dags : List DagRow) (ys : List Run) → NoneQueued q ys → (placed : Placed) → Contains (placed_in dags ys) placed → q placed.run.number placed.place ≡ false
   placed_none dags [] none placed has = absurd (omega (arith, has.1))
   placed_none dags (y ∷ ys) none placed has =
       ⊎_elim
-      (rows_none y 0 (tasks_of dags y.dag_id) y.instances (λ i within. let at : i ≡ 0 + i = omega arith in subst (λ (n : ℕ). q y.number n ≡ false) at (none 0 y i (omega arith) within)) placed)
-      (placed_none dags ys (λ k d place inside within. none (suc k) d place (omega arith) within) placed)
+      (rows_none y 0 (tasks_of dags y.dag_id) y.instances (none_first q y ys none) placed)
+      (placed_none dags ys (none_rest q y ys none) placed)
       (Contains-append_cases (placed_of (tasks_of dags y.dag_id) y) (placed_in dags ys) placed has)
 
   -- and what finds room is what finds it with none queued before it
@@ -213,7 +227,7 @@ module _ (q : ℕ → ℕ → Bool) where
 
 -- ---- the tick
 -- where the first phase leaves the state, a tick that leaves it had nothing due
-module _ (t : ℕ) (old settled queued : StateRows) (are : AreRows old.dags old.runs) (settles : Settles t (started t old) settled) (queues : Queues settled queued) (stays : old ≡ finished t queued) where
+module _ (t : ℕ) (old settled queued : StateRows) (are : AreRows old.dags old.runs) (creates : All (λ row. runs_of_row t row ≡ []) old.dags) (settles : Settles t (started t old) settled) (queues : Queues settled queued) (stays : old ≡ finished t queued) where
   abbrev q : ℕ → ℕ → Bool
   q = queues.is_queued
 
@@ -225,7 +239,7 @@ module _ (t : ℕ) (old settled queued : StateRows) (are : AreRows old.dags old.
       kept_all t old.dags old.runs q (λ run. tasks_of queued.dags run.dag_id) old.runs settled.runs settles.runs
       (ap (λ (s : StateRows). map (λ run. finished_run t (tasks_of queued.dags run.dag_id) run) s.runs) (sym queues.state) ∙ ap (λ (s : StateRows). s.runs) (sym stays))
 
-  none : (k : ℕ) (d : Run) (place : ℕ) → k < length settled.runs → place < length (get_or settled.runs k d).instances → q (get_or settled.runs k d).number place ≡ false
+  none : NoneQueued q settled.runs
   none =
       none_at t old.dags old.runs settled.pools q old.runs settled.runs all_kept
       (subst (λ (rows : List DagRow). IsQueueing rows settled.runs settled.pools q) dags queues.queueing)
@@ -254,17 +268,19 @@ module _ (t : ℕ) (old settled queued : StateRows) (are : AreRows old.dags old.
       ∙ sym (queues.queueing.exact placed there)
       ∙ not placed there
 
+  idle : NothingIsDue t old
+  idle = record {
+    creates_none = creates;
+    starts_none = λ k d inside. (kept_at k d inside).no_start;
+    settles_none = λ k d inside. settled_still (get_or old.runs k d) (kept_at k d inside).settles;
+    queues_none = none_queued;
+    ends_none = λ k d inside. (kept_at k d inside).no_end;
+  }
+
 still_is_idle : (t : ℕ) (old : StateRows) → AreRows old.dags old.runs → IsTick t old old → NothingIsDue t old
 still_is_idle t old are tick =
-    let rows = rows_still t old tick in
-    let settles : Settles t (started t old) tick.settled = subst (λ (s : StateRows). Settles t (started t s) tick.settled) (created_idle t old rows) tick.settles in
-    record {
-      creates_none = rows;
-      starts_none = λ k d inside. (kept_at t old tick.settled tick.queued are settles tick.queues tick.ends k d inside).no_start;
-      settles_none = λ k d inside. settled_still t old tick.settled tick.queued are settles tick.queues tick.ends (get_or old.runs k d) (kept_at t old tick.settled tick.queued are settles tick.queues tick.ends k d inside).settles;
-      queues_none = none_queued t old tick.settled tick.queued are settles tick.queues tick.ends;
-      ends_none = λ k d inside. (kept_at t old tick.settled tick.queued are settles tick.queues tick.ends k d inside).no_end;
-    }
+    let creates = rows_still t old tick in
+    idle t old tick.settled tick.queued are creates (subst (λ (s : StateRows). Settles t (started t s) tick.settled) (created_idle t old creates) tick.settles) tick.queues tick.ends
 
 pub still_exactly_where_idle : (t : ℕ) (old new : StateRows) → AreRows old.dags old.runs → IsTick t old new → NothingIsDue t old ↔ (new ≡ old)
 still_exactly_where_idle t old new are tick =
