@@ -7,6 +7,7 @@ mod instant_error;
 mod kinds;
 mod name;
 mod name_error;
+mod names_dag;
 mod points;
 mod preset;
 mod worked;
@@ -19,6 +20,7 @@ pub use kinds::{
 };
 pub use name::{Name, NameKind};
 pub use name_error::NameError;
+pub use names_dag::NamesDag;
 pub use preset::Preset;
 pub use worked::{ids_by_the_rule, instants_by_the_rule, names_by_the_rule, points_by_the_rule};
 

@@ -1,8 +1,7 @@
 ghost use Rattle.std.specs.Prelude.{◌≡◌, IfOk};
 ghost use Rattle.af_ops.specs.Rows.{id_of};
 
-use af_names::DagId;
-use af_policy::NamesDag;
+use af_names::{DagId, NamesDag};
 use std::alloc::{AllocError, Global};
 
 /// A row of the list of DAGs.

@@ -2,7 +2,6 @@
 #![tactic(auto)]
 
 mod account;
-mod dag_rows;
 mod draft;
 mod identity;
 mod laws;
@@ -15,7 +14,6 @@ mod user_table;
 mod view;
 mod worked;
 
-pub use dag_rows::NamesDag;
 pub use draft::{NoAdmin, PolicyDraft};
 pub use laws::{grants_by_roles, only_users_are_granted};
 pub use policy::Policy;
