@@ -1,0 +1,3 @@
+mod MemberLemmas
+mod JsonLemmas
+pub mod TakingLemmas
