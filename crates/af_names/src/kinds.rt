@@ -2,6 +2,13 @@ ghost use Rattle.std.specs.Prelude.{◌≡◌};
 ghost use Rattle.af_names.specs.Names.{account_name_grammar, is_id_byte, is_run_byte, is_printed_byte, id_grammar, row_name_grammar, run_id_grammar};
 
 use crate::name::{Name, NameKind};
+use std::marker::PhantomData;
+
+/// The most bytes of a name, but for those of users and roles.
+const LONGEST: usize = 250;
+
+/// The most bytes of the name of a user or a role.
+const LONGEST_OF_AN_ACCOUNT: usize = 64;
 
 /// The id of a DAG: 1 to 250 of ASCII letters, digits, `_`, `-` and `.`.
 pub type DagId = Name<DagKind>;
@@ -25,34 +32,83 @@ pub type PoolName = Name<PoolKind>;
 pub type VarKey = Name<VarKind>;
 
 /// The kind of a DAG's id.
-#[derive(Clone, Copy, Debug, PartialEq, Eq)]
-pub struct DagKind;
+pub type DagKind = KindOf<IdSpelling, DagMark>;
 
 /// The kind of a task's id.
-#[derive(Clone, Copy, Debug, PartialEq, Eq)]
-pub struct TaskKind;
+pub type TaskKind = KindOf<IdSpelling, TaskMark>;
 
 /// The kind of a run's id.
-#[derive(Clone, Copy, Debug, PartialEq, Eq)]
-pub struct RunKind;
+pub type RunKind = KindOf<RunSpelling, RunMark>;
 
 /// The kind of a user's name.
-#[derive(Clone, Copy, Debug, PartialEq, Eq)]
-pub struct UserKind;
+pub type UserKind = KindOf<AccountSpelling, UserMark>;
 
 /// The kind of a role's name.
-#[derive(Clone, Copy, Debug, PartialEq, Eq)]
-pub struct RoleKind;
+pub type RoleKind = KindOf<AccountSpelling, RoleMark>;
 
 /// The kind of a pool's name.
-#[derive(Clone, Copy, Debug, PartialEq, Eq)]
-pub struct PoolKind;
+pub type PoolKind = KindOf<RowSpelling, PoolMark>;
 
 /// The kind of a variable's key.
+pub type VarKind = KindOf<RowSpelling, VarMark>;
+
+/// The kind of the names of one sort of thing, spelled by a grammar: names of two kinds are of two types, though one grammar
+/// spells both.
+#[derive(Drop)]
+pub struct KindOf<S: NameKind, M> {
+    spelling: PhantomData<S>,
+    mark: PhantomData<M>,
+}
+
+impl<S: NameKind, M> NameKind for KindOf<S, M> {
+    ghost grammar = { S.grammar };
+
+    fn allows(byte: u8) -> bool {
+        S::allows(byte)
+    }
+
+    fn reserves(text: &str) -> bool {
+        S::reserves(text)
+    }
+
+    fn longest() -> usize {
+        S::longest()
+    }
+}
+
+/// Marks a DAG's id.
 #[derive(Clone, Copy, Debug, PartialEq, Eq)]
-pub struct VarKind;
+pub struct DagMark;
 
-impl NameKind for DagKind {
+/// Marks a task's id.
+#[derive(Clone, Copy, Debug, PartialEq, Eq)]
+pub struct TaskMark;
+
+/// Marks a run's id.
+#[derive(Clone, Copy, Debug, PartialEq, Eq)]
+pub struct RunMark;
+
+/// Marks a user's name.
+#[derive(Clone, Copy, Debug, PartialEq, Eq)]
+pub struct UserMark;
+
+/// Marks a role's name.
+#[derive(Clone, Copy, Debug, PartialEq, Eq)]
+pub struct RoleMark;
+
+/// Marks a pool's name.
+#[derive(Clone, Copy, Debug, PartialEq, Eq)]
+pub struct PoolMark;
+
+/// Marks a variable's key.
+#[derive(Clone, Copy, Debug, PartialEq, Eq)]
+pub struct VarMark;
+
+/// How ids of DAGs and tasks are spelled.
+#[derive(Clone, Copy, Debug, PartialEq, Eq)]
+pub struct IdSpelling;
+
+impl NameKind for IdSpelling {
     ghost grammar = { id_grammar };
 
     fn allows(byte: u8) -> bool {
@@ -64,27 +120,15 @@ impl NameKind for DagKind {
     }
 
     fn longest() -> usize {
-        250
+        LONGEST
     }
 }
 
-impl NameKind for TaskKind {
-    ghost grammar = { id_grammar };
+/// How ids of runs are spelled.
+#[derive(Clone, Copy, Debug, PartialEq, Eq)]
+pub struct RunSpelling;
 
-    fn allows(byte: u8) -> bool {
-        is_id_byte(byte)
-    }
-
-    fn reserves(_text: &str) -> bool {
-        false
-    }
-
-    fn longest() -> usize {
-        250
-    }
-}
-
-impl NameKind for RunKind {
+impl NameKind for RunSpelling {
     ghost grammar = { run_id_grammar };
 
     fn allows(byte: u8) -> bool {
@@ -96,11 +140,15 @@ impl NameKind for RunKind {
     }
 
     fn longest() -> usize {
-        250
+        LONGEST
     }
 }
 
-impl NameKind for UserKind {
+/// How names of users and roles are spelled.
+#[derive(Clone, Copy, Debug, PartialEq, Eq)]
+pub struct AccountSpelling;
+
+impl NameKind for AccountSpelling {
     ghost grammar = { account_name_grammar };
 
     fn allows(byte: u8) -> bool {
@@ -112,27 +160,15 @@ impl NameKind for UserKind {
     }
 
     fn longest() -> usize {
-        64
+        LONGEST_OF_AN_ACCOUNT
     }
 }
 
-impl NameKind for RoleKind {
-    ghost grammar = { account_name_grammar };
+/// How names of pools and keys of variables are spelled.
+#[derive(Clone, Copy, Debug, PartialEq, Eq)]
+pub struct RowSpelling;
 
-    fn allows(byte: u8) -> bool {
-        is_printed_byte(byte)
-    }
-
-    fn reserves(_text: &str) -> bool {
-        false
-    }
-
-    fn longest() -> usize {
-        64
-    }
-}
-
-impl NameKind for PoolKind {
+impl NameKind for RowSpelling {
     ghost grammar = { row_name_grammar };
 
     fn allows(byte: u8) -> bool {
@@ -144,23 +180,7 @@ impl NameKind for PoolKind {
     }
 
     fn longest() -> usize {
-        250
-    }
-}
-
-impl NameKind for VarKind {
-    ghost grammar = { row_name_grammar };
-
-    fn allows(byte: u8) -> bool {
-        is_printed_byte(byte)
-    }
-
-    fn reserves(_text: &str) -> bool {
-        false
-    }
-
-    fn longest() -> usize {
-        250
+        LONGEST
     }
 }
 

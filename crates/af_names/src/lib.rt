@@ -15,8 +15,9 @@ mod worked;
 pub use instant::Instant;
 pub use instant_error::InstantError;
 pub use kinds::{
-    DagId, DagKind, PoolKind, PoolName, RoleKind, RoleName, RunId, RunKind, TaskId, TaskKind,
-    UserKind, UserName, VarKey, VarKind,
+    AccountSpelling, DagId, DagKind, DagMark, IdSpelling, KindOf, PoolKind, PoolMark, PoolName,
+    RoleKind, RoleMark, RoleName, RowSpelling, RunId, RunKind, RunMark, RunSpelling, TaskId,
+    TaskKind, TaskMark, UserKind, UserMark, UserName, VarKey, VarKind, VarMark,
 };
 pub use name::{Name, NameKind};
 pub use name_error::NameError;
