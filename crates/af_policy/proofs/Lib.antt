@@ -1,5 +1,7 @@
+pub mod OrderLemmas
+pub mod FoundLemmas
+pub mod ShapeLemmas
 pub mod NameLemmas
-pub mod TableLemmas
 pub mod UserLemmas
 pub mod ViewLemmas
 pub mod DraftLemmas

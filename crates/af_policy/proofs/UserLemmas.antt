@@ -1,19 +1,17 @@
 -- Users put at their places, and the index of their digests.
 use Rattle.std.proofs.Common.{◌≡◌, ℕ, List, [], ◌∷◌, Bool, true, false, ◌&&◌, ◌||◌, cond, not, Option, Some, None, refl, sym, ap, ◌∙◌, is_some, is_eq, Bor}
-use Rattle.std.specs.List.{find, list_any}
+use Rattle.std.specs.List.{find}
 use Rattle.std.specs.Option.{option_copied, option_map}
 use Rattle.std.specs.Ordering.{nat_cmp, match_ordering}
 use Rattle.std.specs.declared.cmp.Ordering.{Ordering}
 use Rattle.std.specs.declared.cmp.Ordering.TheVariants.{Less, Equal, Greater}
 use Rattle.std.specs.Cmp.Lexicographic.{slice_cmp, texts_ties, nat_list_eq_equiv, bytes_decides}
-use Rattle.std.specs.BTreeMap.{BTreeMap, IsOrdered, get, insert_entry, is_at}
-use Rattle.std.specs.Map.{values_of}
-use Rattle.af_policy.specs.declared.account.Account.{Account}
-use Rattle.af_policy.specs.Rows.{UserRow, digests_differ, has_admin, has_digest, has_user, same_digest, same_name, with_user}
+use Rattle.af_policy.specs.Rows.{UserRow, digests_differ, has_digest, has_user, same_digest, same_name, with_user}
 use Rattle.af_policy.specs.Identity.{digest_user}
-use Rattle.af_policy.specs.Tables.{IsUserTable, is_admin, user_rows}
+use Rattle.af_policy.specs.Tables.{IsUserTable}
 use Rattle.af_policy.proofs.NameLemmas.{is_some-find}
-use Rattle.af_policy.proofs.TableLemmas.{user_rows-insert_entry}
+use Rattle.af_policy.specs.SharedRows.{with_row}
+use Rattle.af_policy.proofs.FoundLemmas.{found_with}
 
 or-false_left : (a b : Bool) → (a || b) ≡ false → a ≡ false
 or-false_left true b e = e
@@ -127,49 +125,15 @@ digests_differ-with_user row (x ∷ xs) new_name new_digest differ =
         in (λ i. not (first i) && later i)
 
 -- the table with one more user
-pub IsUserTable-insert : (accounts more : BTreeMap (List ℕ) Account) (names index : BTreeMap (List ℕ) (List ℕ)) (rows : List UserRow) (name : List ℕ) (account : Account) → IsUserTable accounts names → user_rows accounts.entries ≡ rows → has_user rows name ≡ false → has_digest rows account.digest ≡ false → IsOrdered (slice_cmp nat_cmp) more → more.entries ≡ insert_entry (slice_cmp nat_cmp) accounts.entries name account → ((digest : List ℕ) → get (slice_cmp nat_cmp) index digest ≡ cond (is_at (slice_cmp nat_cmp account.digest) digest) (Some name) (get (slice_cmp nat_cmp) names digest)) → IsUserTable more index
-IsUserTable-insert accounts more names index rows name account table are new_name new_digest ordered inserted updated =
-    let row : UserRow = record { name = name; digest = account.digest; roles = account.roles.items }
-    in let old_name : has_user (user_rows accounts.entries) name ≡ false = ap (λ users. has_user users name) are ∙ new_name
-    in let old_digest : has_digest (user_rows accounts.entries) account.digest ≡ false = ap (λ users. has_digest users account.digest) are ∙ new_digest
-    in let after : user_rows more.entries ≡ with_user (user_rows accounts.entries) row = ap user_rows inserted ∙ user_rows-insert_entry name account accounts.entries
-    in record {
-      ordered = ordered;
-      indexed =
-          λ digest. updated digest
-          ∙ (λ i. cond ((sym (texts_ties account.digest digest) ∙ nat_list_eq_equiv.symm account.digest digest) i) (Some name) (table.indexed digest i))
-          ∙ sym (digest_user-with_user row digest (user_rows accounts.entries) old_name old_digest)
-          ∙ sym (ap (λ users. digest_user users digest) after);
-      differ =
-          ap digests_differ after
-          ∙ digests_differ-with_user row (user_rows accounts.entries) old_name old_digest table.differ;
-    }
-
-none_from : {X : Type 0} (o : Option X) → is_some o ≡ false → o ≡ None
-none_from None e = refl
-none_from (Some x) e = cc
-
--- the table after a digest of nobody was put into the index and taken out again
-pub IsUserTable-restored : (accounts more : BTreeMap (List ℕ) Account) (names index : BTreeMap (List ℕ) (List ℕ)) (rows : List UserRow) (digest key : List ℕ) → IsUserTable accounts names → user_rows accounts.entries ≡ rows → has_digest rows digest ≡ false → IsOrdered (slice_cmp nat_cmp) more → more.entries ≡ accounts.entries → ((other : List ℕ) → get (slice_cmp nat_cmp) index other ≡ cond (is_at (slice_cmp nat_cmp digest) other) None (cond (is_at (slice_cmp nat_cmp digest) other) (Some key) (get (slice_cmp nat_cmp) names other))) → IsUserTable more index
-IsUserTable-restored accounts more names index rows digest key table are new_digest ordered same updated = record {
-  ordered = ordered;
+pub IsUserTable-insert : (users index : List UserRow) (row : UserRow) → IsUserTable users index → has_user users row.name ≡ false → has_digest users row.digest ≡ false → IsUserTable (with_user users row) (with_row (λ user. user.digest) index row)
+IsUserTable-insert users index row table new_name new_digest = record {
   indexed =
-      λ other. updated other
-      ∙ step other (is_eq (slice_cmp nat_cmp digest other)) refl
-      ∙ table.indexed other
-      ∙ sym (ap (λ entries. digest_user (user_rows entries) other) same);
-  differ = ap (λ entries. digests_differ (user_rows entries)) same ∙ table.differ;
+      λ digest. ap (option_map (λ user. user.name)) (found_with (λ user. user.digest) row index digest)
+      ∙ option_map-cond (λ user. user.name) (same_digest digest row.digest) row (find (λ user. same_digest digest user.digest) index)
+      ∙ ap (cond (same_digest digest row.digest) (Some row.name)) (table.indexed digest)
+      ∙ sym (digest_user-with_user row digest users new_name new_digest);
+  differ = digests_differ-with_user row users new_name new_digest table.differ;
 }
-  where
-    step : (other : List ℕ) (b : Bool) → is_eq (slice_cmp nat_cmp digest other) ≡ b → cond b None (cond b (Some key) (get (slice_cmp nat_cmp) names other)) ≡ get (slice_cmp nat_cmp) names other
-    step other false is = refl
-    step other true is =
-        let e : digest ≡ other = (bytes_decides digest other).0 (texts_ties digest other ∙ is)
-        in let nobody : is_some (digest_user (user_rows accounts.entries) other) ≡ false =
-        is_some-digest_user (user_rows accounts.entries) other ∙ ap (has_digest (user_rows accounts.entries)) (sym e) ∙ ap (λ users. has_digest users digest) are ∙ new_digest
-        in sym (table.indexed other ∙ none_from (digest_user (user_rows accounts.entries) other) nobody)
 
--- some account has the role Admin exactly where some row has it
-pub has_admin-user_rows : (entries : List (List ℕ × Account)) → list_any is_admin (values_of entries) ≡ has_admin (user_rows entries)
-has_admin-user_rows [] = refl
-has_admin-user_rows (e ∷ es) = ap (λ b. is_admin e.1 || b) (has_admin-user_rows es)
+pub IsUserTable-none : IsUserTable [] []
+IsUserTable-none = record { indexed = λ digest. refl; differ = refl }

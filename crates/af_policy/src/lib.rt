@@ -1,15 +1,17 @@
 //! Policies: who is behind a token, and which permissions the roles of each user grant.
 #![tactic(auto)]
 
-mod account;
 mod draft;
 mod identity;
 mod laws;
 mod policy;
 mod reader;
+mod role_rows;
 mod role_table;
 mod row_fault;
+mod shared;
 mod user;
+mod user_rows;
 mod user_table;
 mod view;
 mod worked;

@@ -1,36 +1,33 @@
-ghost use Rattle.std.specs.Prelude.{◌≡◌, [], length, OnOk, OnErr};
+ghost use Rattle.std.specs.Prelude.{◌≡◌, [], length, IfOk, OnOk, OnErr};
 ghost use Rattle.std.specs.Option.{option_copied};
 ghost use Rattle.af_role.specs.Pairs.{on_dag, on_kind};
 ghost use Rattle.af_policy.specs.Rows.{NamesAscend, has_role, has_roles, role_names, with_role};
 ghost use Rattle.af_policy.specs.Grants.{role_lists, some_role_lists};
 ghost use Rattle.af_policy.specs.Tables.{pairs_of};
 
+use crate::role_rows::RoleByName;
+use crate::shared::Table;
 use af_names::{DagId, RoleName};
 use af_role::{Action, Permissions, ResourceKind, Role};
 use std::alloc::{AllocError, Global};
-use std::collections::BTreeMap;
 use std::marker::Model;
+use std::sync::Arc;
 
-/// The roles of a policy, found by name in steps that grow with the logarithm of their number.
-/// Contracts see it as the roles' rows, in byte order of their names.
+/// The roles of a policy, found by name in steps that grow with the logarithm of their number. Tables of different versions
+/// share the roles that they have in common. Contracts see it as the roles' rows, in byte order of their names.
 #[derive(Drop)]
 pub(crate) struct RoleTable {
-    by_name: BTreeMap<RoleName, Permissions>,
+    alloc: Global,
+    by_name: Table<RoleByName>,
 }
 
 impl Model for RoleTable {
     ghost use Rattle.std.specs.Prelude.{List};
-    ghost use Rattle.std.specs.BTreeMap.{IsOrdered};
-    ghost use Rattle.std.specs.Cmp.Lexicographic.{slice_cmp};
-    ghost use Rattle.std.specs.Ordering.{nat_cmp};
     ghost use Rattle.af_role.specs.Roles.{RoleRow};
-    ghost use Rattle.af_policy.specs.Tables.{role_rows};
 
     ghost Value = { List RoleRow };
 
-    ghost view = { λ table. role_rows table.by_name.entries };
-
-    ghost invariant = { λ table. IsOrdered (slice_cmp nat_cmp) table.by_name };
+    ghost view = { λ table. table.by_name };
 }
 
 impl RoleTable {
@@ -39,8 +36,19 @@ impl RoleTable {
         ensures { result ≡ [] }
     {
         RoleTable {
-            by_name: BTreeMap::new(alloc),
+            alloc,
+            by_name: Table::new(),
         }
+    }
+
+    /// The table once more, which shares all roles.
+    pub(crate) fn copied(&self) -> Result<RoleTable, AllocError>
+        ensures { IfOk result (λ table. table ≡ self.now) }
+    {
+        Ok(RoleTable {
+            alloc: self.alloc,
+            by_name: self.by_name.copied()?,
+        })
     }
 
     /// Adds a role, or puts it in the place of the role of its name.
@@ -48,8 +56,8 @@ impl RoleTable {
         ensures ok { OnOk result (self.new ≡ with_role self.old role) }
         ensures err { OnErr result (self.new ≡ self.old) }
     {
-        let (name, permissions) = role.into_parts();
-        self.by_name.insert(name, permissions)?;
+        let role = Arc::new(self.alloc, role)?;
+        self.by_name.put(self.alloc, RoleByName::new(role))?;
         Ok(())
     }
 
@@ -65,14 +73,18 @@ impl RoleTable {
         ensures value { option_copied result ≡ pairs_of self.now name.now }
         ensures ascend { NamesAscend (role_names self.now) }
     {
-        self.by_name.get(name)
+        self.by_name.facts();
+        match self.by_name.get(name.as_str().as_bytes()) {
+            Some(row) => Some(row.permissions()),
+            None => None,
+        }
     }
 
     /// Whether there is a role of that name.
     pub(crate) fn has(&self, name: &RoleName) -> bool
         ensures { result ≡ has_role self.now name.now }
     {
-        self.by_name.contains_key(name)
+        self.by_name.has(name.as_str().as_bytes())
     }
 
     /// Whether there is a role of each of these names.
@@ -129,6 +141,6 @@ impl RoleTable {
     pub(crate) fn facts(&self)
         ensures { NamesAscend (role_names self.now) }
     {
-        let _len = self.by_name.len();
+        self.by_name.facts();
     }
 }

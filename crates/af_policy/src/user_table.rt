@@ -1,47 +1,57 @@
-ghost use Rattle.std.specs.Prelude.{◌≡◌, [], true, false, length, OnOk, OnErr};
-ghost use Rattle.std.specs.List.{list_any};
+ghost use Rattle.std.specs.Prelude.{◌≡◌, [], true, false, length, IfOk, OnOk, OnErr};
 ghost use Rattle.std.specs.Option.{option_copied};
-ghost use Rattle.std.specs.BTreeMap.{values};
 ghost use Rattle.af_policy.specs.Rows.{NamesAscend, digests_differ, has_admin, has_digest, has_user, user_names, with_user};
 ghost use Rattle.af_policy.specs.Identity.{digest_user};
-ghost use Rattle.af_policy.specs.Tables.{is_admin, roles_of};
+ghost use Rattle.af_policy.specs.Tables.{roles_of};
 
 use crate::User;
-use crate::account::Account;
+use crate::shared::Table;
+use crate::user_rows::{ByDigest, ByName, IsAdmin};
 use af_names::{RoleName, UserName};
 use std::alloc::{AllocError, Global};
-use std::collections::BTreeMap;
 use std::marker::Model;
+use std::sync::Arc;
 
 /// The users of a policy, found by name and by the digest of their token in steps that grow with the logarithm of their
-/// number. Contracts see it as the users' rows, in byte order of their names.
+/// number. Tables of different versions share the users that they have in common. Contracts see it as the users' rows, in
+/// byte order of their names.
 #[derive(Drop)]
 pub(crate) struct UserTable {
-    accounts: BTreeMap<UserName, Account>,
-    names: BTreeMap<[u8; 32], UserName>,
+    by_name: Table<ByName>,
+    by_digest: Table<ByDigest>,
 }
 
 impl Model for UserTable {
     ghost use Rattle.std.specs.Prelude.{List};
     ghost use Rattle.af_policy.specs.Rows.{UserRow};
-    ghost use Rattle.af_policy.specs.Tables.{IsUserTable, user_rows};
+    ghost use Rattle.af_policy.specs.Tables.{IsUserTable};
 
     ghost Value = { List UserRow };
 
-    ghost view = { λ table. user_rows table.accounts.entries };
+    ghost view = { λ table. table.by_name };
 
-    ghost invariant = { λ table. IsUserTable table.accounts table.names };
+    ghost invariant = { λ table. IsUserTable table.by_name table.by_digest };
 }
 
 impl UserTable {
     /// No user.
-    pub(crate) fn new(alloc: Global) -> UserTable
+    pub(crate) fn new() -> UserTable
         ensures { result ≡ [] }
     {
         UserTable {
-            accounts: BTreeMap::new(alloc),
-            names: BTreeMap::new(alloc),
+            by_name: Table::new(),
+            by_digest: Table::new(),
         }
+    }
+
+    /// The table once more, which shares all users.
+    pub(crate) fn copied(&self) -> Result<UserTable, AllocError>
+        ensures { IfOk result (λ table. table ≡ self.now) }
+    {
+        Ok(UserTable {
+            by_name: self.by_name.copied()?,
+            by_digest: self.by_digest.copied()?,
+        })
     }
 
     /// Adds a user whose name and digest are nobody's.
@@ -51,30 +61,26 @@ impl UserTable {
         ensures ok { OnOk result (self.new ≡ with_user self.old user) }
         ensures err { OnErr result (self.new ≡ self.old) }
     {
-        let (name, digest, roles) = user.into_parts();
-        let key = name.copied(alloc)?;
-        self.names.insert(digest, key)?;
-        match self.accounts.insert(name, Account { digest, roles }) {
-            Ok(_) => Ok(()),
-            Err(_) => {
-                self.names.remove(&digest);
-                Err(AllocError)
-            }
-        }
+        let user = Arc::new(alloc, user)?;
+        let other = Arc::try_clone(&user)?;
+        let by_name = self.by_name.with(alloc, ByName::new(user))?;
+        let by_digest = self.by_digest.with(alloc, ByDigest::new(other))?;
+        *self = UserTable { by_name, by_digest };
+        Ok(())
     }
 
     /// How many users there are.
     pub(crate) fn len(&self) -> usize
         ensures { result ≡ length self.now }
     {
-        self.accounts.len()
+        self.by_name.len()
     }
 
     /// Whether there is a user of that name.
     pub(crate) fn has(&self, name: &UserName) -> bool
         ensures { result ≡ has_user self.now name.now }
     {
-        self.accounts.contains_key(name)
+        self.by_name.has(name.as_str().as_bytes())
     }
 
     /// Whether some user has that digest.
@@ -88,7 +94,10 @@ impl UserTable {
     pub(crate) fn name_of(&self, digest: &[u8; 32]) -> Option<&UserName>
         ensures { option_copied result ≡ digest_user self.now digest.now }
     {
-        self.names.get(digest)
+        match self.by_digest.get(digest.as_slice()) {
+            Some(row) => Some(row.user().name()),
+            None => None,
+        }
     }
 
     /// The roles of the user of a name.
@@ -96,8 +105,9 @@ impl UserTable {
         ensures value { option_copied result ≡ roles_of self.now name.now }
         ensures ascend { NamesAscend (user_names self.now) }
     {
-        match self.accounts.get(name) {
-            Some(account) => Some(account.roles.as_slice()),
+        self.by_name.facts();
+        match self.by_name.get(name.as_str().as_bytes()) {
+            Some(row) => Some(row.user().roles()),
             None => None,
         }
     }
@@ -106,7 +116,7 @@ impl UserTable {
     pub(crate) fn has_admin(&self) -> bool
         ensures { result ≡ has_admin self.now }
     {
-        some_admin(&self.accounts)
+        self.by_name.some::<IsAdmin>()
     }
 
     /// What holds of each table: names ascend, so no two users have one, and no two have one digest.
@@ -114,13 +124,6 @@ impl UserTable {
         ensures ascend { NamesAscend (user_names self.now) }
         ensures differ { digests_differ self.now ≡ true }
     {
-        let _len = self.accounts.len();
+        self.by_name.facts();
     }
-}
-
-/// Whether one of these accounts has the role Admin.
-fn some_admin(accounts: &BTreeMap<UserName, Account>) -> bool
-    ensures { result ≡ list_any is_admin (values accounts.now) }
-{
-    accounts.values().any(|account| account.is_admin())
 }

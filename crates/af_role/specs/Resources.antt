@@ -1,6 +1,6 @@
 -- Actions and resources, their texts and the order in which they are shown (Airflow 2, "Access Control": a
 -- permission is an action on a resource; the eight resources and the order are this product's own choice).
-use Rattle.std.specs.Prelude.{ℕ, List, [], ◌∷◌, ◌++◌, Bool, Option, Some, None, option_map, nat_eq, if◌then◌else◌, codes, drop, Ok, Err, Result}
+use Rattle.std.specs.Prelude.{ℕ, List, [], ◌∷◌, ◌++◌, Bool, Option, Some, None, option_map, nat_eq, if◌then◌else◌, codes, drop, length, Ok, Err, Result}
 use Rattle.std.specs.List.{find, starts_with}
 use Rattle.std.specs.Cmp.Lexicographic.{pointwise, slice_cmp}
 use Rattle.std.specs.Ordering.{eq_of_both, nat_cmp, on, then_cmp}
@@ -99,10 +99,10 @@ abbrev pub resource_from : List ℕ → Option (List ℕ) → Option Resource
 resource_from text (Some id) = dag_named (named id_grammar id)
 resource_from text None = option_map Kind (kind_of text)
 
--- what follows `DAG:`
-abbrev pub dag_part : List ℕ → Option (List ℕ)
-dag_part text = if starts_with nat_eq text (codes "DAG:") then Some (drop 4 text) else None
+-- what follows a prefix
+abbrev pub rest_after : List ℕ → List ℕ → Option (List ℕ)
+rest_after text prefix = if starts_with nat_eq text prefix then Some (drop (length prefix) text) else None
 
 -- the resource whose text this is: the kind of that text, or the single DAG whose id follows `DAG:`
 abbrev pub resource_of : List ℕ → Option Resource
-resource_of text = resource_from text (dag_part text)
+resource_of text = resource_from text (rest_after text (codes "DAG:"))

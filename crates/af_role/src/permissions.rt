@@ -1,6 +1,7 @@
 ghost use Rattle.std.specs.Prelude.{◌≡◌, [], length, OnOk, OnErr};
 ghost use Rattle.std.specs.Map.Iter.{ShowsInOrder, deref};
-ghost use Rattle.af_role.specs.Pairs.{PairRow, on_dag, on_kind, with_pair};
+ghost use Rattle.std.specs.List.Sorted.{IsStrictlySortedBy};
+ghost use Rattle.af_role.specs.Pairs.{PairRow, pair_cmp, on_dag, on_kind, with_pair};
 ghost use Rattle.af_role.specs.Roles.{contains_pair};
 
 use crate::{Action, Pair, ResourceKind};
@@ -52,10 +53,11 @@ impl Permissions {
         self.pairs.len()
     }
 
-    /// The permissions, in the order in which they are shown.
+    /// The permissions, in the order in which they are shown, each once.
     pub fn iter(&self) -> Iter<'_, Pair>
         ensures rest { result ≡ self.now }
         ensures runs { ShowsInOrder (deref {X = PairRow}) }
+        ensures order { IsStrictlySortedBy pair_cmp self.now }
     {
         self.pairs.iter()
     }

@@ -1,11 +1,11 @@
-ghost use Rattle.std.specs.Prelude.{◌≡◌, ◌⊎◌, Some, Ok, Err, alloc_error};
-ghost use Rattle.std.specs.Option.{option_copied};
+ghost use Rattle.std.specs.Prelude.{◌≡◌, ◌⊎◌, true, Some, Ok, Err, alloc_error};
+ghost use Rattle.std.specs.Option.{is_some, option_copied};
 ghost use Rattle.std.proofs.Common.{rules};
 ghost use Rattle.std.specs.Cmp.{partial_order_from_own_ties};
 ghost use Rattle.std.specs.Cmp.Rules.{comparing};
 ghost use Rattle.std.specs.Ordering.{as_partial_cmp, nat_cmp, on};
 ghost use Rattle.af_names.specs.Names.{id_grammar, named};
-ghost use Rattle.af_role.specs.Resources.{dag_named, dag_part, kind_of, kind_rank, kind_text, resource_cmp, resource_id, resource_of, resource_rank, resource_text, same_kind, same_resource};
+ghost use Rattle.af_role.specs.Resources.{dag_named, kind_of, kind_rank, kind_text, resource_cmp, resource_id, resource_of, resource_rank, resource_text, rest_after, same_kind, same_resource};
 
 use af_names::{DagId, NameError};
 use std::alloc::{AllocError, Global};
@@ -99,11 +99,12 @@ impl ResourceKind {
 
 impl Resource {
     /// The resource whose text this is: a kind's, or `DAG:` followed by the id of a DAG. None where the text is
-    /// neither. `AllocError` only where a growth was refused.
+    /// neither, an id that is too long among them. `AllocError` only where a growth was refused, and never in place of None.
     pub fn read(alloc: Global, text: &str) -> Result<Option<Resource>, AllocError>
-        ensures { (result ≡ Ok (resource_of text.now)) ⊎ (result ≡ Err alloc_error) }
+        ensures told { (result ≡ Ok (resource_of text.now)) ⊎ (result ≡ Err alloc_error) }
+        ensures memory { result ≡ Err alloc_error → is_some (resource_of text.now) ≡ true }
     {
-        match dag_part(text) {
+        match rest_after(text, "DAG:") {
             Some(id) => Resource::read_dag(alloc, id),
             None => match ResourceKind::read(text) {
                 Some(kind) => Ok(Some(Resource::Kind(kind))),
@@ -113,7 +114,8 @@ impl Resource {
     }
 
     fn read_dag(alloc: Global, id: &str) -> Result<Option<Resource>, AllocError>
-        ensures { (result ≡ Ok (dag_named (named id_grammar id.now))) ⊎ (result ≡ Err alloc_error) }
+        ensures told { (result ≡ Ok (dag_named (named id_grammar id.now))) ⊎ (result ≡ Err alloc_error) }
+        ensures memory { result ≡ Err alloc_error → is_some (dag_named (named id_grammar id.now)) ≡ true }
     {
         match DagId::parse(alloc, id) {
             Ok(dag) => Ok(Some(Resource::Dag(dag))),
@@ -141,14 +143,11 @@ impl Resource {
     }
 }
 
-/// What follows `DAG:`. None where the text does not begin so.
-fn dag_part(text: &str) -> Option<&str>
-    ensures { option_copied result ≡ dag_part text.now }
+/// What follows a prefix. None where the text does not begin so.
+fn rest_after<'a>(text: &'a str, prefix: &str) -> Option<&'a str>
+    ensures { option_copied result ≡ rest_after text.now prefix.now }
 {
-    let Some(id) = text.strip_prefix("DAG:") else {
-        return None;
-    };
-    Some(id)
+    text.strip_prefix(prefix)
 }
 
 impl PartialEq for ResourceKind {

@@ -1,7 +1,12 @@
-use Rattle.std.proofs.Common.{◌∙◌}
-use Rattle.af_policy.proofs.TableLemmas.{has_user-user_rows}
+use Rattle.std.proofs.Common.{◌∙◌, ap, is_some}
+use Rattle.af_policy.specs.Rows.{has_user, same_name}
+use Rattle.af_policy.specs.SharedRows.{found}
+use Rattle.af_policy.proofs.NameLemmas.{is_some-find}
 use Rattle.af_policy.proofs.user_table.UserTable.has.Goals as goal
 
 pub returns : goal.returns
 returns c =
-    rw (← c.self.view_is) (c.contains_key.ensures ∙ has_user-user_rows c.args.name.now c.self.inside.accounts.entries)
+    c.has.ensures
+    ∙ ap (λ name. is_some (found (λ user. user.name) c.self.inside.by_name name)) (c.as_bytes.ensures.value ∙ c.as_str.ensures.text)
+    ∙ is_some-find (λ user. same_name c.args.name.now user.name) c.self.inside.by_name
+    ∙ ap (λ users. has_user users c.args.name.now) c.self.view_is

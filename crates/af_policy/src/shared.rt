@@ -1,0 +1,13 @@
+//! Tables of rows that share what did not change.
+mod listing;
+pub(crate) mod node;
+mod row;
+mod some;
+mod table;
+
+pub(crate) use row::Row;
+pub(crate) use some::Test;
+pub(crate) use table::Table;
+
+#[cfg(test)]
+mod tests;

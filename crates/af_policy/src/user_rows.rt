@@ -1,0 +1,123 @@
+ghost use Rattle.std.specs.Prelude.{◌≡◌};
+ghost use Rattle.std.specs.Arc.{arc_value};
+
+use crate::User;
+use crate::shared::{Row, Test};
+use std::alloc::AllocError;
+use std::marker::Model;
+use std::sync::Arc;
+
+/// A user, found by name. Contracts see it as the user.
+#[derive(Drop)]
+pub(crate) struct ByName {
+    user: Arc<User>,
+}
+
+impl Model for ByName {
+    ghost use Rattle.std.specs.Arc.{arc_value};
+    ghost use Rattle.af_policy.specs.Rows.{UserRow};
+
+    ghost Value = { UserRow };
+
+    ghost view = { λ row. arc_value row.user };
+}
+
+impl ByName {
+    pub(crate) fn new(user: Arc<User>) -> ByName
+        ensures { result ≡ arc_value user }
+    {
+        ByName { user }
+    }
+
+    /// The user.
+    pub(crate) fn user(&self) -> &User
+        ensures { result.now ≡ self.now }
+    {
+        &self.user
+    }
+}
+
+impl Row for ByName {
+    ghost key = { λ row. row.name };
+
+    fn key(&self) -> &[u8] {
+        self.user.name().as_str().as_bytes()
+    }
+
+    fn copied(&self) -> Result<ByName, AllocError> {
+        let user = Arc::try_clone(&self.user)?;
+        Ok(ByName { user })
+    }
+}
+
+/// A user, found by the digest of the token, which stands beside it, so that a search reads no other place. Contracts see
+/// it as the user.
+#[derive(Drop)]
+pub(crate) struct ByDigest {
+    digest: [u8; 32],
+    user: Arc<User>,
+}
+
+impl Model for ByDigest {
+    ghost use Rattle.std.specs.Prelude.{◌≡◌};
+    ghost use Rattle.std.specs.Arc.{arc_value};
+    ghost use Rattle.af_policy.specs.Rows.{UserRow};
+
+    ghost Value = { UserRow };
+
+    ghost view = { λ row. arc_value row.user };
+
+    ghost invariant = { λ row. row.digest ≡ (arc_value row.user).digest };
+}
+
+impl ByDigest {
+    pub(crate) fn new(user: Arc<User>) -> ByDigest
+        ensures { result ≡ arc_value user }
+    {
+        ByDigest {
+            digest: user.digest(),
+            user,
+        }
+    }
+
+    /// The user.
+    pub(crate) fn user(&self) -> &User
+        ensures { result.now ≡ self.now }
+    {
+        &self.user
+    }
+}
+
+impl Row for ByDigest {
+    ghost key = { λ row. row.digest };
+
+    fn key(&self) -> &[u8] {
+        self.digest.as_slice()
+    }
+
+    fn copied(&self) -> Result<ByDigest, AllocError> {
+        let user = Arc::try_clone(&self.user)?;
+        Ok(ByDigest {
+            digest: self.digest,
+            user,
+        })
+    }
+}
+
+/// Whether one of the user's roles is Admin.
+pub(crate) struct IsAdmin;
+
+impl Test<ByName> for IsAdmin {
+    ghost use Rattle.std.specs.Prelude.{codes};
+    ghost use Rattle.std.specs.List.{list_any};
+    ghost use Rattle.af_policy.specs.Rows.{same_name};
+
+    ghost passes = { λ user. list_any (λ role. same_name role (codes "Admin")) user.roles };
+
+    fn passes(row: &ByName) -> bool {
+        row.user()
+            .roles()
+            .iter()
+            .any(|role| role.as_str() == "Admin")
+    }
+}
