@@ -45,7 +45,7 @@ apart_from number (run ∷ runs) above = (apart number run.number above.0, apart
     apart : (a b : ℕ) → nat_cmp a b ≡ Less → (a == b) ≡ false
     apart a b less = grind (arith, nat_tests)
 
-turned_from : (number : ℕ) (runs : List Run) → Above number runs → AllByRecursion (λ run. (run.number == number) ≡ false) runs
+pub turned_from : (number : ℕ) (runs : List Run) → Above number runs → AllByRecursion (λ run. (run.number == number) ≡ false) runs
 turned_from number [] above = tt
 turned_from number (run ∷ runs) above = (apart number run.number above.0, turned_from number runs above.1)
   where
@@ -78,7 +78,7 @@ above_moved number runs moved above keeps =
     subst (AllByRecursion (λ q. nat_cmp number q ≡ Less)) (sym (numbers_same (busy_of runs) moved keeps)) (all_busy (λ q. nat_cmp number q ≡ Less) runs above)
 
 -- ---- runs advanced one after the other
-advance_none : (runs : List Run) (later : Run) → AllByRecursion (λ run. (run.number == later.number) ≡ false) runs → with_advanced runs later ≡ runs
+pub advance_none : (runs : List Run) (later : Run) → AllByRecursion (λ run. (run.number == later.number) ≡ false) runs → with_advanced runs later ≡ runs
 advance_none [] later none = refl
 advance_none (run ∷ runs) later none = λ i. cond (none.0 i) (advanced run later) run ∷ advance_none runs later none.1 i
 

@@ -1,3 +1,4 @@
+mod AdvanceLemmas
 mod BusyLemmas
 mod CandidateLemmas
 mod ChoosingLemmas

@@ -1,4 +1,4 @@
--- DAGs whose cursors alone differ are looked up alike.
+-- DAGs whose cursors alone differ, or whose cursors and pauses alone, are looked up alike.
 use Rattle.std.proofs.Common.{◌≡◌, ◌<◌, ◌+◌, ◌∙◌, ℕ, List, [], ◌∷◌, ◌++◌, take, length, map, get_or, refl, sym, ap, subst, arith, zero, suc, Bool, true, false, cond, ◌&&◌, ⊎_elim}
 use Rattle.std.specs.Prelude.{All, None, Some, Option, option_map, Contains, flat_map, nat_lt, nat_le, not, MatchBool}
 use Rattle.std.specs.List.{AllZip}
@@ -9,6 +9,8 @@ use Rattle.std.specs.Cmp.Lexicographic.{slice_cmp}
 use Rattle.std.proofs.lemmas.Bool.{cases_Bool}
 use Rattle.std.proofs.lemmas.List.Elements.{All-cons}
 use Rattle.af_graph.specs.Definition.{fault_of}
+use Rattle.af_graph.specs.Graph.{same_name}
+use Rattle.af_graph.specs.declared.dag_spec.DagSpec.{DagSpec}
 use Rattle.af_graph.specs.declared.task_spec.TaskSpec.{TaskSpec}
 use Rattle.af_pool.specs.declared.pool.Pool.{Pool}
 use Rattle.af_pool.specs.Occupants.{slots_taken}
@@ -22,7 +24,7 @@ use Rattle.af_sched.specs.Plan.{with_cursors}
 use Rattle.af_sched.specs.Queue.{IsQueueing, occupant_of, queued_earlier}
 use Rattle.af_sched.specs.Settle.{SettlesIfLive, SettlesRun, is_live}
 use Rattle.af_sched.specs.Start.{started_run, started_runs, is_queued, is_running, running_of, queued_before}
-use Rattle.af_sched.specs.State.{AreRows, IsWhole, dag_of, is_of_id, is_unpaused, most_running, tasks_of}
+use Rattle.af_sched.specs.State.{AreRows, IsWhole, dag_of, is_of_id, is_unpaused, most_running, tasks_of, with_paused}
 use Rattle.af_sched.specs.declared.dag_row.DagRow.{DagRow}
 
 abbrev pub Alike : List DagRow → List DagRow → Type 0
@@ -78,37 +80,64 @@ module _ (old new : List DagRow) (alike : Alike old new) where
         ∙ (λ i. Rattle.af_graph.specs.States.same_state placed.instance.state Rattle.af_graph.specs.declared.task_state.TaskState.TheVariants.Scheduled && (is_running placed.run.state && sym unpaused_alike i placed.run.dag_id) && nat_le (placed.task.pool_slots + slots_taken placed.task.pool (map occupant_of (sym (placed_alike runs) i)) + queued_earlier q (sym (placed_alike runs) i) placed) (slots_of pools placed.task.pool));
   }
 
-  whole_alike_one : (run : Run) → IsWhole old run → IsWhole new run
-  whole_alike_one run is = read_same (option_map (λ (row : DagRow). length row.dag.tasks)) (λ one other dag paused. ap (λ d. Some (length d.tasks)) dag) old new alike run.dag_id ∙ is
+-- ---- the definitions alone
+abbrev pub SameDags : List DagRow → List DagRow → Type 0
+SameDags old new = AllZip (λ one other. other.dag ≡ one.dag) old new
 
-  pub whole_alike : (runs : List Run) → All (IsWhole old) runs → All (IsWhole new) runs
-  whole_alike runs whole k d inside = whole_alike_one (get_or runs k d) (whole k d inside)
+pub same_dags : (old new : List DagRow) → Alike old new → SameDags old new
+same_dags [] [] alike = tt
+same_dags [] (y ∷ ys) alike = absurd alike
+same_dags (x ∷ xs) [] alike = absurd alike
+same_dags (x ∷ xs) (y ∷ ys) alike = (alike.0.0, same_dags xs ys alike.1)
 
-ids_alike : (old new : List DagRow) → Alike old new → map (λ (row : DagRow). row.dag.dag_id) new ≡ map (λ (row : DagRow). row.dag.dag_id) old
-ids_alike [] [] alike = refl
-ids_alike [] (y ∷ ys) alike = absurd alike
-ids_alike (x ∷ xs) [] alike = absurd alike
-ids_alike (x ∷ xs) (y ∷ ys) alike = λ i. (alike.0.0 i).dag_id ∷ ids_alike xs ys alike.1 i
+paused_dag : (b : Bool) (is_paused : Bool) (row : DagRow) → (cond b (record row { is_paused = is_paused }) row).dag ≡ row.dag
+paused_dag true is_paused row = refl
+paused_dag false is_paused row = refl
 
-long_alike : (old new : List DagRow) → Alike old new → length new ≡ length old
-long_alike [] [] alike = refl
-long_alike [] (y ∷ ys) alike = absurd alike
-long_alike (x ∷ xs) [] alike = absurd alike
-long_alike (x ∷ xs) (y ∷ ys) alike = ap suc (long_alike xs ys alike.1)
+pub same_paused : (dags : List DagRow) (id : List ℕ) (is_paused : Bool) → SameDags dags (with_paused dags id is_paused)
+same_paused [] id is_paused = tt
+same_paused (row ∷ dags) id is_paused = (paused_dag (is_of_id id row) is_paused row, same_paused dags id is_paused)
 
-sound_alike : (old new : List DagRow) → Alike old new → All (λ row. fault_of row.dag.tasks ≡ None) old → All (λ row. fault_of row.dag.tasks ≡ None) new
-sound_alike [] [] alike sound = sound
-sound_alike [] (y ∷ ys) alike sound = absurd alike
-sound_alike (x ∷ xs) [] alike sound = absurd alike
-sound_alike (x ∷ xs) (y ∷ ys) alike sound =
-    All-cons (λ (row : DagRow). fault_of row.dag.tasks ≡ None) y ys (ap (λ dag. fault_of dag.tasks) alike.0.0 ∙ sound 0 x (omega arith)) (sound_alike xs ys alike.1 (λ j e low. sound (suc j) e (omega arith)))
+tasks_same : (old new : List DagRow) → SameDags old new → (id : List ℕ) → option_map (λ (row : DagRow). length row.dag.tasks) (dag_of new id) ≡ option_map (λ (row : DagRow). length row.dag.tasks) (dag_of old id)
+tasks_same [] [] same id = refl
+tasks_same [] (y ∷ ys) same id = absurd same
+tasks_same (x ∷ xs) [] same id = absurd same
+tasks_same (x ∷ xs) (y ∷ ys) same id =
+    let here : is_of_id id y ≡ is_of_id id x = ap (λ (dag : DagSpec). same_name dag.dag_id id) same.0 in
+    let rest = tasks_same xs ys same.1 id in
+    ⊎_elim
+    (λ (is : is_of_id id x ≡ true). rw (here, is) (ap (λ (dag : DagSpec). Some (length dag.tasks)) same.0))
+    (λ (other : is_of_id id x ≡ false). rw (here, other) rest)
+    (cases_Bool (is_of_id id x))
 
-pub AreRows-alike : (old new : List DagRow) (was runs : List Run) → Alike old new → All (IsWhole old) runs → AreRows old was → AreRows new runs
-AreRows-alike old new was runs alike whole are = record {
-  in_order = subst (IsStrictlySortedBy (slice_cmp nat_cmp)) (sym (ids_alike old new alike)) are.in_order;
-  few = let same = long_alike old new alike in let few = are.few in omega (arith, same, few);
-  sound = sound_alike old new alike are.sound;
-  whole = whole_alike old new alike runs whole;
+whole_same : (old new : List DagRow) → SameDags old new → (runs : List Run) → All (IsWhole old) runs → All (IsWhole new) runs
+whole_same old new same runs whole k d inside = tasks_same old new same (get_or runs k d).dag_id ∙ whole k d inside
+
+ids_same : (old new : List DagRow) → SameDags old new → map (λ (row : DagRow). row.dag.dag_id) new ≡ map (λ (row : DagRow). row.dag.dag_id) old
+ids_same [] [] same = refl
+ids_same [] (y ∷ ys) same = absurd same
+ids_same (x ∷ xs) [] same = absurd same
+ids_same (x ∷ xs) (y ∷ ys) same = λ i. (same.0 i).dag_id ∷ ids_same xs ys same.1 i
+
+long_same : (old new : List DagRow) → SameDags old new → length new ≡ length old
+long_same [] [] same = refl
+long_same [] (y ∷ ys) same = absurd same
+long_same (x ∷ xs) [] same = absurd same
+long_same (x ∷ xs) (y ∷ ys) same = ap suc (long_same xs ys same.1)
+
+sound_same : (old new : List DagRow) → SameDags old new → All (λ row. fault_of row.dag.tasks ≡ None) old → All (λ row. fault_of row.dag.tasks ≡ None) new
+sound_same [] [] same sound = sound
+sound_same [] (y ∷ ys) same sound = absurd same
+sound_same (x ∷ xs) [] same sound = absurd same
+sound_same (x ∷ xs) (y ∷ ys) same sound =
+    All-cons (λ (row : DagRow). fault_of row.dag.tasks ≡ None) y ys (ap (λ dag. fault_of dag.tasks) same.0 ∙ sound 0 x (omega arith)) (sound_same xs ys same.1 (λ j e low. sound (suc j) e (omega arith)))
+
+pub AreRows-same : (old new : List DagRow) (was runs : List Run) → SameDags old new → All (IsWhole old) runs → AreRows old was → AreRows new runs
+AreRows-same old new was runs same whole are = record {
+  in_order = subst (IsStrictlySortedBy (slice_cmp nat_cmp)) (sym (ids_same old new same)) are.in_order;
+  few = let long = long_same old new same in let few = are.few in omega (arith, long, few);
+  sound = sound_same old new same are.sound;
+  whole = whole_same old new same runs whole;
 }
 
 -- the cursors that the first phase leaves

@@ -1,27 +1,62 @@
--- What a search for the id of a DAG found.
-use Rattle.std.proofs.Common.{◌≡◌, ◌∙◌, ℕ, List, length, get_or, ap}
-use Rattle.std.specs.Prelude.{None, Result, Ok, Err, MatchOption}
-use Rattle.std.specs.Result.{result_ok}
+-- What a search for the id of a DAG found, and what is changed there.
+use Rattle.std.proofs.Common.{◌≡◌, ◌∙◌, ℕ, List, [], ◌∷◌, Bool, true, false, cond, ◌||◌, map, length, get_or, set, ap, refl}
+use Rattle.std.specs.Prelude.{find, None, Some, Result, Ok, Err, MatchResult}
+use Rattle.std.specs.List.{list_any}
 use Rattle.std.specs.List.Sorted.{IsSearchInRange, IsBinarySearchResult}
 use Rattle.std.specs.Ordering.{nat_cmp, is_eq}
 use Rattle.std.specs.Cmp.Lexicographic.{slice_cmp, nat_list_cmp_total, texts_ties}
-use Rattle.af_names.proofs.OrderLemmas.{find-only, find-none, search_alone, search_none, search_rises}
+use Rattle.std.proofs.lemmas.Bool.{true≢false}
+use Rattle.af_names.proofs.OrderLemmas.{find-only, list_any-none, list_any-only, map-only, search_alone, search_none, search_rises}
 use Rattle.af_sched.specs.Steps.{StandsAt}
-use Rattle.af_sched.specs.State.{AreInOrder, dag_of, is_of_id}
+use Rattle.af_sched.specs.State.{AreInOrder, FitsAt, dag_of, has_dag, is_of_id, with_paused}
 use Rattle.af_sched.specs.declared.dag_row.DagRow.{DagRow}
 
+-- ---- no row passes a test
+neither : (a b : Bool) → (a || b) ≡ false → (a ≡ false) × (b ≡ false)
+neither true b none = absurd (true≢false none)
+neither false b none = (refl, none)
+
+pub find-absent : {X : Type 0} (p : X → Bool) (xs : List X) → list_any p xs ≡ false → find p xs ≡ None
+find-absent p [] none = refl
+find-absent p (x ∷ xs) none =
+    let parts = neither (p x) (list_any p xs) none in rw parts.0 (find-absent p xs parts.1)
+
+map-absent : {X : Type 0} (p : X → Bool) (g : X → X) (xs : List X) → list_any p xs ≡ false → map (λ x. cond (p x) (g x) x) xs ≡ xs
+map-absent p g [] none = refl
+map-absent p g (x ∷ xs) none =
+    let parts = neither (p x) (list_any p xs) none in rw parts.0 (ap (λ rest. x ∷ rest) (map-absent p g xs parts.1))
+
+-- ---- what a search found
 abbrev id_of : DagRow → List ℕ
 id_of row = row.dag.dag_id
 
-pub stands_from_search : (dags : List DagRow) (dag_id : List ℕ) (r : Result ℕ ℕ) → AreInOrder dags → IsSearchInRange r (length dags) → IsBinarySearchResult (λ (row : DagRow). slice_cmp nat_cmp row.dag.dag_id dag_id) dags r → MatchOption (result_ok r) (dag_of dags dag_id ≡ None) (StandsAt dags dag_id)
-stands_from_search dags dag_id (Ok place) in_order within found =
+pub place_from_search : (dags : List DagRow) (dag_id : List ℕ) (r : Result ℕ ℕ) → AreInOrder dags → IsSearchInRange r (length dags) → IsBinarySearchResult (λ (row : DagRow). slice_cmp nat_cmp row.dag.dag_id dag_id) dags r → MatchResult r (StandsAt dags dag_id) (FitsAt dags dag_id)
+place_from_search dags dag_id (Ok place) in_order within found = record {
+  within = within;
+  here = λ e. texts_ties (get_or dags place e).dag.dag_id dag_id ∙ ap is_eq (found e);
+  alone = λ other e inside apart. texts_ties (get_or dags other e).dag.dag_id dag_id ∙ search_alone id_of nat_list_cmp_total dag_id dags place in_order within found other e inside apart;
+}
+place_from_search dags dag_id (Err place) in_order within ended =
+    let parted = ended (search_rises id_of nat_list_cmp_total dag_id dags in_order) in
     record {
       within = within;
-      found = λ d.
-          find-only (is_of_id dag_id) dags place d within
-          (λ e. texts_ties (get_or dags place e).dag.dag_id dag_id ∙ ap is_eq (found e))
-          (λ other e inside apart. texts_ties (get_or dags other e).dag.dag_id dag_id ∙ search_alone id_of nat_list_cmp_total dag_id dags place in_order within found other e inside apart);
+      absent = list_any-none (is_of_id dag_id) dags (λ other d inside. texts_ties (get_or dags other d).dag.dag_id dag_id ∙ search_none id_of nat_list_cmp_total dag_id dags place parted other d inside);
+      parted = parted;
     }
-stands_from_search dags dag_id (Err place) in_order within ended =
-    let parted = ended (search_rises id_of nat_list_cmp_total dag_id dags in_order) in
-    find-none (is_of_id dag_id) dags (λ other d inside. texts_ties (get_or dags other d).dag.dag_id dag_id ∙ search_none id_of nat_list_cmp_total dag_id dags place parted other d inside)
+
+module _ (dags : List DagRow) (dag_id : List ℕ) (place : ℕ) (stands : StandsAt dags dag_id place) where
+  pub dag_of-is : (d : DagRow) → dag_of dags dag_id ≡ Some (get_or dags place d)
+  dag_of-is d = find-only (is_of_id dag_id) dags place d stands.within stands.here stands.alone
+
+  pub has_dag-is : has_dag dags dag_id ≡ true
+  has_dag-is = list_any-only (is_of_id dag_id) dags place stands.within stands.here
+
+  pub with_paused-is_set : (is_paused : Bool) (d : DagRow) → with_paused dags dag_id is_paused ≡ set dags place (record (get_or dags place d) { is_paused = is_paused })
+  with_paused-is_set is_paused d = map-only (is_of_id dag_id) (λ (row : DagRow). record row { is_paused = is_paused }) dags place d stands.within stands.here stands.alone
+
+module _ (dags : List DagRow) (dag_id : List ℕ) (absent : has_dag dags dag_id ≡ false) where
+  pub dag_of-none : dag_of dags dag_id ≡ None
+  dag_of-none = find-absent (is_of_id dag_id) dags absent
+
+  pub with_paused-same : (is_paused : Bool) → with_paused dags dag_id is_paused ≡ dags
+  with_paused-same is_paused = map-absent (is_of_id dag_id) (λ (row : DagRow). record row { is_paused = is_paused }) dags absent

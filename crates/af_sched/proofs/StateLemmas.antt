@@ -1,11 +1,10 @@
 -- The rows of a state: an instance is replaced, and no run loses one.
-use Rattle.std.proofs.Common.{◌≡◌, ◌<◌, ◌∙◌, ℕ, List, [], ◌∷◌, ◌++◌, length, get_or, set, sym, refl, ap, arith, zero, suc, Bool, true, false, cond, ◌||◌, length-set, take, drop, ⊎_elim}
-use Rattle.std.specs.Prelude.{All, Some, None, Option, option_map, find, filter, insert, Result, Ok, Err, MatchResult}
-use Rattle.std.specs.List.{list_any}
-use Rattle.std.specs.List.Sorted.{IsStrictlySortedBy, IsSearchInRange, IsBinarySearchResult}
-use Rattle.std.specs.Ordering.{nat_cmp, is_lt, is_eq}
-use Rattle.std.specs.Cmp.Lexicographic.{slice_cmp, nat_list_cmp_total, nat_list_eq_equiv, texts_ties}
-use Rattle.std.proofs.lemmas.Bool.{cases_Bool, true≢false}
+use Rattle.std.proofs.Common.{◌≡◌, ◌<◌, ◌∙◌, ℕ, List, [], ◌∷◌, ◌++◌, length, get_or, set, sym, refl, ap, arith, zero, suc, Bool, true, false, cond, length-set, take, drop, ⊎_elim}
+use Rattle.std.specs.Prelude.{All, Some, None, Option, option_map, find, filter, insert, Ok}
+use Rattle.std.specs.List.Sorted.{IsStrictlySortedBy}
+use Rattle.std.specs.Ordering.{nat_cmp, is_lt}
+use Rattle.std.specs.Cmp.Lexicographic.{slice_cmp, nat_list_cmp_total, nat_list_eq_equiv}
+use Rattle.std.proofs.lemmas.Bool.{cases_Bool}
 use Rattle.std.proofs.lemmas.List.Edits.{length-insert}
 use Rattle.std.proofs.lemmas.Option.{none-some}
 use Rattle.std.proofs.lemmas.List.Elements.{All-nil, All-cons, All-push}
@@ -16,7 +15,8 @@ use Rattle.af_runs.specs.Runs.{with_instance, is_numbered}
 use Rattle.af_graph.specs.Definition.{checked, unless}
 use Rattle.af_graph.specs.declared.dag_spec.DagSpec.{DagSpec}
 use Rattle.af_graph.specs.declared.dag_fault.DagFault.{DagFault}
-use Rattle.af_names.proofs.OrderLemmas.{rows_before, rows_after, order-inserted, All-inserted, list_any-only, list_any-none, search_rises, search_none}
+use Rattle.af_names.proofs.OrderLemmas.{rows_before, rows_after, order-inserted, All-inserted}
+use Rattle.af_sched.proofs.StandingLemmas.{find-absent}
 use Rattle.af_sched.specs.State.{AreRows, IsWhole, dag_of, has_dag, is_of_id, with_dag, FitsAt}
 use Rattle.af_sched.specs.declared.dag_row.DagRow.{DagRow}
 
@@ -63,15 +63,6 @@ find-inserted p [] x (suc i) not = rw not refl
 find-inserted p (y ∷ ys) x zero not = rw not refl
 find-inserted p (y ∷ ys) x (suc i) not = ap (λ o. cond (p y) (Some y) o) (find-inserted p ys x i not)
 
-neither : (a b : Bool) → (a || b) ≡ false → (a ≡ false) × (b ≡ false)
-neither true b none = absurd (true≢false none)
-neither false b none = (refl, none)
-
-find-absent : {X : Type 0} (p : X → Bool) (xs : List X) → list_any p xs ≡ false → find p xs ≡ None
-find-absent p [] none = refl
-find-absent p (x ∷ xs) none =
-    let parts = neither (p x) (list_any p xs) none in rw parts.0 (find-absent p xs parts.1)
-
 -- an id that the rows have is not that of a row which they lack
 dag_kept : (dags : List DagRow) (row : DagRow) (place : ℕ) (dag_id : List ℕ) (n : ℕ) → has_dag dags row.dag.dag_id ≡ false → option_map (λ r. length r.dag.tasks) (dag_of dags dag_id) ≡ Some n → option_map (λ r. length r.dag.tasks) (dag_of (take place dags ++ row ∷ drop place dags) dag_id) ≡ Some n
 dag_kept dags row place dag_id n absent is =
@@ -102,15 +93,3 @@ module _ (dags : List DagRow) (row : DagRow) (place : ℕ) (fits : FitsAt dags r
     sound = All-inserted (λ (r : DagRow). fault_of r.dag.tasks ≡ None) dags row place are.sound (no_fault (fault_of row.dag.tasks) row.dag sound);
     whole = λ k d inside. dag_kept dags row place (get_or runs k d).dag_id (length (get_or runs k d).instances) fits.absent (are.whole k d inside);
   }
-
--- what a search for an id found, or where it ended
-pub place_from_search : (dags : List DagRow) (runs : List Run) (dag_id : List ℕ) (r : Result ℕ ℕ) → AreRows dags runs → IsSearchInRange r (length dags) → IsBinarySearchResult (λ (row : DagRow). slice_cmp nat_cmp row.dag.dag_id dag_id) dags r → MatchResult r (λ _. has_dag dags dag_id ≡ true) (FitsAt dags dag_id)
-place_from_search dags runs dag_id (Ok place) are within found =
-    list_any-only (is_of_id dag_id) dags place within (λ d. texts_ties (get_or dags place d).dag.dag_id dag_id ∙ ap is_eq (found d))
-place_from_search dags runs dag_id (Err place) are within ended =
-    let parted = ended (search_rises (λ (r : DagRow). r.dag.dag_id) nat_list_cmp_total dag_id dags are.in_order) in
-    record {
-      within = within;
-      absent = list_any-none (is_of_id dag_id) dags (λ other d inside. texts_ties (get_or dags other d).dag.dag_id dag_id ∙ search_none (λ (r : DagRow). r.dag.dag_id) nat_list_cmp_total dag_id dags place parted other d inside);
-      parted = parted;
-    }

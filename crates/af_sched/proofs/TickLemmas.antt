@@ -12,7 +12,7 @@ use Rattle.af_sched.specs.State.{StateRows, AreRows, IsWhole}
 use Rattle.af_sched.specs.Tick.{IsTick}
 use Rattle.af_sched.specs.declared.dag_row.DagRow.{DagRow}
 use Rattle.af_sched.proofs.KeyLemmas.{whole_started, whole_settled, whole_finished, whole_queued}
-use Rattle.af_sched.proofs.LikeLemmas.{Alike, alike_with, moved_with, AreRows-alike}
+use Rattle.af_sched.proofs.LikeLemmas.{Alike, alike_with, moved_with, AreRows-same, same_dags}
 use Rattle.af_sched.proofs.PlanLemmas.{whole_rows, found_row}
 use Rattle.af_sched.proofs.QueueLemmas.{queued_state_is_one}
 use Rattle.af_sched.proofs.SettleLemmas.{settled_state_is_one}
@@ -23,7 +23,7 @@ alike_moved t dags =
 
 pub rows_created : (t : ℕ) (old : StateRows) → AreRows old.dags old.runs → AreRows (created t old).dags (created t old).runs
 rows_created t old are =
-    AreRows-alike old.dags (map (moved_row t) old.dags) old.runs (fold (with_runs_of t) old old.dags).runs (alike_moved t old.dags)
+    AreRows-same old.dags (map (moved_row t) old.dags) old.runs (fold (with_runs_of t) old old.dags).runs (same_dags old.dags (map (moved_row t) old.dags) (alike_moved t old.dags))
     (whole_rows old.dags t old.dags old (found_row old.dags are.in_order) are.whole) are
 
 with_whole : (dags : List DagRow) (was runs : List Run) → All (IsWhole dags) runs → AreRows dags was → AreRows dags runs

@@ -1,5 +1,5 @@
 -- What the steps of the calls keep. No public contract cites this file.
-use Rattle.std.specs.Prelude.{ℕ, ◌≡◌, ◌<◌, ◌++◌, Bool, fold, length, List, Option, Some, None, slice_index_or, slice_set, if◌then◌else◌}
+use Rattle.std.specs.Prelude.{ℕ, ◌≡◌, ◌≢◌, ◌<◌, ◌++◌, Bool, true, false, fold, length, List, Option, Some, None, slice_index_or, slice_set, if◌then◌else◌}
 use Rattle.std.specs.List.{list_any}
 use Rattle.af_graph.specs.States.{same_state}
 use Rattle.af_graph.specs.declared.task_spec.TaskSpec.{TaskSpec}
@@ -11,13 +11,14 @@ use Rattle.af_runs.specs.declared.run.Run.{Run}
 use Rattle.af_sched.specs.Create.{with_run, with_runs_of}
 use Rattle.af_sched.specs.Settle.{settled_instance, verdict_at}
 use Rattle.af_sched.specs.Placed.{Placed, comes_before, IsFirstOf}
-use Rattle.af_sched.specs.State.{StateRows, dag_of}
+use Rattle.af_sched.specs.State.{StateRows, is_of_id}
 use Rattle.af_sched.specs.declared.dag_row.DagRow.{DagRow}
 
--- the row at this place is that of the DAG of this id
+-- the row at this place is that of the DAG of this id, and no other row is
 pub record StandsAt (dags : List DagRow) (dag_id : List ℕ) (place : ℕ) : Type 0 where
   pub within : place < length dags
-  pub found : (d : DagRow) → dag_of dags dag_id ≡ Some (slice_index_or dags place d)
+  pub here : (d : DagRow) → is_of_id dag_id (slice_index_or dags place d) ≡ true
+  pub alone : (other : ℕ) (d : DagRow) → other < length dags → other ≢ place → is_of_id dag_id (slice_index_or dags other d) ≡ false
 
 -- of two instances that come first, the one that does
 abbrev pub earlier : Option Placed → Placed → Placed

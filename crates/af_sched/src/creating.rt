@@ -1,7 +1,8 @@
-ghost use Rattle.std.specs.Prelude.{◌≡◌, ◌∷◌, [], IfOk, OnOk, map, codes, ◌++◌};
+ghost use Rattle.std.specs.Prelude.{◌≡◌, ◌∷◌, [], IfOk, IsOk, IsSome, OnOk, map, codes, ◌++◌};
 ghost use Rattle.af_names.specs.Isoformat.{isoformat};
 ghost use Rattle.af_graph.specs.Schedules.{is_scheduled};
 ghost use Rattle.af_runs.specs.Additions.{together};
+ghost use Rattle.af_runs.specs.Runs.{refusal};
 ghost use Rattle.af_sched.specs.Create.{moved_row, run_for, runs_due, runs_of_row, cursor_due};
 ghost use Rattle.af_sched.specs.Steps.{TakesRuns, TakesRunsOf};
 
@@ -160,10 +161,11 @@ fn add_all(added: Vec<NewRun>, additions: &mut Additions<'_>) -> Result<(), Allo
     Ok(())
 }
 
-/// Adds a run, unless its id or its date is taken, or its DAG is at its limit of runs.
+/// Adds a run, unless its id or its date is taken, or its DAG is at its limit of runs: then it is passed over, memory or not.
 fn add(new: NewRun, additions: &mut Additions<'_>) -> Result<(), AllocError>
     ensures runs { OnOk result (TakesRuns (new ∷ []) (together additions.old) (together additions.new)) }
     ensures before { additions.new.before ≡ additions.old.before }
+    ensures passed_over { IsSome (refusal (together additions.old) new) → IsOk result }
 {
     match additions.add_run(new) {
         Err(RunFault::OutOfMemory) => Err(AllocError),

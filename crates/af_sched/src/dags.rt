@@ -1,5 +1,5 @@
-ghost use Rattle.std.specs.Prelude.{◌≡◌, None, MatchOption, option_copied};
-ghost use Rattle.af_sched.specs.State.{AreInOrder, dag_of, tasks_of};
+ghost use Rattle.std.specs.Prelude.{◌≡◌, MatchResult, option_copied};
+ghost use Rattle.af_sched.specs.State.{AreInOrder, FitsAt, dag_of, tasks_of};
 ghost use Rattle.af_sched.specs.Steps.{StandsAt};
 
 use crate::dag_row::DagRow;
@@ -40,22 +40,23 @@ impl<'a> Dags<'a> {
         self.rows
     }
 
-    /// The DAG of this id, found by halving.
+    /// The DAG of this id, found by binary search.
     pub(crate) fn get(&self, dag_id: &DagId) -> Option<&'a DagRow>
         ensures { option_copied result ≡ dag_of self.now dag_id.now }
     {
-        let place = self.place_of(dag_id)?;
+        let Ok(place) = self.place_of(dag_id) else {
+            return None;
+        };
         let rows = self.rows();
         Some(&rows[place])
     }
 
-    /// Where the row of the DAG of this id stands.
-    fn place_of(&self, dag_id: &DagId) -> Option<usize>
-        ensures { MatchOption result (dag_of self.now dag_id.now ≡ None) (StandsAt self.now dag_id.now) }
+    /// Where the row of the DAG of this id stands, or where it would.
+    pub(crate) fn place_of(&self, dag_id: &DagId) -> Result<usize, usize>
+        ensures { MatchResult result (StandsAt self.now dag_id.now) (FitsAt self.now dag_id.now) }
     {
         self.rows
             .binary_search_by(|row| row.dag.dag_id().cmp(dag_id))
-            .ok()
     }
 
     /// The tasks of the DAG of this id; none where it is not there.

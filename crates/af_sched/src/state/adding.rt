@@ -1,14 +1,14 @@
-ghost use Rattle.std.specs.Prelude.{◌≡◌, Err, Some, IfOk, IfErr, IfSome, IsNone, OnOk, OnErr, IsOk, MatchResult, true};
+ghost use Rattle.std.specs.Prelude.{◌≡◌, ◌≢◌, ◌+◌, ◌<◌, ◌≤◌, Err, Some, IfOk, IfErr, IfSome, IsNone, OnOk, OnErr, is_ok, if◌then◌else◌};
 ghost use Rattle.af_pool.specs.Pools as pools;
 ghost use Rattle.af_runs.specs.Runs as runs;
 ghost use Rattle.af_sched.specs.Additions.{AddsRun, IsOkOrOutOfMemory, IsWholeNew};
-ghost use Rattle.af_sched.specs.State.{CanAdd, FitsAt, dag_fault, has_dag, with_dag};
+ghost use Rattle.af_sched.specs.State.{CanAdd, dag_fault, with_dag};
 
 use crate::add_dag_fault::AddDagFault;
 use crate::dag_row::DagRow;
 use crate::state::State;
 use af_graph::DagSpec;
-use af_names::{DagId, PoolName};
+use af_names::{DagId, Instant, PoolName, RunId};
 use af_pool::PoolFault;
 use af_runs::{NewRun, RunFault};
 
@@ -36,35 +36,42 @@ impl State {
         ensures ok { IfOk result (CanAdd self.now.rows.dags dag.now.dag_id) }
         ensures err { IfErr result (λ fault. dag_fault self.now.rows.dags dag.now.dag_id ≡ Some fault) }
     {
-        match self.place_of(&dag.dag_id) {
+        match self.by_id().place_of(&dag.dag_id) {
             Ok(_) => Err(AddDagFault::Exists),
             Err(_) if self.dags.len() >= MOST_DAGS => Err(AddDagFault::Full),
             Err(place) => Ok(place),
         }
     }
 
-    /// Where the row of the DAG of this id stands, or where it would.
-    fn place_of(&self, dag_id: &DagId) -> Result<usize, usize>
-        ensures { MatchResult result (λ _. has_dag self.now.rows.dags dag_id.now ≡ true) (FitsAt self.now.rows.dags dag_id.now) }
+    /// Why a run of these ids and this logical date would not be added, memory aside: the fault of `Runs::add_fault`.
+    pub fn run_fault(
+        &self,
+        dag_id: &DagId,
+        run_id: &RunId,
+        logical_date: Instant,
+    ) -> Option<RunFault>
+        ensures { result ≡ runs.add_fault self.now.rows.runs self.now.rows.next_run dag_id.now run_id.now logical_date }
     {
-        self.dags
-            .binary_search_by(|row| row.dag.dag_id().cmp(dag_id))
+        self.runs.add_fault(dag_id, run_id, logical_date)
     }
 
     /// Adds a run, queued, and tells its number. Its faults are those of `Runs::add_run`; a fault leaves the rows as they
-    /// were, and `OutOfMemory` comes only where a growth was refused.
+    /// were, and `OutOfMemory` comes only where a growth was refused, never where memory is reserved.
     pub fn add_run(&mut self, new: NewRun) -> Result<u64, RunFault>
         requires { IsWholeNew self.old.rows new }
         ensures refused { IfSome (runs.add_fault self.old.rows.runs self.old.rows.next_run new.dag_id new.run_id new.logical_date) (λ fault. result ≡ Err fault) }
         ensures accepted { IsNone (runs.add_fault self.old.rows.runs self.old.rows.next_run new.dag_id new.run_id new.logical_date) → runs.IsOkOrOutOfMemory result }
         ensures ok { IfOk result (AddsRun self.old.rows self.new.rows new) }
         ensures err { OnErr result (self.new.rows ≡ self.old.rows) }
+        ensures roomy { 0 < self.old.spare_runs → result ≢ Err RunFault.OutOfMemory }
+        ensures spare { self.old.spare_runs ≤ self.new.spare_runs + (if is_ok result then 1 else 0) }
+        ensures spare_pools { self.new.spare_pools ≡ self.old.spare_pools }
     {
         self.runs.add_run(new)
     }
 
     /// Adds a pool. Its faults are those of `Pools::add`; a fault leaves the rows as they were, and `OutOfMemory` comes
-    /// only where a growth was refused.
+    /// only where a growth was refused, never where memory is reserved.
     pub fn add_pool(&mut self, name: PoolName, slots: u64) -> Result<(), PoolFault>
         ensures refused { IfSome (pools.add_fault self.old.rows.pools name slots) (λ fault. result ≡ Err fault) }
         ensures accepted { IsNone (pools.add_fault self.old.rows.pools name slots) → pools.IsOkOrOutOfMemory result }
@@ -72,19 +79,10 @@ impl State {
           pools = pools.with_pool self.old.rows.pools record { name = name; slots = slots };
         }) }
         ensures err { OnErr result (self.new.rows ≡ self.old.rows) }
+        ensures roomy { 0 < self.old.spare_pools → result ≢ Err PoolFault.OutOfMemory }
+        ensures spare { self.old.spare_pools ≤ self.new.spare_pools + (if is_ok result then 1 else 0) }
+        ensures spare_runs { self.new.spare_runs ≡ self.old.spare_runs }
     {
         self.pools.add(name, slots)
-    }
-
-    /// Gives a pool other slots. Its faults are those of `Pools::set_slots`; a fault leaves the state as it was.
-    pub fn set_slots(&mut self, name: &PoolName, slots: u64) -> Result<(), PoolFault>
-        ensures refused { IfSome (pools.set_fault self.old.rows.pools name.now slots) (λ fault. result ≡ Err fault) }
-        ensures accepted { IsNone (pools.set_fault self.old.rows.pools name.now slots) → IsOk result }
-        ensures ok { OnOk result (self.new ≡ record self.old {
-          rows = record self.old.rows { pools = pools.with_slots self.old.rows.pools name.now slots };
-        }) }
-        ensures err { OnErr result (self.new ≡ self.old) }
-    {
-        self.pools.set_slots(name, slots)
     }
 }

@@ -1,6 +1,6 @@
-ghost use Rattle.std.specs.Prelude.{◌≡◌, IfOk, OnErr, MatchOption, true};
+ghost use Rattle.std.specs.Prelude.{◌≡◌, IfOk, None, Ok, OnErr, MatchOption, true};
 ghost use Rattle.af_sched.specs.Claims.{is_claimable, Claims, ClaimsNone, claim_of};
-ghost use Rattle.af_sched.specs.Placed.{IsFirstOf, placed_of, placed_in};
+ghost use Rattle.af_sched.specs.Placed.{IsFirstOf, NonePasses, placed_of, placed_in};
 ghost use Rattle.af_sched.specs.State.{tasks_of};
 ghost use Rattle.af_sched.specs.Steps.{Continues, first_with, has_queued};
 
@@ -15,10 +15,11 @@ use std::alloc::{AllocError, Global};
 
 impl State {
     /// Claims the first queued instance, of all runs, by falling weight, then by run number, then by place: it is
-    /// running from this moment on. None where none is queued; one that was tried 4,294,967,295 times is passed over.
-    /// `AllocError` only where a growth was refused; then the state is as before.
+    /// running from this moment on. None where none is queued, memory or not; one that was tried 4,294,967,295 times is
+    /// passed over. `AllocError` only where a growth was refused; then the state is as before.
     pub fn claim(&mut self, alloc: Global, at: Instant) -> Result<Option<Claim>, AllocError>
         ensures ok { IfOk result (λ claim. MatchOption claim (ClaimsNone self.old.rows self.new.rows) (Claims at self.old.rows self.new.rows)) }
+        ensures none { NonePasses is_claimable (placed_in self.old.rows.dags self.old.rows.runs) → result ≡ Ok None }
         ensures err { OnErr result (self.new ≡ self.old) }
         ensures spare_runs { self.new.spare_runs ≡ self.old.spare_runs }
         ensures spare_pools { self.new.spare_pools ≡ self.old.spare_pools }

@@ -44,7 +44,7 @@ impl State {
     }
 }
 
-/// The instance that a claim names: by the number of its run, which is searched by halving, and the id of its task.
+/// The instance that a claim names: by the number of its run, which is found by binary search, and the id of its task.
 fn instance_of<'a>(dags: &Dags<'a>, runs: &'a [Run], claim: &Claim) -> Option<PlacedInstance<'a>>
     requires { IsStrictlySortedBy nat_cmp (map (λ run. run.number) runs.now) }
     ensures { result ≡ find (is_claimed claim.now) (placed_in dags.now runs.now) }

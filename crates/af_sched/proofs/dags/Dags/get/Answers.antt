@@ -1,12 +1,13 @@
 use Rattle.std.proofs.Common.{sym, ◌∙◌, ap, get_or, List}
-use Rattle.std.specs.Prelude.{option_copied, Some}
+use Rattle.std.specs.Prelude.{Some}
 use Rattle.af_sched.specs.declared.dag_row.DagRow.{DagRow}
+use Rattle.af_sched.proofs.StandingLemmas.{dag_of-is, dag_of-none}
 use Rattle.af_sched.proofs.dags.Dags.get.Goals as goal
 
-pub returns-in_err-place : goal.returns-in_err-place
-returns-in_err-place c = ap option_copied c.from_residual.ensures ∙ sym c.in_err-place.ensures
+pub returns-in_default : goal.returns-in_default
+returns-in_default c = sym (dag_of-none c.args.self.now c.args.dag_id.now c.in_default.ensures.absent)
 
 pub returns : goal.returns
 returns c =
     let row : DagRow = c.index-rows-place.result in
-    ap Some (c.index-rows-place.is ∙ ap (λ (rows : List DagRow). get_or rows c.in_ok-place.place row) c.rows-rows.ensures) ∙ sym (c.in_ok-place.ensures.found row)
+    ap Some (c.index-rows-place.is ∙ ap (λ (rows : List DagRow). get_or rows c.in-Ok.place row) c.rows-rows.ensures) ∙ sym (dag_of-is c.args.self.now c.args.dag_id.now c.in-Ok.place c.in-Ok.ensures row)
