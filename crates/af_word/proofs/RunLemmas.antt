@@ -50,7 +50,7 @@ opened_kept first last small = record {
     at_zero : (k x : ℕ) → k ≡ 0 → x ≡ first → slice_get (first ∷ []) k ≡ Some x
     at_zero k x here same = rw (here, same) refl
 
-    one : (by : ℕ) (v : View) → get_elem? (sight first last (first ∷ []) [] ∷ []) by ≡ some v → Knows first last (first ∷ []) v
+    one : (by : ℕ) (v : View) → get_elem? (sight first last (first ∷ []) [] 0 ∷ []) by ≡ some v → Knows first last (first ∷ []) v
     one zero v e = subst (Knows first last (first ∷ [])) (some-injective _ _ e) (record { seen = prefix_self (first ∷ []); told = prefix_empty (first ∷ []); of = λ _. (refl, refl) })
     one (suc by) v e = absurd (some-ne-none v (sym e))
 

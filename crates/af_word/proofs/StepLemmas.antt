@@ -25,7 +25,7 @@ abbrev standing_of : (first last : ℕ) (words : List ℕ) (views : List View) �
 standing_of first last words views kept = record { word = kept.word; places = kept.places; views = views }
 
 -- the opening
-pub opens : (first last : ℕ) → first < 2 ^ 32 → Rule first last (table.opening (first ∷ []) [] (sight first last (first ∷ []) []))
+pub opens : (first last : ℕ) → first < 2 ^ 32 → Rule first last (table.opening (first ∷ []) [] (sight first last (first ∷ []) [] 0))
 opens first last small = record { word = first; places = first ∷ []; words_are = refl; run = opening small }
 
 -- what a seat's view says once it has seen a list
@@ -34,6 +34,7 @@ told_now first last v places word of within names = record {
   first_is = refl;
   last_is = refl;
   told = refl;
+  counted = refl;
   within = subst (λ (x : ℕ × ℕ). Within x.0 x.1 places) (λ i. (sym of.0 i, sym of.1 i)) within;
   names = names;
 }

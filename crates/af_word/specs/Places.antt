@@ -26,7 +26,9 @@ pub record WordId : Type 0 where
   pub first : ℕ
   pub last : ℕ
 
--- what a pass has seen, and of which word
+-- what a pass has seen, of which word, and how many looks and exchanges it took, those of the pass that it was split from
+-- before that among them
 pub record Sight : Type 0 where
   pub word : WordId
   pub places : List ℕ
+  pub steps : ℕ

@@ -1,6 +1,6 @@
 -- The six kinds of atomic step on a version word: what each may do to the word, to its list of places, and to what the seats know.
 -- The opening is the first; the five others stand under `Does`. This product's own rule.
-use Rattle.std.specs.Prelude.{◌≡◌, ℕ, ◌^◌, ◌<◌, ◌≤◌, List, [], ◌∷◌, ◌++◌, length, slice_set}
+use Rattle.std.specs.Prelude.{◌≡◌, ℕ, ◌+◌, ◌^◌, ◌<◌, ◌≤◌, List, [], ◌∷◌, ◌++◌, length, slice_set}
 use mathlib.Core.Option.{some}
 use mathlib.Core.List.{IsPrefix}
 use lib.ListN.{get_elem?}
@@ -18,24 +18,24 @@ abbrev pub IsSeat : Standing → ℕ → View → Type 0
 IsSeat s seat v = get_elem? s.views seat ≡ some v
 
 -- a view of a word with this first place and this last version
-abbrev pub sight : ℕ → ℕ → List ℕ → List ℕ → View
-sight first last seen told = record { first = first; last = last; seen = seen; told = told }
+abbrev pub sight : ℕ → ℕ → List ℕ → List ℕ → ℕ → View
+sight first last seen told steps = record { first = first; last = last; seen = seen; told = told; steps = steps }
 
--- the view of a seat that has seen this list, and was told of no other since
+-- the view of a seat that sees this list by one step more, and was told of no other since
 abbrev pub sees : View → List ℕ → View
-sees v places = sight v.first v.last places []
+sees v places = sight v.first v.last places [] (v.steps + 1)
 
 -- the view of a seat that is told of what another has seen, and keeps what it has seen itself
 abbrev pub informed : View → View → View
-informed v u = sight v.first v.last v.seen u.seen
+informed v u = sight v.first v.last v.seen u.seen v.steps
 
 -- the view of a seat that was given up: it knows nothing
 abbrev pub nobody : View
-nobody = sight 0 0 [] []
+nobody = sight 0 0 [] [] 0
 
--- the opening: the list is the first place, which the word names at version 0, and the one seat has seen it
+-- the opening: the list is the first place, which the word names at version 0, and the one seat has seen it without a step
 abbrev pub opened : ℕ → ℕ → Standing
-opened first last = record { word = first; places = first ∷ []; views = sight first last (first ∷ []) [] ∷ [] }
+opened first last = record { word = first; places = first ∷ []; views = sight first last (first ∷ []) [] 0 ∷ [] }
 
 -- after a look of this seat: it has seen the whole list, and the word, the list and all other views stay
 abbrev pub looked : Standing → ℕ → View → Standing

@@ -1,16 +1,17 @@
 -- What a step tells the seat that takes it, which sees no standing as a whole.
-use Rattle.std.specs.Prelude.{◌≡◌, ℕ, ◌%◌, ◌^◌, ◌==◌, [], ◌∷◌, ◌++◌, MatchBool}
+use Rattle.std.specs.Prelude.{◌≡◌, ℕ, ◌+◌, ◌%◌, ◌^◌, ◌==◌, [], ◌∷◌, ◌++◌, MatchBool}
 use mathlib.Core.List.{IsPrefix}
 use Rattle.atomic_table.specs.Table.{Step, Me}
 use Rattle.af_prefixes.specs.Beginnings.{IsLonger}
 use Rattle.af_word.specs.declared.view.View.{View}
 use Rattle.af_word.specs.Places.{Names, Within}
 
--- the view has now seen a list whose end this word names, and was told of none
+-- the view has now seen a list whose end this word names, by one step more, and was told of none
 pub record Now (v w : View) (found : ℕ) : Type 0 where
   pub first_is : w.first ≡ v.first
   pub last_is : w.last ≡ v.last
   pub told : w.told ≡ []
+  pub counted : w.steps ≡ v.steps + 1
   pub within : Within v.first v.last w.seen
   pub names : Names found w.seen
 

@@ -17,6 +17,3 @@ pub use laws::{
 pub use pass::Pass;
 pub use seen::Seen;
 pub use word::VersionWord;
-
-#[cfg(test)]
-mod tests;

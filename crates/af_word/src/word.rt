@@ -1,4 +1,4 @@
-ghost use Rattle.std.specs.Prelude.{◌≡◌, ◌+◌, ◌<◌, ◌++◌, ◌∷◌, [], ◌↔◌, length, IfOk, IfErr};
+ghost use Rattle.std.specs.Prelude.{◌≡◌, ◌+◌, ◌<◌, ◌==◌, ◌++◌, ◌∷◌, [], ◌↔◌, length, IfOk, IfErr, if◌then◌else◌};
 ghost use mathlib.Core.List.{IsPrefix};
 ghost use Rattle.af_prefixes.specs.Beginnings.{Agree};
 ghost use Rattle.af_word.specs.Places.{EndsAt, Within};
@@ -37,7 +37,7 @@ impl VersionWord {
     /// Without memory for its table it is an `OutOfMemory`; no other call takes memory.
     pub fn open(alloc: Global, index: u32, last: u32) -> Result<(VersionWord, Pass), OutOfMemory>
         ensures word { IfOk result (λ r. (r.0.first ≡ index) × (r.0.last ≡ last)) }
-        ensures pass { IfOk result (λ r. (r.1.word ≡ r.0) × (r.1.places ≡ index ∷ [])) }
+        ensures pass { IfOk result (λ r. r.1 ≡ record { word = r.0; places = index ∷ []; steps = 0 }) }
     {
         let Ok((table, seat)) = Table::of_words(alloc, &[u64::from(index)], &(index, last)) else {
             return Err(OutOfMemory);
@@ -60,6 +60,7 @@ impl VersionWord {
         ensures longer { IsPrefix pass.old.places pass.new.places }
         ensures within { Within self.now.first self.now.last pass.new.places }
         ensures seen { EndsAt pass.new.places result.version result.index }
+        ensures step { pass.new.steps ≡ pass.old.steps + 1 }
     {
         let found = self.table.shared.load::<Look>(&mut pass.seat, 0);
         let current = Seen::unpacked(found);
@@ -68,8 +69,8 @@ impl VersionWord {
     }
 
     /// Adds a place behind version `at`, which the pass has seen, and answers `at + 1`.
-    /// Where `at` is the last version it is `Last`, without a step. Where a later version stands it is `Moved`, by one exchange,
-    /// or by one load where the pass had seen a later one already.
+    /// Where `at` is the last version it is `Last`, without a step. Else it takes one step: an exchange, or a load where the pass
+    /// had seen a later version already. It is `Moved` where that step finds a later version than `at`: the last that there then was.
     pub fn publish(&self, pass: &mut Pass, at: u32, index: u32) -> Result<u32, PublishFault>
         requires word { pass.old.word ≡ self.now }
         requires seen { at < length pass.old.places }
@@ -78,7 +79,8 @@ impl VersionWord {
         ensures within { Within self.now.first self.now.last pass.new.places }
         ensures ok { IfOk result (λ v. (v ≡ at + 1) × (length pass.old.places ≡ at + 1) × (pass.new.places ≡ pass.old.places ++ index ∷ []) × EndsAt pass.new.places v index) }
         ensures last { (result ≡ Err PublishFault.Last) ↔ (at ≡ self.now.last) }
-        ensures err { IfErr result (λ f. Explains self.now.last at pass.old.places pass.new.places f) }
+        ensures err { IfErr result (λ f. Explains self.now.last at pass.old pass.new f) }
+        ensures step { pass.new.steps ≡ pass.old.steps + (if at == self.now.last then 0 else 1) }
     {
         let seen = pass.seen();
         if at == self.last {
@@ -126,6 +128,7 @@ impl VersionWord {
         ensures longer { IsPrefix pass.old.places pass.new.places }
         ensures other { IsPrefix other.places pass.new.places }
         ensures within { Within self.now.first self.now.last pass.new.places }
+        ensures step { pass.new.steps ≡ pass.old.steps + 1 }
     {
         let Pass { seat, .. } = other;
         self.table.shared.join_seat::<Inform>(&mut pass.seat, seat);

@@ -1,5 +1,5 @@
 use Rattle.std.proofs.Common.{◌≡◌}
-use Rattle.af_word.proofs.tests.hundred_won.Given as goal
+use Rattle.af_word_tests.proofs.tests.raced.hundred_won.Given as goal
 
 -- the pass stays one of the word
 abbrev pub invariant-loop : goal.invariant-loop

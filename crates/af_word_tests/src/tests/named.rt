@@ -3,7 +3,7 @@ ghost use Rattle.std.specs.Prelude.{◌≡◌};
 ghost use mathlib.Core.List.{IsPrefix};
 ghost use Rattle.af_word.specs.Places.{EndsAt};
 
-use crate::{Pass, Seen, VersionWord};
+use af_word::{Pass, Seen, VersionWord};
 use std::marker::{Brand, Model, PhantomData};
 use std::mem;
 use std::process::Abort;
