@@ -1,6 +1,10 @@
 -- Permissions put one by one into an empty set, and what a DAG's access control lists.
-use Rattle.std.proofs.Common.{◌≡◌, ℕ, suc, ◌+◌, ◌<◌, length, take, get_or, add-one, List, [], ◌∷◌, ◌++◌, Bool, true, false, not, Option, Some, None, cond, refl, sym, ap, subst, ◌∙◌, map, fold, append_assoc}
-use Rattle.std.specs.List.{AllByRecursion, filter, filter_map, flat_map}
+use Rattle.std.proofs.Common.{◌≡◌, ℕ, suc, ◌+◌, ◌<◌, length, take, get_or, add-one, List, [], ◌∷◌, ◌++◌, Bool, true, false, not, ◌||◌, ◌&&◌, nat_eq, Option, Some, None, cond, refl, sym, ap, subst, ◌∙◌, map, fold, append_assoc}
+use Rattle.std.specs.List.{AllByRecursion, filter, filter_map, flat_map, list_any}
+use Rattle.std.specs.Cmp.Lexicographic.{pointwise}
+use Rattle.af_role.specs.declared.access.AccessRow.{AccessRow}
+use Rattle.af_role.specs.Access.{is_about, is_admin_name, listed_pairs, names_role, pairs_at, row_pairs, synced_role}
+use Rattle.af_role.specs.Roles.{RoleRow}
 use Rattle.std.specs.List.Sorted.{IsStrictlySortedBy}
 use Rattle.std.specs.Cmp.{IsTotalOrder}
 use Rattle.std.specs.Cmp.Rules.{comparing}
@@ -68,3 +72,32 @@ append-nil (z ∷ zs) = ap (λ rest. z ∷ rest) (append-nil zs)
 
 pub flat_map-one : {X Y : Type 0} (f : X → List Y) (x : X) → flat_map f (x ∷ []) ≡ f x
 flat_map-one f x = flat_map-cons f x [] ∙ append-nil (f x)
+
+-- ---- a role that a sync does not touch
+
+or-false : (a b : Bool) → (a || b) ≡ false → (a ≡ false) × (b ≡ false)
+or-false true b e = cc
+or-false false b e = (refl, e)
+
+filter-none : {X : Type 0} (p : X → Bool) (xs : List X) → list_any p xs ≡ false → filter (λ x. not (p x)) xs ≡ xs
+filter-none p [] none = refl
+filter-none p (x ∷ xs) none =
+    let parts = or-false (p x) (list_any p xs) none
+    in (λ i. cond (not (parts.0 i)) (x ∷ filter (λ y. not (p y)) xs) (filter (λ y. not (p y)) xs))
+    ∙ ap (λ rest. x ∷ rest) (filter-none p xs parts.1)
+
+listed-none : (dag name : List ℕ) (access : List AccessRow) → names_role access name ≡ false → listed_pairs dag access name ≡ []
+listed-none dag name [] none = refl
+listed-none dag name (row ∷ rows) none =
+    let parts = or-false (pointwise nat_eq row.role name) (names_role rows name) none
+    in flat_map-cons (row_pairs dag name) row rows
+    ∙ (λ i. cond (parts.0 i) (pairs_at dag row.actions) [] ++ listed-none dag name rows parts.1 i)
+
+pub untouched : (dag : List ℕ) (access : List AccessRow) (role : RoleRow) → ((not (is_admin_name role.name) && list_any (is_about dag) role.pairs) || names_role access role.name) ≡ false → synced_role dag access role ≡ role
+untouched dag access role none =
+    let parts = or-false (not (is_admin_name role.name) && list_any (is_about dag) role.pairs) (names_role access role.name) none
+    in (λ i. record { name = role.name; pairs = with_pairs (kept (is_admin_name role.name) parts.0 i) (listed-none dag role.name access parts.1 i) })
+  where
+    kept : (admin : Bool) → (not admin && list_any (is_about dag) role.pairs) ≡ false → cond admin role.pairs (filter (λ pair. not (is_about dag pair)) role.pairs) ≡ role.pairs
+    kept true out = refl
+    kept false out = filter-none (is_about dag) role.pairs out

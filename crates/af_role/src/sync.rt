@@ -1,4 +1,4 @@
-ghost use Rattle.std.specs.Prelude.{◌≡◌, ◌⊎◌, ◌||◌, ◌&&◌, not, Ok, Err, IfOk, IfErr, OnOk, OnErr, map};
+ghost use Rattle.std.specs.Prelude.{◌≡◌, ◌⊎◌, ◌||◌, ◌&&◌, false, not, Ok, Err, IfOk, IfErr, OnOk, OnErr, map};
 ghost use Rattle.std.specs.List.{list_any};
 ghost use Rattle.std.specs.Option.{option_copied};
 ghost use Rattle.af_role.specs.Access.{has_role, is_about, is_admin_name, kept_pairs, names_role, synced, synced_role, unknown_role};
@@ -105,8 +105,10 @@ impl Role {
     }
 
     /// Whether a sync of a DAG's access control may change the role; where not, it stays as it is.
+    #[tactic(auto, using(crate::proofs::AccessLemmas::untouched))]
     pub fn is_touched(&self, dag: &DagId, access: &AccessControl) -> bool
-        ensures { result ≡ ((not (is_admin_name self.now.name) && list_any (is_about dag.now) self.now.pairs) || names_role access.now self.now.name) }
+        ensures test { result ≡ ((not (is_admin_name self.now.name) && list_any (is_about dag.now) self.now.pairs) || names_role access.now self.now.name) }
+        ensures stays { result ≡ false → synced_role dag.now access.now self.now ≡ self.now }
     {
         (!self.is_admin() && self.permissions().has_any_on(dag)) || access.names(self.name())
     }
