@@ -3,6 +3,10 @@ pub mod FoundLemmas
 pub mod ShapeLemmas
 pub mod NameLemmas
 pub mod UserLemmas
+pub mod UseLemmas
 pub mod ViewLemmas
 pub mod DraftLemmas
+pub mod RemovalLemmas
+pub mod ChangeLemmas
+pub mod SyncLemmas
 pub mod GrantLemmas

@@ -13,23 +13,23 @@ use Rattle.af_policy.proofs.NameLemmas.{is_some-find}
 use Rattle.af_policy.specs.SharedRows.{with_row}
 use Rattle.af_policy.proofs.FoundLemmas.{found_with}
 
-or-false_left : (a b : Bool) → (a || b) ≡ false → a ≡ false
+pub or-false_left : (a b : Bool) → (a || b) ≡ false → a ≡ false
 or-false_left true b e = e
 or-false_left false b e = refl
 
-or-false_right : (a b : Bool) → (a || b) ≡ false → b ≡ false
+pub or-false_right : (a b : Bool) → (a || b) ≡ false → b ≡ false
 or-false_right true b e = cc
 or-false_right false b e = e
 
-and-true_left : (a b : Bool) → (a && b) ≡ true → a ≡ true
+pub and-true_left : (a b : Bool) → (a && b) ≡ true → a ≡ true
 and-true_left true b e = refl
 and-true_left false b e = e
 
-and-true_right : (a b : Bool) → (a && b) ≡ true → b ≡ true
+pub and-true_right : (a b : Bool) → (a && b) ≡ true → b ≡ true
 and-true_right true b e = e
 and-true_right false b e = cc
 
-not-true : (b : Bool) → not b ≡ true → b ≡ false
+pub not-true : (b : Bool) → not b ≡ true → b ≡ false
 not-true true e = cc
 not-true false e = refl
 
@@ -59,7 +59,7 @@ not_both d a b apart = step (same_digest d b) (same_digest d a) refl refl
         in sym ((bytes_decides a b).1 e) ∙ apart
 
 -- a name that nobody has does not tie
-not_tied : (name other : List ℕ) → same_name name other ≡ false → slice_cmp nat_cmp name other ≡ Equal → true ≡ false
+pub not_tied : (name other : List ℕ) → same_name name other ≡ false → slice_cmp nat_cmp name other ≡ Equal → true ≡ false
 not_tied name other apart is = sym (ap is_eq is) ∙ sym (texts_ties name other) ∙ apart
 
 -- whose digest it is, after a user is added

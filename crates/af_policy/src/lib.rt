@@ -1,25 +1,36 @@
 //! Policies: who is behind a token, and which permissions the roles of each user grant.
 #![tactic(auto)]
 
+mod change;
+mod change_fault;
+mod change_kind;
+mod changing;
 mod draft;
 mod identity;
 mod laws;
 mod policy;
 mod reader;
+mod role_names;
 mod role_rows;
 mod role_table;
 mod row_fault;
 mod shared;
+mod tables;
 mod user;
 mod user_rows;
 mod user_table;
+mod uses;
 mod view;
 mod worked;
 
+pub use change::{Change, DagAccess, RoleInput, UserPatch};
+pub use change_fault::ChangeFault;
+pub use change_kind::ChangeKind;
 pub use draft::{NoAdmin, PolicyDraft};
 pub use laws::{grants_by_roles, only_users_are_granted};
 pub use policy::Policy;
 pub use reader::Reader;
+pub use role_names::RoleNames;
 pub use row_fault::RowFault;
 pub use user::User;
 pub use view::PolicyView;

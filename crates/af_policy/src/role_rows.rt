@@ -29,6 +29,13 @@ impl RoleByName {
         RoleByName { role }
     }
 
+    /// The role.
+    pub(crate) fn role(&self) -> &Role
+        ensures { result.now ≡ self.now }
+    {
+        &self.role
+    }
+
     /// What the role permits.
     pub(crate) fn permissions(&self) -> &Permissions
         ensures { result.now ≡ self.now.pairs }

@@ -1,14 +1,18 @@
-ghost use Rattle.std.specs.Prelude.{◌≡◌, [], length, IfOk, OnOk, OnErr};
+ghost use Rattle.std.specs.Prelude.{◌≡◌, ◌⊎◌, [], length, map, not, IfOk, OnOk, OnErr};
+ghost use Rattle.af_role.specs.Access.{synced_role};
+ghost use Rattle.af_policy.specs.SharedRows.{seen};
+ghost use Rattle.std.specs.List.{find};
 ghost use Rattle.std.specs.Option.{option_copied};
 ghost use Rattle.af_role.specs.Pairs.{on_dag, on_kind};
-ghost use Rattle.af_policy.specs.Rows.{NamesAscend, has_role, has_roles, role_names, with_role};
+ghost use Rattle.af_policy.specs.Rows.{NamesAscend, has_role, has_roles, role_names, with_role, without_role};
 ghost use Rattle.af_policy.specs.Grants.{role_lists, some_role_lists};
+ghost use Rattle.af_policy.specs.Changes.{unknown_role, unknown_row};
 ghost use Rattle.af_policy.specs.Tables.{pairs_of};
 
 use crate::role_rows::RoleByName;
 use crate::shared::Table;
 use af_names::{DagId, RoleName};
-use af_role::{Action, Permissions, ResourceKind, Role};
+use af_role::{AccessControl, AccessRow, Action, Permissions, ResourceKind, Role};
 use std::alloc::{AllocError, Global};
 use std::marker::Model;
 use std::sync::Arc;
@@ -61,6 +65,30 @@ impl RoleTable {
         Ok(())
     }
 
+    /// Takes out the role of a name, if there is one.
+    pub(crate) fn remove(&mut self, name: &RoleName) -> Result<(), AllocError>
+        ensures ok { OnOk result (self.new ≡ without_role self.old name.now) }
+        ensures err { OnErr result (self.new ≡ self.old) }
+    {
+        self.by_name.remove(self.alloc, name.as_str().as_bytes())?;
+        Ok(())
+    }
+
+    /// Takes over a DAG's access control. Roles that it does not touch stay shared.
+    pub(crate) fn sync(
+        &mut self,
+        alloc: Global,
+        dag: &DagId,
+        access: &AccessControl,
+    ) -> Result<(), AllocError>
+        ensures ok { OnOk result (self.new ≡ map (synced_role dag.now access.now) self.old) }
+        ensures err { OnErr result (self.new ≡ self.old) }
+    {
+        let by_name = synced(alloc, &self.by_name, dag, access)?;
+        self.by_name = by_name;
+        Ok(())
+    }
+
     /// How many roles there are.
     pub(crate) fn len(&self) -> usize
         ensures { result ≡ length self.now }
@@ -85,6 +113,30 @@ impl RoleTable {
         ensures { result ≡ has_role self.now name.now }
     {
         self.by_name.has(name.as_str().as_bytes())
+    }
+
+    /// The first of these names that no role has.
+    pub(crate) fn first_unknown<'a>(&self, names: &'a [RoleName]) -> Option<&'a RoleName>
+        ensures { option_copied result ≡ unknown_role self.now names.now }
+    {
+        names.iter().find(|name| !self.has(name))
+    }
+
+    /// The first role that access control names and that is not there.
+    pub(crate) fn first_unknown_row<'a>(&self, access: &'a AccessControl) -> Option<&'a RoleName>
+        ensures { option_copied result ≡ unknown_row self.now access.now }
+    {
+        match self.first_unknown_in(access.as_slice()) {
+            Some(row) => Some(&row.role),
+            None => None,
+        }
+    }
+
+    /// The first of these rows whose role is not there.
+    fn first_unknown_in<'a>(&self, rows: &'a [AccessRow]) -> Option<&'a AccessRow>
+        ensures { option_copied result ≡ find (λ row. not (has_role self.now row.role)) rows.now }
+    {
+        rows.iter().find(|row| !self.has(&row.role))
     }
 
     /// Whether there is a role of each of these names.
@@ -143,4 +195,54 @@ impl RoleTable {
     {
         self.by_name.facts();
     }
+}
+
+/// The roles after a DAG's access control is taken over.
+fn synced(
+    alloc: Global,
+    roles: &Table<RoleByName>,
+    dag: &DagId,
+    access: &AccessControl,
+) -> Result<Table<RoleByName>, AllocError>
+    ensures { IfOk result (λ made. made ≡ map (synced_role dag.now access.now) roles.now) }
+{
+    let mut made = roles.copied()?;
+    let rows = roles.rows(alloc)?;
+    sync_each(alloc, &mut made, rows.as_slice(), dag, access)?;
+    Ok(made)
+}
+
+/// Puts each role in its place as it is after the sync.
+fn sync_each(
+    alloc: Global,
+    made: &mut Table<RoleByName>,
+    rows: &[&RoleByName],
+    dag: &DagId,
+    access: &AccessControl,
+) -> Result<(), AllocError>
+    requires { made.old ≡ seen rows.now }
+    ensures { OnOk result (made.new ≡ map (synced_role dag.now access.now) (seen rows.now)) }
+{
+    for row in rows {
+        made.facts();
+        sync_row(alloc, made, row.role(), dag, access)?;
+    }
+    Ok(())
+}
+
+/// Puts a role in its place as it is after the sync, where the sync touches it.
+fn sync_row(
+    alloc: Global,
+    made: &mut Table<RoleByName>,
+    role: &Role,
+    dag: &DagId,
+    access: &AccessControl,
+) -> Result<(), AllocError>
+    ensures { OnOk result ((made.new ≡ with_role made.old (synced_role dag.now access.now role.now)) ⊎ ((made.new ≡ made.old) × (synced_role dag.now access.now role.now ≡ role.now))) }
+{
+    if role.is_touched(dag, access) {
+        let role = Arc::new(alloc, role.synced(alloc, dag, access)?)?;
+        made.put(alloc, RoleByName::new(role))?;
+    }
+    Ok(())
 }

@@ -2,7 +2,7 @@ ghost use Rattle.std.specs.Prelude.{◌≡◌};
 ghost use Rattle.std.specs.Arc.{arc_value};
 
 use crate::User;
-use crate::shared::{Row, Test};
+use crate::shared::Row;
 use std::alloc::AllocError;
 use std::marker::Model;
 use std::sync::Arc;
@@ -101,23 +101,5 @@ impl Row for ByDigest {
             digest: self.digest,
             user,
         })
-    }
-}
-
-/// Whether one of the user's roles is Admin.
-pub(crate) struct IsAdmin;
-
-impl Test<ByName> for IsAdmin {
-    ghost use Rattle.std.specs.Prelude.{codes};
-    ghost use Rattle.std.specs.List.{list_any};
-    ghost use Rattle.af_policy.specs.Rows.{same_name};
-
-    ghost passes = { λ user. list_any (λ role. same_name role (codes "Admin")) user.roles };
-
-    fn passes(row: &ByName) -> bool {
-        row.user()
-            .roles()
-            .iter()
-            .any(|role| role.as_str() == "Admin")
     }
 }

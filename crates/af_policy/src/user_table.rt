@@ -1,12 +1,12 @@
 ghost use Rattle.std.specs.Prelude.{◌≡◌, [], true, false, length, IfOk, OnOk, OnErr};
 ghost use Rattle.std.specs.Option.{option_copied};
-ghost use Rattle.af_policy.specs.Rows.{NamesAscend, digests_differ, has_admin, has_digest, has_user, user_names, with_user};
+ghost use Rattle.af_policy.specs.Rows.{NamesAscend, digests_differ, found_user, has_digest, has_user, user_names, with_user, without_user};
 ghost use Rattle.af_policy.specs.Identity.{digest_user};
 ghost use Rattle.af_policy.specs.Tables.{roles_of};
 
 use crate::User;
 use crate::shared::Table;
-use crate::user_rows::{ByDigest, ByName, IsAdmin};
+use crate::user_rows::{ByDigest, ByName};
 use af_names::{RoleName, UserName};
 use std::alloc::{AllocError, Global};
 use std::marker::Model;
@@ -100,6 +100,35 @@ impl UserTable {
         }
     }
 
+    /// The user of a name.
+    pub(crate) fn get(&self, name: &UserName) -> Option<&User>
+        ensures { option_copied result ≡ found_user self.now name.now }
+    {
+        match self.by_name.get(name.as_str().as_bytes()) {
+            Some(row) => Some(row.user()),
+            None => None,
+        }
+    }
+
+    /// The table without the user of a name, if there is one.
+    pub(crate) fn without(&self, alloc: Global, name: &UserName) -> Result<UserTable, AllocError>
+        ensures { IfOk result (λ table. table ≡ without_user self.now name.now) }
+    {
+        self.by_name.facts();
+        match self.by_name.get(name.as_str().as_bytes()) {
+            Some(row) => {
+                let digest = row.user().digest();
+                let by_name = self.by_name.without(alloc, name.as_str().as_bytes())?;
+                let by_digest = self.by_digest.without(alloc, digest.as_slice())?;
+                Ok(UserTable { by_name, by_digest })
+            }
+            None => {
+                let copy = self.copied()?;
+                Ok(copy)
+            }
+        }
+    }
+
     /// The roles of the user of a name.
     pub(crate) fn roles_of(&self, name: &UserName) -> Option<&[RoleName]>
         ensures value { option_copied result ≡ roles_of self.now name.now }
@@ -110,13 +139,6 @@ impl UserTable {
             Some(row) => Some(row.user().roles()),
             None => None,
         }
-    }
-
-    /// Whether some user has the role Admin.
-    pub(crate) fn has_admin(&self) -> bool
-        ensures { result ≡ has_admin self.now }
-    {
-        self.by_name.some::<IsAdmin>()
     }
 
     /// What holds of each table: names ascend, so no two users have one, and no two have one digest.

@@ -4,3 +4,5 @@ pub mod ActionSets
 pub mod Needs
 pub mod Roles
 pub mod DefaultRoles
+pub mod Access
+pub mod PairTexts

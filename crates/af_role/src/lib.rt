@@ -1,24 +1,40 @@
 //! Permissions and roles: what may be done, on what, and which permissions each role lists.
 #![tactic(auto)]
 
+mod access;
 mod action;
 mod actions;
 mod defaults;
 mod need;
 mod pair;
+mod pair_fault;
+mod pair_text;
+mod pair_texts;
 mod permissions;
 mod resource;
 mod role;
+mod sync;
+mod sync_fault;
+mod text;
+mod texts;
 mod worked;
 
+pub use access::{AccessControl, AccessRow};
 pub use action::Action;
 pub use actions::Actions;
 pub use defaults::default_roles;
 pub use need::Need;
 pub use pair::Pair;
+pub use pair_fault::PairFault;
+pub use pair_text::PairText;
+pub use pair_texts::PairTexts;
 pub use permissions::Permissions;
 pub use resource::{Resource, ResourceKind};
 pub use role::Role;
+pub use sync::sync_access;
+pub use sync_fault::SyncFault;
+pub use text::Text;
+pub use texts::Texts;
 pub use worked::{
     default_roles_by_the_rule, needs_by_the_rule, pairs_by_the_rule, single_dags_by_the_rule,
     texts_by_the_rule,

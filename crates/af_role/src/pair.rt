@@ -1,12 +1,14 @@
-ghost use Rattle.std.specs.Prelude.{◌≡◌, true, Some};
+ghost use Rattle.std.specs.Prelude.{◌≡◌, true, Some, IfOk};
 ghost use Rattle.std.proofs.Common.{rules};
 ghost use Rattle.std.specs.Cmp.{partial_order_from_own_ties};
 ghost use Rattle.std.specs.Cmp.Rules.{comparing};
 ghost use Rattle.std.specs.Ordering.{as_partial_cmp};
 ghost use Rattle.af_role.specs.Pairs.{carries, on_dag, on_kind, pair_cmp, pair_of, pair_text, same_pair, same_pair-ties};
+ghost use Rattle.af_role.specs.Access.{is_about};
 
 use crate::{Action, Resource, ResourceKind};
 use af_names::DagId;
+use std::alloc::{AllocError, Global};
 use std::cmp::Ordering;
 use std::fmt;
 use std::marker::Model;
@@ -67,6 +69,26 @@ impl Pair {
         ensures carried { carries self.now.resource self.now.action ≡ true }
     {
         &self.resource
+    }
+
+    /// Whether it is about one DAG alone.
+    pub fn is_about(&self, dag: &DagId) -> bool
+        ensures { result ≡ is_about dag.now self.now }
+    {
+        match &self.resource {
+            Resource::Kind(_) => false,
+            Resource::Dag(own) => own == dag,
+        }
+    }
+
+    /// The same permission again. `AllocError` only where a growth was refused.
+    pub fn copied(&self, alloc: Global) -> Result<Pair, AllocError>
+        ensures { IfOk result (λ pair. pair ≡ self.now) }
+    {
+        Ok(Pair {
+            action: self.action,
+            resource: self.resource.copied(alloc)?,
+        })
     }
 
     /// Whether it is that action on a whole kind.

@@ -1,8 +1,10 @@
-ghost use Rattle.std.specs.Prelude.{◌≡◌, [], length, OnOk, OnErr};
+ghost use Rattle.std.specs.Prelude.{◌≡◌, [], length, not, IfOk, OnOk, OnErr};
+ghost use Rattle.std.specs.List.{filter, list_any};
 ghost use Rattle.std.specs.Map.Iter.{ShowsInOrder, deref};
 ghost use Rattle.std.specs.List.Sorted.{IsStrictlySortedBy};
 ghost use Rattle.af_role.specs.Pairs.{PairRow, pair_cmp, on_dag, on_kind, with_pair};
 ghost use Rattle.af_role.specs.Roles.{contains_pair};
+ghost use Rattle.af_role.specs.Access.{is_about};
 
 use crate::{Action, Pair, ResourceKind};
 use af_names::DagId;
@@ -74,5 +76,36 @@ impl Permissions {
         ensures { result ≡ contains_pair self.now (on_dag action dag.now) }
     {
         self.iter().any(|own| own.is_on_dag(action, dag))
+    }
+
+    /// Whether some permission is about one DAG alone.
+    pub fn has_any_on(&self, dag: &DagId) -> bool
+        ensures { result ≡ list_any (is_about dag.now) self.now }
+    {
+        self.iter().any(|own| own.is_about(dag))
+    }
+
+    /// The same permissions again. `AllocError` only where a growth was refused.
+    pub fn copied(&self, alloc: Global) -> Result<Permissions, AllocError>
+        ensures { IfOk result (λ permissions. permissions ≡ self.now) }
+    {
+        let mut made = Permissions::new(alloc);
+        for pair in self.iter() {
+            made.add(pair.copied(alloc)?)?;
+        }
+        Ok(made)
+    }
+
+    /// The permissions but those on one DAG alone. `AllocError` only where a growth was refused.
+    pub fn without_dag(&self, alloc: Global, dag: &DagId) -> Result<Permissions, AllocError>
+        ensures { IfOk result (λ permissions. permissions ≡ filter (λ pair. not (is_about dag.now pair)) self.now) }
+    {
+        let mut made = Permissions::new(alloc);
+        for pair in self.iter() {
+            if !pair.is_about(dag) {
+                made.add(pair.copied(alloc)?)?;
+            }
+        }
+        Ok(made)
     }
 }

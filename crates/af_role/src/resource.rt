@@ -1,4 +1,4 @@
-ghost use Rattle.std.specs.Prelude.{◌≡◌, ◌⊎◌, true, Some, Ok, Err, alloc_error};
+ghost use Rattle.std.specs.Prelude.{◌≡◌, ◌⊎◌, true, Some, Ok, Err, IfOk, alloc_error};
 ghost use Rattle.std.specs.Option.{is_some, option_copied};
 ghost use Rattle.std.proofs.Common.{rules};
 ghost use Rattle.std.specs.Cmp.{partial_order_from_own_ties};
@@ -121,6 +121,19 @@ impl Resource {
             Ok(dag) => Ok(Some(Resource::Dag(dag))),
             Err(NameError::OutOfMemory) => Err(AllocError),
             Err(_) => Ok(None),
+        }
+    }
+
+    /// The same resource again. `AllocError` only where a growth was refused.
+    pub fn copied(&self, alloc: Global) -> Result<Resource, AllocError>
+        ensures { IfOk result (λ resource. resource ≡ self.now) }
+    {
+        match self {
+            Resource::Kind(kind) => Ok(Resource::Kind(*kind)),
+            Resource::Dag(dag) => {
+                let dag = dag.copied(alloc)?;
+                Ok(Resource::Dag(dag))
+            }
         }
     }
 

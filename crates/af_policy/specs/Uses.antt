@@ -1,0 +1,27 @@
+-- How often the users of a policy name a role.
+use Rattle.std.specs.Prelude.{◌≡◌, ℕ, List, true, sum_by, count_by}
+use Rattle.std.specs.List.{find}
+use Rattle.std.specs.Option.{option_map_or}
+use Rattle.af_role.specs.Roles.{RoleRow}
+use Rattle.af_policy.specs.Rows.{UserRow, roles_exist, same_name}
+
+pub record UseRow : Type 0 where
+  pub name : List ℕ
+  pub count : ℕ
+
+-- how often a name is counted
+abbrev pub count_at : List UseRow → List ℕ → ℕ
+count_at uses name = option_map_or (λ entry. entry.count) (find (λ entry. same_name name entry.name) uses) 0
+
+-- how often a name stands among these
+abbrev pub uses_in : List (List ℕ) → List ℕ → ℕ
+uses_in roles name = count_by (λ role. same_name name role) roles
+
+-- how often the users name a role
+abbrev pub mentions : List UserRow → List ℕ → ℕ
+mentions users name = sum_by (λ user. uses_in user.roles name) users
+
+-- each role that a user has is there, and the counts are those of the users
+pub record IsTables (users : List UserRow) (roles : List RoleRow) (uses : List UseRow) : Type 0 where
+  pub exist : roles_exist (record { users = users; roles = roles }) ≡ true
+  pub counted : (name : List ℕ) → count_at uses name ≡ mentions users name

@@ -1,0 +1,194 @@
+ghost use Rattle.std.specs.Prelude.{◌≡◌, List, ℕ, [], true, false, not, Some, map, IfOk, OnOk, OnErr};
+ghost use Rattle.af_role.specs.Access.{synced_role};
+ghost use Rattle.af_role.specs.Pairs.{PairRow};
+ghost use Rattle.af_policy.specs.Grants.{grants, reads, reads_dag};
+ghost use Rattle.af_policy.specs.Uses.{count_at, mentions};
+ghost use Rattle.af_policy.specs.Views.{held};
+ghost use Rattle.af_policy.specs.Rows.{NamesAscend, digests_differ, found_user, has_admin, has_digest, has_roles, has_user, role_in_use, role_names, roles_exist, same_digest, user_names, with_role, with_user, without_role, without_user};
+
+use crate::role_table::RoleTable;
+use crate::user_table::UserTable;
+use crate::uses::Uses;
+use crate::{PolicyView, User};
+use af_names::{DagId, RoleName, UserName};
+use af_role::{AccessControl, Role};
+use std::alloc::{AllocError, Global};
+use std::marker::Model;
+
+/// The tables of a policy: its users, its roles, and how often the users name each role. Contracts see them as the rows of
+/// users and roles.
+#[derive(Drop)]
+pub(crate) struct Tables {
+    pub(crate) users: UserTable,
+    pub(crate) roles: RoleTable,
+    uses: Uses,
+}
+
+impl Model for Tables {
+    ghost use Rattle.af_policy.specs.Rows.{PolicyRows};
+    ghost use Rattle.af_policy.specs.Uses.{IsTables};
+
+    ghost Value = { PolicyRows };
+
+    ghost view = { λ tables. record { users = tables.users; roles = tables.roles } };
+
+    ghost invariant = { λ tables. IsTables tables.users tables.roles tables.uses };
+}
+
+impl Tables {
+    /// These roles, and no user.
+    pub(crate) fn new(roles: RoleTable) -> Tables
+        ensures { result ≡ record { users = []; roles = roles } }
+    {
+        Tables {
+            users: UserTable::new(),
+            roles,
+            uses: Uses::new(),
+        }
+    }
+
+    /// The tables once more, which share all rows.
+    pub(crate) fn copied(&self) -> Result<Tables, AllocError>
+        ensures { IfOk result (λ tables. tables ≡ self.now) }
+    {
+        let users = self.users.copied()?;
+        let roles = self.roles.copied()?;
+        let uses = self.uses.copied()?;
+        Ok(Tables { users, roles, uses })
+    }
+
+    /// Adds a role, or puts it in the place of the role of its name.
+    pub(crate) fn put_role(&mut self, role: Role) -> Result<(), AllocError>
+        ensures ok { OnOk result (self.new ≡ record self.old { roles = with_role self.old.roles role }) }
+        ensures err { OnErr result (self.new ≡ self.old) }
+    {
+        self.roles.put(role)?;
+        Ok(())
+    }
+
+    /// Takes out a role that no user has.
+    pub(crate) fn take_role(&mut self, name: &RoleName) -> Result<(), AllocError>
+        requires { role_in_use self.old.users name.now ≡ false }
+        ensures { OnOk result (self.new ≡ record self.old { roles = without_role self.old.roles name.now }) }
+    {
+        self.roles.remove(name)?;
+        Ok(())
+    }
+
+    /// Adds a user whose name and digest are nobody's and whose roles are there.
+    pub(crate) fn put_user(&mut self, alloc: Global, user: User) -> Result<(), AllocError>
+        requires roles { has_roles self.old.roles user.roles ≡ true }
+        requires name { has_user self.old.users user.name ≡ false }
+        requires digest { has_digest self.old.users user.digest ≡ false }
+        ensures ok { OnOk result (self.new ≡ record self.old { users = with_user self.old.users user }) }
+        ensures err { OnErr result (self.new ≡ self.old) }
+    {
+        let mut uses = self.uses.copied()?;
+        uses.add_all(alloc, user.roles())?;
+        self.users.insert(alloc, user)?;
+        self.uses = uses;
+        Ok(())
+    }
+
+    /// Takes out the user of a name, if there is one.
+    pub(crate) fn take_user(&mut self, alloc: Global, name: &UserName) -> Result<(), AllocError>
+        ensures { OnOk result (self.new ≡ record self.old { users = without_user self.old.users name.now }) }
+    {
+        let uses = self.uses_without(alloc, name)?;
+        let users = self.users.without(alloc, name)?;
+        self.users = users;
+        self.uses = uses;
+        Ok(())
+    }
+
+    /// How often the users but that of a name name each role.
+    fn uses_without(&self, alloc: Global, name: &UserName) -> Result<Uses, AllocError>
+        ensures { IfOk result (λ uses. (role : List ℕ) → count_at uses role ≡ mentions (without_user self.now.users name.now) role) }
+    {
+        self.users.facts();
+        match self.users.get(name) {
+            Some(user) => {
+                let mut uses = self.uses.copied()?;
+                uses.take_all(alloc, user.roles())?;
+                Ok(uses)
+            }
+            None => {
+                let uses = self.uses.copied()?;
+                Ok(uses)
+            }
+        }
+    }
+
+    /// Takes over a DAG's access control.
+    pub(crate) fn sync(
+        &mut self,
+        alloc: Global,
+        dag: &DagId,
+        access: &AccessControl,
+    ) -> Result<(), AllocError>
+        ensures { OnOk result (self.new ≡ record self.old { roles = map (synced_role dag.now access.now) self.old.roles }) }
+    {
+        self.roles.sync(alloc, dag, access)?;
+        Ok(())
+    }
+
+    /// Whether some user has a role.
+    pub(crate) fn is_used(&self, name: &str) -> bool
+        ensures { result ≡ role_in_use self.now.users name.now }
+    {
+        self.uses.count(name) != 0
+    }
+
+    /// Whether some user has the role Admin.
+    pub(crate) fn has_admin(&self) -> bool
+        ensures { result ≡ has_admin self.now.users }
+    {
+        self.is_used("Admin")
+    }
+
+    /// Whether some user but that of a name, who is this one, has the role Admin.
+    pub(crate) fn has_other_admin(&self, name: &UserName, user: &User) -> bool
+        requires { found_user self.now.users name.now ≡ Some user.now }
+        ensures { result ≡ has_admin (without_user self.now.users name.now) }
+    {
+        self.users.facts();
+        self.uses.count("Admin") != user.admin_count()
+    }
+
+    /// Whether some user but that of a name, who is this one, has a digest.
+    pub(crate) fn has_other_digest(&self, name: &UserName, user: &User, digest: &[u8; 32]) -> bool
+        requires { found_user self.now.users name.now ≡ Some user.now }
+        ensures { result ≡ has_digest (without_user self.now.users name.now) digest.now }
+    {
+        self.users.facts();
+        let other = differ(&user.digest(), digest);
+        let taken = self.users.has_digest(digest);
+        other && taken
+    }
+
+    /// What the policy of these tables grants a user, whose row is looked up once.
+    pub(crate) fn view(&self, user: &UserName) -> PolicyView<'_>
+        ensures held { (pair : PairRow) → held result pair ≡ grants self.now user.now pair }
+        ensures reads { (dag : List ℕ) → reads_dag (held result) dag ≡ reads self.now user.now dag }
+    {
+        PolicyView::new(&self.roles, self.users.roles_of(user))
+    }
+
+    /// What holds of each policy's tables but that some user is Admin.
+    pub(crate) fn facts(&self)
+        ensures users { NamesAscend (user_names self.now.users) }
+        ensures roles { NamesAscend (role_names self.now.roles) }
+        ensures digests { digests_differ self.now.users ≡ true }
+        ensures exist { roles_exist self.now ≡ true }
+    {
+        self.users.facts();
+        self.roles.facts();
+    }
+}
+
+/// Whether two digests differ.
+fn differ(one: &[u8; 32], other: &[u8; 32]) -> bool
+    ensures { result ≡ not (same_digest one.now other.now) }
+{
+    *one != *other
+}

@@ -1,0 +1,159 @@
+ghost use Rattle.std.specs.Prelude.{◌≡◌, ◌+◌, ◌-◌, [], List, ℕ, cond, IfOk, OnOk};
+ghost use Rattle.std.specs.Option.{option_copied};
+ghost use Rattle.af_policy.specs.Rows.{same_name};
+ghost use Rattle.af_policy.specs.SharedRows.{found};
+ghost use Rattle.af_policy.specs.Uses.{count_at, uses_in};
+
+use crate::shared::{Row, Table};
+use af_names::RoleName;
+use std::alloc::{AllocError, Global};
+use std::marker::Model;
+use std::sync::Arc;
+
+/// How often the users of a policy name one role.
+#[derive(Drop)]
+struct RoleUse {
+    name: Arc<RoleName>,
+    count: usize,
+}
+
+impl Model for RoleUse {
+    ghost use Rattle.std.specs.Arc.{arc_value};
+    ghost use Rattle.af_policy.specs.Uses.{UseRow};
+
+    ghost Value = { UseRow };
+
+    ghost view = { λ row. record { name = arc_value row.name; count = row.count } };
+}
+
+impl RoleUse {
+    /// The role's name, which is shared.
+    fn name(&self) -> Result<Arc<RoleName>, AllocError>
+        ensures { IfOk result (λ name. name.value ≡ self.now.name) }
+    {
+        let name = Arc::try_clone(&self.name)?;
+        Ok(name)
+    }
+
+    /// How often the role is named.
+    fn count(&self) -> usize
+        ensures { result ≡ self.now.count }
+    {
+        self.count
+    }
+}
+
+impl Row for RoleUse {
+    ghost key = { λ row. row.name };
+
+    fn key(&self) -> &[u8] {
+        self.name.as_str().as_bytes()
+    }
+
+    fn copied(&self) -> Result<RoleUse, AllocError> {
+        let name = Arc::try_clone(&self.name)?;
+        Ok(RoleUse {
+            name,
+            count: self.count,
+        })
+    }
+}
+
+/// How often the users of a policy name each role, so that no change looks at all users. Contracts see it as rows of names
+/// and counts.
+#[derive(Drop)]
+pub(crate) struct Uses {
+    counts: Table<RoleUse>,
+}
+
+impl Model for Uses {
+    ghost use Rattle.std.specs.Prelude.{List};
+    ghost use Rattle.af_policy.specs.Uses.{UseRow};
+
+    ghost Value = { List UseRow };
+
+    ghost view = { λ uses. uses.counts };
+}
+
+impl Uses {
+    /// No role is named.
+    pub(crate) fn new() -> Uses
+        ensures { result ≡ [] }
+    {
+        Uses {
+            counts: Table::new(),
+        }
+    }
+
+    /// The counts once more, which are shared.
+    pub(crate) fn copied(&self) -> Result<Uses, AllocError>
+        ensures { IfOk result (λ uses. uses ≡ self.now) }
+    {
+        let counts = self.counts.copied()?;
+        Ok(Uses { counts })
+    }
+
+    /// How often a role is named.
+    pub(crate) fn count(&self, name: &str) -> usize
+        ensures { result ≡ count_at self.now name.now }
+    {
+        match self.counts.get(name.as_bytes()) {
+            Some(row) => row.count(),
+            None => 0,
+        }
+    }
+
+    /// The row of a role, with another count.
+    fn row(&self, alloc: Global, name: &RoleName, count: usize) -> Result<RoleUse, AllocError>
+        ensures { IfOk result (λ row. row ≡ record { name = name.now; count = count }) }
+    {
+        let name = Arc::new(alloc, name.copied(alloc)?)?;
+        Ok(RoleUse { name, count })
+    }
+
+    /// Counts a role once more.
+    fn add(&mut self, alloc: Global, name: &RoleName) -> Result<(), AllocError>
+        ensures { OnOk result ((other : List ℕ) → count_at self.new other ≡ cond (same_name other name.now) (count_at self.old other + 1) (count_at self.old other)) }
+    {
+        let Some(count) = self.count(name.as_str()).checked_add(1) else {
+            return Err(AllocError);
+        };
+        let row = self.row(alloc, name, count)?;
+        self.counts.put(alloc, row)?;
+        Ok(())
+    }
+
+    /// Counts a role once less.
+    fn take(&mut self, alloc: Global, name: &RoleName) -> Result<(), AllocError>
+        ensures { OnOk result ((other : List ℕ) → count_at self.new other ≡ cond (same_name other name.now) (count_at self.old other - 1) (count_at self.old other)) }
+    {
+        let count = self.count(name.as_str());
+        if count < 2 {
+            self.counts.remove(alloc, name.as_str().as_bytes())?;
+        } else {
+            let row = self.row(alloc, name, count - 1)?;
+            self.counts.put(alloc, row)?;
+        }
+        Ok(())
+    }
+
+    /// Counts each of these names once more.
+    pub(crate) fn add_all(&mut self, alloc: Global, names: &[RoleName]) -> Result<(), AllocError>
+        ensures { OnOk result ((other : List ℕ) → count_at self.new other ≡ count_at self.old other + uses_in names.now other) }
+    {
+        for name in names {
+            self.add(alloc, name)?;
+        }
+        Ok(())
+    }
+
+    /// Counts each of these names once less.
+    pub(crate) fn take_all(&mut self, alloc: Global, names: &[RoleName]) -> Result<(), AllocError>
+        ensures { OnOk result ((other : List ℕ) → count_at self.new other ≡ count_at self.old other - uses_in names.now other) }
+    {
+        for name in names {
+            self.take(alloc, name)?;
+        }
+        Ok(())
+    }
+}

@@ -1,0 +1,82 @@
+-- Access control of one DAG: which roles list which actions on it after a sync (Airflow 2, "Access Control", DAG-level
+-- permissions: a DAG's `access_control` maps roles to actions; that Admin is left as it is, is this product's own rule).
+use Rattle.std.specs.Prelude.{ℕ, List, [], Bool, false, not, nat_eq, codes, Option, Some, None, option_map, Result, Ok, Err, map, if◌then◌else◌}
+use Rattle.std.specs.List.{filter, filter_map, find, flat_map, list_any}
+use Rattle.std.specs.Cmp.Lexicographic.{pointwise}
+use Rattle.af_role.specs.declared.action.Action.{Action}
+use Rattle.af_role.specs.declared.action.Action.TheVariants.{Create}
+use Rattle.af_role.specs.declared.resource.Resource.TheVariants.{Dag}
+use Rattle.af_role.specs.declared.access.AccessRow.{AccessRow}
+use Rattle.af_role.specs.declared.sync_fault.SyncFault.{SyncFault}
+use Rattle.af_role.specs.declared.sync_fault.SyncFault.TheVariants.{BadAction, UnknownRole}
+use Rattle.af_role.specs.Resources.{action_of, same_action, same_resource}
+use Rattle.af_role.specs.Pairs.{PairRow, pair_of, with_pairs}
+use Rattle.af_role.specs.Roles.{RoleRow}
+
+-- an action that a single DAG carries
+abbrev pub carried_by_dag : Option Action → Bool
+carried_by_dag None = false
+carried_by_dag (Some action) = not (same_action action Create)
+
+abbrev pub is_dag_action : List ℕ → Bool
+is_dag_action text = carried_by_dag (action_of text)
+
+-- the first text that is no such action
+abbrev pub bad_action : List AccessRow → Option (List ℕ)
+bad_action access = find (λ text. not (is_dag_action text)) (flat_map (λ row. row.actions) access)
+
+-- the permission of an action on a DAG
+abbrev pub on_that_dag : List ℕ → Option Action → Option PairRow
+on_that_dag dag None = None
+on_that_dag dag (Some action) = pair_of action (Dag dag)
+
+abbrev pub pair_at : List ℕ → List ℕ → Option PairRow
+pair_at dag text = on_that_dag dag (action_of text)
+
+abbrev pub pairs_at : List ℕ → List (List ℕ) → List PairRow
+pairs_at dag texts = filter_map (pair_at dag) texts
+
+-- some row is about the role
+abbrev pub names_role : List AccessRow → List ℕ → Bool
+names_role access name = list_any (λ row. pointwise nat_eq row.role name) access
+
+-- the permissions on the DAG that a row lists for a role
+abbrev pub row_pairs : List ℕ → List ℕ → AccessRow → List PairRow
+row_pairs dag name row = if pointwise nat_eq row.role name then pairs_at dag row.actions else []
+
+-- those that all rows list for it
+abbrev pub listed_pairs : List ℕ → List AccessRow → List ℕ → List PairRow
+listed_pairs dag access name = flat_map (row_pairs dag name) access
+
+-- a permission on that DAG alone
+abbrev pub is_about : List ℕ → PairRow → Bool
+is_about dag pair = same_resource pair.resource (Dag dag)
+
+abbrev pub is_admin_name : List ℕ → Bool
+is_admin_name name = pointwise nat_eq name (codes "Admin")
+
+-- what a role keeps: Admin all, each other role what is not about that DAG alone
+abbrev pub kept_pairs : List ℕ → RoleRow → List PairRow
+kept_pairs dag role =
+    if is_admin_name role.name then role.pairs else filter (λ pair. not (is_about dag pair)) role.pairs
+
+abbrev pub synced_role : List ℕ → List AccessRow → RoleRow → RoleRow
+synced_role dag access role = record { name = role.name; pairs = with_pairs (kept_pairs dag role) (listed_pairs dag access role.name) }
+
+-- a role of that name is there
+abbrev pub has_role : List RoleRow → List ℕ → Bool
+has_role roles name = list_any (λ role. pointwise nat_eq name role.name) roles
+
+-- the first role that is named and is not there
+abbrev pub unknown_role : List RoleRow → List AccessRow → Option (List ℕ)
+unknown_role roles access = option_map (λ row. row.role) (find (λ row. not (has_role roles row.role)) access)
+
+abbrev pub synced_unless : List RoleRow → List ℕ → List AccessRow → Option (List ℕ) → Option (List ℕ) → Result (List RoleRow) SyncFault
+synced_unless roles dag access (Some text) unknown = Err (BadAction text)
+synced_unless roles dag access None (Some name) = Err (UnknownRole name)
+synced_unless roles dag access None None = Ok (map (synced_role dag access) roles)
+
+-- the roles after a sync of that DAG, or why there is none; where there is no access control they stay
+abbrev pub synced : List RoleRow → List ℕ → Option (List AccessRow) → Result (List RoleRow) SyncFault
+synced roles dag None = Ok roles
+synced roles dag (Some access) = synced_unless roles dag access (bad_action access) (unknown_role roles access)
