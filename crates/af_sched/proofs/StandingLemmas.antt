@@ -12,7 +12,7 @@ use Rattle.af_sched.specs.State.{AreInOrder, FitsAt, dag_of, has_dag, is_of_id, 
 use Rattle.af_sched.specs.declared.dag_row.DagRow.{DagRow}
 
 -- ---- no row passes a test
-neither : (a b : Bool) → (a || b) ≡ false → (a ≡ false) × (b ≡ false)
+pub neither : (a b : Bool) → (a || b) ≡ false → (a ≡ false) × (b ≡ false)
 neither true b none = absurd (true≢false none)
 neither false b none = (refl, none)
 

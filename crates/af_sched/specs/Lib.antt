@@ -11,6 +11,7 @@ pub mod Placed
 pub mod Plan
 pub mod Queue
 pub mod Reports
+pub mod Rooms
 pub mod Scripts
 pub mod Settle
 pub mod Start
