@@ -89,7 +89,7 @@ among_passing q (x ∷ xs) o (suc k, low, same) is =
     let rest = among_passing q xs o (k, omega arith, same) is in
     ⊎_elim (λ (here : q x ≡ true). rw here (suc rest.0, omega (arith, rest.1), rest.2)) (λ (no : q x ≡ false). rw no rest) (cases_Bool (q x))
 
-name_is : (a b : List ℕ) → same_name a b ≡ true → a ≡ b
+pub name_is : (a b : List ℕ) → same_name a b ≡ true → a ≡ b
 name_is a b same = (slice_eq-Decides unsigned_Decides a b (same_name a b) refl).0 same
 
 and_both : (a b : Bool) → (a && b) ≡ true → (a ≡ true) × (b ≡ true)

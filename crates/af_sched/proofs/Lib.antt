@@ -15,6 +15,7 @@ mod LikeLemmas
 mod PassingLemmas
 mod PlanLemmas
 mod PooledLemmas
+mod RoomLemmas
 mod SeatLemmas
 mod SlotsLawLemmas
 mod SlotsLemmas

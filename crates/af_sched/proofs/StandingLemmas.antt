@@ -1,18 +1,21 @@
 -- What a search for the id of a DAG found, and what is changed there.
-use Rattle.std.proofs.Common.{◌≡◌, ◌∙◌, ℕ, List, [], ◌∷◌, Bool, true, false, cond, ◌||◌, map, length, get_or, set, ap, refl}
-use Rattle.std.specs.Prelude.{find, None, Some, Result, Ok, Err, MatchResult}
+use Rattle.std.proofs.Common.{◌≡◌, ◌∙◌, ℕ, List, [], ◌∷◌, Bool, true, false, cond, ◌||◌, ◌==◌, map, length, get_or, set, ap, refl}
+use Rattle.std.specs.Prelude.{find, nat_le, not, Option, None, Some, Result, Ok, Err, MatchResult}
 use Rattle.std.specs.List.{list_any}
+use Rattle.std.specs.Option.{option_map_or}
 use Rattle.std.specs.List.Sorted.{IsSearchInRange, IsBinarySearchResult}
 use Rattle.std.specs.Ordering.{nat_cmp, is_eq}
 use Rattle.std.specs.Cmp.Lexicographic.{slice_cmp, nat_list_cmp_total, texts_ties}
 use Rattle.std.proofs.lemmas.Bool.{true≢false}
 use Rattle.af_names.proofs.OrderLemmas.{find-only, list_any-none, list_any-only, map-only, search_alone, search_none, search_rises}
 use Rattle.af_sched.specs.Steps.{StandsAt}
-use Rattle.af_sched.specs.State.{AreInOrder, FitsAt, dag_of, has_dag, is_of_id, with_paused}
+use Rattle.af_sched.specs.State.{AreInOrder, FitsAt, StateRows, dag_fault, dag_of, has_dag, has_no_step, have_pools, is_of_id, with_paused}
+use Rattle.af_sched.specs.declared.add_dag_fault.AddDagFault.{AddDagFault}
+use Rattle.af_sched.specs.declared.add_dag_fault.AddDagFault.TheVariants.{NoActiveRuns, NoStep, NoSuchPool, Exists, Full}
 use Rattle.af_sched.specs.declared.dag_row.DagRow.{DagRow}
 
 -- ---- no row passes a test
-neither : (a b : Bool) → (a || b) ≡ false → (a ≡ false) × (b ≡ false)
+pub neither : (a b : Bool) → (a || b) ≡ false → (a ≡ false) × (b ≡ false)
 neither true b none = absurd (true≢false none)
 neither false b none = (refl, none)
 
@@ -60,3 +63,11 @@ module _ (dags : List DagRow) (dag_id : List ℕ) (absent : has_dag dags dag_id 
 
   pub with_paused-same : (is_paused : Bool) → with_paused dags dag_id is_paused ≡ dags
   with_paused-same is_paused = map-absent (is_of_id dag_id) (λ (row : DagRow). record row { is_paused = is_paused }) dags absent
+
+-- ---- a DAG of the id is there, and no fault that is told before that one applies
+exists_by : (no_runs no_step have has : Bool) (rest : Option AddDagFault) → no_runs ≡ false → no_step ≡ false → have ≡ true → has ≡ true → cond no_runs (Some NoActiveRuns) (cond no_step (Some NoStep) (cond (not have) (Some NoSuchPool) (cond has (Some Exists) rest))) ≡ Some Exists
+exists_by no_runs no_step have has rest first second third fourth = rw (first, second, third, fourth) refl
+
+pub exists_fault : (state : StateRows) (row : DagRow) → (row.dag.max_active_runs == 0) ≡ false → option_map_or (λ schedule. has_no_step schedule.points) row.dag.schedule false ≡ false → have_pools state.pools row.dag.tasks ≡ true → has_dag state.dags row.dag.dag_id ≡ true → dag_fault state row ≡ Some Exists
+exists_fault state row first second third fourth =
+    exists_by (row.dag.max_active_runs == 0) (option_map_or (λ schedule. has_no_step schedule.points) row.dag.schedule false) (have_pools state.pools row.dag.tasks) (has_dag state.dags row.dag.dag_id) (cond (nat_le 1_024 (length state.dags)) (Some Full) None) first second third fourth

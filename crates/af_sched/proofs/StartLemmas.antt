@@ -1,8 +1,7 @@
 -- Runs started one after the other are those that the phase starts.
-use Rattle.std.proofs.Common.{◌≡◌, ◌≢◌, ◌<◌, ◌≤◌, ◌+◌, ◌∙◌, ℕ, List, [], ◌∷◌, length, map, get_or, set, refl, sym, ap, subst, arith, zero, suc, Bool, cond, ⊎_elim}
+use Rattle.std.proofs.Common.{◌≡◌, ◌≢◌, ◌<◌, ◌≤◌, ◌+◌, ◌∙◌, ℕ, List, [], ◌∷◌, length, get_or, set, refl, sym, ap, subst, arith, zero, suc, Bool, cond, ⊎_elim}
 use Rattle.std.proofs.lemmas.Bool.{cases_lt}
 use Rattle.std.proofs.lemmas.List.{get_or-set_other, get_or-set_same}
-use Rattle.std.proofs.Math.ListN.{get_or-map, length-map}
 use Rattle.af_runs.specs.declared.run.Run.{Run}
 use Rattle.af_sched.specs.Start.{starts, started_run}
 use Rattle.af_sched.specs.declared.dag_row.DagRow.{DagRow}
@@ -11,11 +10,6 @@ pub get_or-same : {X : Type 0} (xs : List X) (i : ℕ) (d e : X) → i < length 
 get_or-same [] i d e within = absurd (omega arith)
 get_or-same (x ∷ xs) zero d e within = refl
 get_or-same (x ∷ xs) (suc i) d e within = get_or-same xs i d e (omega arith)
-
--- what a list made of another has at a place
-pub made_at : (f : Run → Bool) (xs : List Run) (ys : List Bool) (i : ℕ) (b : Bool) (d : Run) → ys ≡ map f xs → b ≡ get_or ys i b → i < length xs → b ≡ f (get_or xs i d)
-made_at f xs ys i b d made at inside =
-    at ∙ ap (λ (zs : List Bool). get_or zs i b) made ∙ get_or-same (map f xs) i b (f d) (rw (length-map xs f) inside) ∙ get_or-map f xs i d
 
 abbrev pub done_so_far : ℕ → List DagRow → List Run → List Run → ℕ → Type 0
 done_so_far t dags old now turns =

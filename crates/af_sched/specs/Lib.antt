@@ -4,13 +4,16 @@ pub mod Choosing
 pub mod Claims
 pub mod Create
 pub mod Due
+pub mod FaultTexts
 pub mod Finish
 pub mod Laws
 pub mod Moves
+pub mod Outcomes
 pub mod Placed
 pub mod Plan
 pub mod Queue
 pub mod Reports
+pub mod Rooms
 pub mod Scripts
 pub mod Settle
 pub mod Start

@@ -1,19 +1,21 @@
 -- The state of a scheduler: plain lists of rows (this product's own rule).
-use Rattle.std.specs.Prelude.{ℕ, ◌≡◌, ◌<◌, ◌≤◌, List, [], ◌∷◌, ◌++◌, Bool, false, not, All, length, map, filter, find, nat_le, Option, Some, None, option_map, if◌then◌else◌}
-use Rattle.std.specs.List.{list_any}
+use Rattle.std.specs.Prelude.{ℕ, ◌≡◌, ◌<◌, ◌≤◌, ◌==◌, List, [], ◌∷◌, ◌++◌, Bool, false, not, All, length, map, filter, find, nat_le, Option, Some, None, Ok, option_map, if◌then◌else◌}
+use Rattle.std.specs.List.{list_all, list_any}
 use Rattle.std.specs.Option.{option_map_or}
 use Rattle.std.specs.List.Sorted.{IsStrictlySortedBy, IsPartitionPoint}
 use Rattle.std.specs.Ordering.{nat_cmp}
 use Rattle.std.specs.declared.cmp.Ordering.TheVariants.{Less, Greater}
 use Rattle.std.specs.Cmp.Lexicographic.{slice_cmp}
-use Rattle.af_graph.specs.Definition.{fault_of}
+use Rattle.af_graph.specs.Definition.{checked, fault_of}
 use Rattle.af_graph.specs.Graph.{same_name}
 use Rattle.af_graph.specs.declared.task_spec.TaskSpec.{TaskSpec}
-use Rattle.af_pool.specs.Pools.{comes_before}
+use Rattle.af_graph.specs.declared.schedule.Points.{Points}
+use Rattle.af_graph.specs.declared.schedule.Points.TheVariants.{Preset, Seconds}
+use Rattle.af_pool.specs.Pools.{comes_before, has_pool}
 use Rattle.af_pool.specs.declared.pool.Pool.{Pool}
 use Rattle.af_runs.specs.declared.run.Run.{Run}
 use Rattle.af_sched.specs.declared.add_dag_fault.AddDagFault.{AddDagFault}
-use Rattle.af_sched.specs.declared.add_dag_fault.AddDagFault.TheVariants.{Exists, Full}
+use Rattle.af_sched.specs.declared.add_dag_fault.AddDagFault.TheVariants.{NoActiveRuns, NoStep, NoSuchPool, Exists, Full}
 use Rattle.af_sched.specs.declared.dag_row.DagRow.{DagRow}
 
 -- the DAGs by id, the runs by number with their instances, the number that the next run gets, and the pools by name
@@ -69,9 +71,23 @@ pub record AreRows (dags : List DagRow) (runs : List Run) : Type 0 where
 abbrev pub has_dag : List DagRow → List ℕ → Bool
 has_dag dags dag_id = list_any (is_of_id dag_id) dags
 
--- why a DAG is not added, memory aside: the first of these faults
-abbrev pub dag_fault : List DagRow → List ℕ → Option AddDagFault
-dag_fault dags dag_id = if has_dag dags dag_id then Some Exists else (if nat_le 1_024 (length dags) then Some Full else None)
+-- whether a schedule has no step: it is of 0 seconds
+abbrev pub has_no_step : Points → Bool
+has_no_step (Seconds seconds) = seconds == 0
+has_no_step (Preset preset) = false
+
+-- whether there is a pool of the name that each of these tasks gives
+abbrev pub have_pools : List Pool → List TaskSpec → Bool
+have_pools pools tasks = list_all (λ task. has_pool pools task.pool) tasks
+
+-- why a DAG's row is not added, memory aside: the first of these faults
+abbrev pub dag_fault : StateRows → DagRow → Option AddDagFault
+dag_fault state row =
+    if row.dag.max_active_runs == 0 then Some NoActiveRuns
+    else (if option_map_or (λ schedule. has_no_step schedule.points) row.dag.schedule false then Some NoStep
+    else (if not (have_pools state.pools row.dag.tasks) then Some NoSuchPool
+    else (if has_dag state.dags row.dag.dag_id then Some Exists
+    else (if nat_le 1_024 (length state.dags) then Some Full else None))))
 
 -- the DAGs with one more, in its place by id
 abbrev pub with_dag : List DagRow → DagRow → List DagRow
@@ -89,8 +105,9 @@ pub record FitsAt (dags : List DagRow) (dag_id : List ℕ) (place : ℕ) : Type 
   pub absent : has_dag dags dag_id ≡ false
   pub parted : IsPartitionPoint (λ row. slice_cmp nat_cmp row.dag.dag_id dag_id ≡ Less) (λ row. slice_cmp nat_cmp row.dag.dag_id dag_id ≡ Greater) dags place
 
--- a DAG of this id may be added, and its row goes to this place
-pub record CanAdd (dags : List DagRow) (dag_id : List ℕ) (place : ℕ) : Type 0 where
-  pub no_fault : dag_fault dags dag_id ≡ None
-  pub few : length dags < 1_024
-  pub fits : FitsAt dags dag_id place
+-- a DAG's row may be added, and goes to this place
+pub record CanAdd (state : StateRows) (row : DagRow) (place : ℕ) : Type 0 where
+  pub no_fault : dag_fault state row ≡ None
+  pub sound : checked row.dag ≡ Ok row.dag
+  pub few : length state.dags < 1_024
+  pub fits : FitsAt state.dags row.dag.dag_id place

@@ -1,41 +1,52 @@
-ghost use Rattle.std.specs.Prelude.{◌≡◌, ◌≢◌, ◌+◌, ◌<◌, ◌≤◌, Err, Some, IfOk, IfErr, IfSome, IsNone, OnOk, OnErr, is_ok, if◌then◌else◌};
+ghost use Rattle.std.specs.Prelude.{◌≡◌, ◌≢◌, ◌+◌, ◌<◌, ◌≤◌, Err, Some, IfOk, IfErr, IfSome, IsNone, OnOk, OnErr, false, is_ok, if◌then◌else◌};
+ghost use Rattle.std.specs.Option.{option_map_or};
 ghost use Rattle.af_pool.specs.Pools as pools;
 ghost use Rattle.af_runs.specs.Runs as runs;
 ghost use Rattle.af_sched.specs.Additions.{AddsRun, IsOkOrOutOfMemory, IsWholeNew};
-ghost use Rattle.af_sched.specs.State.{CanAdd, dag_fault, with_dag};
+ghost use Rattle.af_sched.specs.State.{CanAdd, dag_fault, has_no_step, have_pools, with_dag};
 
 use crate::add_dag_fault::AddDagFault;
 use crate::dag_row::DagRow;
 use crate::state::State;
-use af_graph::DagSpec;
+use af_graph::{Points, Schedule, TaskSpec};
 use af_names::{DagId, Instant, PoolName, RunId};
-use af_pool::PoolFault;
+use af_pool::{PoolFault, Pools};
 use af_runs::{NewRun, RunFault};
 
 /// The most DAGs that there are.
 const MOST_DAGS: usize = 1_024;
 
 impl State {
-    /// Adds a DAG. `Exists` where a DAG has the id; `Full` at 1,024 DAGs; `OutOfMemory` only where a growth was refused.
-    /// A fault leaves the state as it was.
+    /// Adds a DAG. Its faults are those of `AddDagFault`, the first that applies, and `OutOfMemory`, only where a growth
+    /// was refused. A fault leaves the state as it was.
     pub fn add_dag(&mut self, row: DagRow) -> Result<(), AddDagFault>
-        ensures refused { IfSome (dag_fault self.old.rows.dags row.dag.dag_id) (λ fault. result ≡ Err fault) }
-        ensures accepted { IsNone (dag_fault self.old.rows.dags row.dag.dag_id) → IsOkOrOutOfMemory result }
+        ensures refused { IfSome (dag_fault self.old.rows row) (λ fault. result ≡ Err fault) }
+        ensures accepted { IsNone (dag_fault self.old.rows row) → IsOkOrOutOfMemory result }
         ensures ok { OnOk result (self.new ≡ record self.old {
           rows = record self.old.rows { dags = with_dag self.old.rows.dags row };
         }) }
         ensures err { OnErr result (self.new ≡ self.old) }
     {
-        let place = self.place_to_add(row.dag.definition())?;
+        let place = self.place_to_add(&row)?;
         self.dags.insert(place, row)?;
         Ok(())
     }
 
     /// Where the row of a DAG that may be added goes.
-    fn place_to_add(&self, dag: &DagSpec) -> Result<usize, AddDagFault>
-        ensures ok { IfOk result (CanAdd self.now.rows.dags dag.now.dag_id) }
-        ensures err { IfErr result (λ fault. dag_fault self.now.rows.dags dag.now.dag_id ≡ Some fault) }
+    fn place_to_add(&self, row: &DagRow) -> Result<usize, AddDagFault>
+        ensures ok { IfOk result (CanAdd self.now.rows row.now) }
+        ensures err { IfErr result (λ fault. dag_fault self.now.rows row.now ≡ Some fault) }
     {
+        let dag = row.dag.definition();
+        if dag.max_active_runs == 0 {
+            return Err(AddDagFault::NoActiveRuns);
+        }
+        if has_no_step(dag.schedule) {
+            return Err(AddDagFault::NoStep);
+        }
+        if !have_pools(&self.pools, row.dag.tasks()) {
+            return Err(AddDagFault::NoSuchPool);
+        }
         match self.by_id().place_of(&dag.dag_id) {
             Ok(_) => Err(AddDagFault::Exists),
             Err(_) if self.dags.len() >= MOST_DAGS => Err(AddDagFault::Full),
@@ -85,4 +96,21 @@ impl State {
     {
         self.pools.add(name, slots)
     }
+}
+
+/// Whether a schedule has no step: it is of 0 seconds.
+fn has_no_step(schedule: Option<Schedule>) -> bool
+    ensures { result ≡ option_map_or (λ schedule. has_no_step schedule.points) schedule false }
+{
+    match schedule {
+        Some(schedule) => schedule.points == Points::Seconds(0),
+        None => false,
+    }
+}
+
+/// Whether there is a pool of the name that each of these tasks gives.
+fn have_pools(pools: &Pools, tasks: &[TaskSpec]) -> bool
+    ensures { result ≡ have_pools pools.now.rows tasks.now }
+{
+    tasks.iter().all(|task| pools.has(&task.pool))
 }

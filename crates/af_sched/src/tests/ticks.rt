@@ -20,8 +20,8 @@ fn pooled(alloc: Global, task_id: &str, slots: u64, weight: i32) -> Result<TaskS
 /// A DAG of these tasks without a schedule, with one new run, and a pool p of two slots.
 fn with_pool(alloc: Global, tasks: Vec<TaskSpec>, states: &[TaskState]) -> Result<State, Fail> {
     let mut state = State::new(alloc)?;
-    state.add_dag(dag(alloc, "g", tasks, false)?)?;
     state.add_pool(PoolName::parse(alloc, "p")?, 2)?;
+    state.add_dag(dag(alloc, "g", tasks, false)?)?;
     add_run(
         &mut state,
         new_run(alloc, "g", "r", instances(alloc, states)?)?,
