@@ -1,3 +1,4 @@
 mod MemberLemmas
 mod JsonLemmas
 pub mod TakingLemmas
+pub mod OrderedLemmas

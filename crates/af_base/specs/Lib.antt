@@ -1,3 +1,5 @@
 pub mod Readings
 pub mod Members
 pub mod Parsed
+pub mod Ordered
+pub mod Places
