@@ -1,3 +1,4 @@
+pub mod Limits
 pub mod Streams
 pub mod Lines
 pub mod Fronts
@@ -11,6 +12,7 @@ pub mod Replies
 pub mod Reading
 pub mod Run
 pub mod Reads
+pub mod Connections
 pub mod Sending
 pub mod Gathering
 pub mod Turns

@@ -1,4 +1,4 @@
-ghost use Rattle.std.specs.Prelude.{◌≡◌, ◌++◌, codes};
+ghost use Rattle.std.specs.Prelude.{◌≡◌, ◌<◌, ◌++◌, codes, length};
 ghost use Rattle.af_http.specs.Answers.{status_line, type_line_of, allow_line, auth_line, close_line};
 
 use crate::route_fault::Allow;
@@ -6,7 +6,8 @@ use af_ops::Status;
 
 /// The status line.
 pub fn status_line(status: Status) -> &'static [u8]
-    ensures { result.now ≡ status_line status }
+    ensures text { result.now ≡ status_line status }
+    ensures some { 0 < length result.now }
 {
     match status {
         Status::Ok => b"HTTP/1.1 200 OK\r\n",
