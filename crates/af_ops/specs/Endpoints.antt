@@ -1,5 +1,5 @@
 -- The operations of the API (Airflow 2, "Stable REST API"), with what a request says of them.
-use Rattle.std.specs.Prelude.{◌≡◌, ◌⊎◌, ℕ, List, [], ◌∷◌, Option, Some, None, option_map, Err}
+use Rattle.std.specs.Prelude.{◌≡◌, ◌⊎◌, ℕ, List, [], ◌∷◌, Bool, true, is_some, Option, Some, None, option_map, Err}
 use Rattle.std.specs.Result.{result_ok}
 use Rattle.af_names.specs.Names.{named, id_grammar}
 use Rattle.af_ops.specs.declared.body_fault.BodyFault.TheVariants.{OutOfMemory}
@@ -7,6 +7,8 @@ use Rattle.af_ops.specs.declared.endpoint.Endpoint.{Endpoint}
 use Rattle.af_ops.specs.declared.endpoint.Endpoint.TheVariants as endpoint
 use Rattle.af_ops.specs.declared.op.Op.{Op}
 use Rattle.af_ops.specs.declared.op.Op.TheVariants as op
+use Rattle.af_ops.specs.declared.place.Place.{Place}
+use Rattle.af_ops.specs.declared.place.Place.TheVariants as place
 use Rattle.af_ops.specs.Bodies.{pause_in}
 
 abbrev pub endpoint_of : Op → Endpoint
@@ -26,6 +28,12 @@ dag_of (op.PauseDag dag_id input) = Some dag_id
 abbrev pub dag_id_in : List (List ℕ) → Option (List ℕ)
 dag_id_in [] = None
 dag_id_in (part ∷ parts) = result_ok (named id_grammar part)
+
+-- whether the parts of a path of this form, decoded, are names of their kinds
+abbrev pub are_names : Place → List (List ℕ) → Bool
+are_names place.Version parts = true
+are_names place.Dags parts = true
+are_names place.Dag parts = is_some (dag_id_in parts)
 
 -- The operation that a row of the table stands for, where the parts of the path, decoded, are these and the body has these
 -- bytes; none where a part is no name of its kind. Bodies of operations that read none are ignored.

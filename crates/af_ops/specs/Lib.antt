@@ -14,6 +14,7 @@ pub mod Rows
 pub mod Served
 pub mod Standings
 pub mod Statuses
+pub mod Segments
 pub mod Table
 pub mod Texts
 pub mod Verdicts

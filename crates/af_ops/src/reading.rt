@@ -1,9 +1,10 @@
-ghost use Rattle.std.specs.Prelude.{◌≡◌, IfOk, map, string_bytes};
-ghost use Rattle.af_ops.specs.Endpoints.{IsRead, dag_id_in, op_of_row};
+ghost use Rattle.std.specs.Prelude.{◌≡◌, IfOk, is_some, map, string_bytes};
+ghost use Rattle.af_ops.specs.Endpoints.{IsRead, are_names, dag_id_in, op_of_row};
 
 use crate::bodies::read_pause;
 use crate::endpoint::Endpoint;
 use crate::op::Op;
+use crate::place::Place;
 use af_names::{DagId, NameError};
 use std::alloc::{AllocError, Global};
 
@@ -33,6 +34,29 @@ pub fn read_row(
             };
             Ok(Some(Op::PauseDag(dag_id, read_pause(alloc, body))))
         }
+    }
+}
+
+/// Whether the parts of a path of this form, decoded, are names of their kinds.
+pub fn are_names(alloc: Global, place: Place, parts: &[String]) -> bool
+    ensures { result ≡ are_names place (map (λ part. string_bytes part) parts.now) }
+{
+    match place {
+        Place::Version | Place::Dags => true,
+        Place::Dag => is_dag_id(alloc, parts),
+    }
+}
+
+/// Whether the first part of a path is the id of a DAG. Want of memory is told of a name alone.
+fn is_dag_id(alloc: Global, parts: &[String]) -> bool
+    ensures { result ≡ is_some (dag_id_in (map (λ part. string_bytes part) parts.now)) }
+{
+    match parts.first() {
+        Some(part) => matches!(
+            DagId::parse(alloc, part.as_str()),
+            Ok(_) | Err(NameError::OutOfMemory)
+        ),
+        None => false,
     }
 }
 
