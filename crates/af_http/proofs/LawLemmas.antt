@@ -11,6 +11,10 @@ use Rattle.af_http.specs.Reading.{Begins, Stand, Parses, IsBadHead, IsRefused, c
 use Rattle.af_http.specs.Run.{Exchange, asked_in, exchanges_text, end_by, end_after, AllGoOn, LastEnds, EndsOr, IsWritten, Makes, Answered, Run}
 use Rattle.af_http.specs.Streams.{Taken}
 use Rattle.af_http.specs.Replies.{wants_memory}
+use Rattle.af_http.specs.Routes.{IsRouted}
+use Rattle.af_http.specs.declared.route_fault.RouteFault.{RouteFault}
+use Rattle.af_http.specs.declared.route_fault.RouteFault.TheVariants as fault
+use Rattle.af_ops.specs.Endpoints.{IsRead}
 use Rattle.af_ops.specs.declared.served.Served.TheVariants as served
 use Rattle.af_http.specs.Laws.{IsFunction, IsByText}
 use Rattle.af_http.specs.declared.reply.Reply.{Reply}
@@ -134,17 +138,35 @@ ok_one p q = let e = sym p ∙ q in cc
 err_one : {A B : Type 0} {a b : B} {r : Result A B} → r ≡ Err a → r ≡ Err b → a ≡ b
 err_one p q = let e = sym p ∙ q in cc
 
+-- a fault that is no want of memory is that of the definition
+fault_is : (r : Result Op RouteFault) (f : RouteFault) → wants_memory (reply.Fault f) ≡ false → IsRouted r (Err f) → r ≡ Err f
+fault_is r fault.NoPath fine it = it
+fault_is r (fault.BadMethod methods) fine it = it
+fault_is r fault.OutOfMemory fine it = cc
+
+-- an operation that was read is that of the definition, or that without its body
+record Found (r : Result Op RouteFault) (op : Op) : Type 0 where
+  pub wanted : Op
+  pub is : r ≡ Ok wanted
+  pub read : IsRead (Some wanted) (Some op)
+
+op_is : (r : Result Op RouteFault) (op : Op) → IsRouted r (Ok op) → Found r op
+op_is (Ok wanted) op it = record { wanted = wanted; is = refl; read = it }
+op_is (Err _) op it = elim it [ ]
+
 module _ {S : Type 0} (answers : S → Option (List ℕ) → Op → Served → S → Type 0) (one : IsFunction answers) where
   makes_one : (old : S) (a : Asked) (x y : Reply) (m k : S) → wants_memory x ≡ false → wants_memory y ≡ false → Makes answers old a x m → Makes answers old a y k → (x ≡ y) × (m ≡ k)
   makes_one old a (reply.Fault f) (reply.Fault g) m k wx wy x y =
-      let same : f ≡ g = err_one x.0 y.0 in
+      let same : f ≡ g = err_one (fault_is _ f wx x.0) (fault_is _ g wy y.0) in
       (ap reply.Fault same, x.1 ∙ sym y.1)
-  makes_one old a (reply.Fault f) (reply.Served s) m k wx wy x y = absurd (ok_err y.1 x.0)
-  makes_one old a (reply.Served s) (reply.Fault g) m k wx wy x y = absurd (ok_err x.1 y.0)
+  makes_one old a (reply.Fault f) (reply.Served s) m k wx wy x y = absurd (ok_err (op_is _ y.0 y.1).is (fault_is _ f wx x.0))
+  makes_one old a (reply.Served s) (reply.Fault g) m k wx wy x y = absurd (ok_err (op_is _ x.0 x.1).is (fault_is _ g wy y.0))
   makes_one old a (reply.Served (served.Shown s)) (reply.Served (served.Shown t)) m k wx wy x y =
-      let same : x.0 ≡ y.0 = ok_one x.1 y.1 in
-      let P : Op → Type 0 = λ op. answers old a.token op (served.Shown s) m in
-      let both = one old a.token y.0 s t m k (subst P same x.2) y.2 in
+      let this = op_is _ x.0 x.1 in
+      let that = op_is _ y.0 y.1 in
+      let same : this.wanted ≡ that.wanted = ok_one this.is that.is in
+      let P : Op → Type 0 = λ op. IsRead (Some op) (Some x.0) in
+      let both = one old a.token that.wanted x.0 y.0 s t m k (subst P same this.read) that.read x.2 y.2 in
       (ap (λ t. reply.Served (served.Shown t)) both.0, both.1)
   makes_one old a (reply.Served (served.Shown s)) (reply.Served served.NothingDone) m k wx wy x y = cc
   makes_one old a (reply.Served (served.Shown s)) (reply.Served served.ReplyLost) m k wx wy x y = cc

@@ -14,12 +14,12 @@ use crate::outgoing::Outgoing;
 use crate::problems::{bad_method_body, lost_text, memory_text, no_path_body};
 use crate::refusal::Refusal;
 use crate::reply::Reply;
-use crate::route_fault::{Allow, RouteFault};
+use crate::route_fault::RouteFault;
 use crate::stream::Sink;
-use af_ops::{Body, Served, Shown, Status};
+use af_ops::{Body, Methods, Served, Shown, Status};
 
 /// A fault that was decided under no policy version.
-fn problem(status: Status, allow: Option<Allow>, body: &[u8]) -> Answer<'_>
+fn problem(status: Status, allow: Option<Methods>, body: &[u8]) -> Answer<'_>
     ensures { told result ≡ record { status = status; allow = allow; version = None; seq = None; body = Some body.now } }
 {
     Answer {
