@@ -5,6 +5,7 @@ pub mod Effects
 pub mod Endpoints
 pub mod Faults
 pub mod Fields
+pub mod Laws
 pub mod Listings
 pub mod Methods
 pub mod Prepared
@@ -18,3 +19,4 @@ pub mod Segments
 pub mod Table
 pub mod Texts
 pub mod Verdicts
+pub mod Worked

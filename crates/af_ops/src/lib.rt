@@ -11,6 +11,7 @@ mod deciding;
 mod edit;
 mod endpoint;
 mod fields;
+pub mod laws;
 mod member_name;
 mod method;
 mod methods;
@@ -33,6 +34,7 @@ mod status;
 mod table;
 mod telling;
 mod text;
+mod worked;
 
 pub use answer::{CallFault, OpFault, Under};
 pub use bodies::read_pause;
@@ -59,3 +61,7 @@ pub use status::Status;
 pub use table::{ENDPOINTS, PLACES, endpoint_at, methods_at, needs, route_of};
 pub use telling::shown_fault;
 pub use text::Text;
+pub use worked::{
+    bodies_by_the_rule, changes_by_the_rule, faults_by_the_rule, messages_by_the_rule,
+    readings_by_the_rule, routes_by_the_rule,
+};

@@ -1,0 +1,106 @@
+-- A method and a path name one row of the table at most: no two rows of one method have patterns that share a path.
+use Rattle.std.proofs.Common.{◌≡◌, ◌<◌, ◌∙◌, ℕ, zero, suc, Bool, true, false, List, [], ◌∷◌, length, get_or, refl, sym, ap, arith, not, ◌&&◌, subst}
+use Rattle.std.specs.List.{list_all}
+use Rattle.std.specs.Cmp.Lexicographic.{pointwise, bytes_decides}
+use Rattle.std.specs.Prelude.{nat_eq}
+use Rattle.std.proofs.lemmas.Bool.{and_from, and_parts, false≢true, not-true}
+use Rattle.af_ops.specs.declared.endpoint.Endpoint.{Endpoint}
+use Rattle.af_ops.specs.declared.endpoint.Endpoint.TheVariants as endpoint
+use Rattle.af_ops.specs.declared.method.Method.{Method}
+use Rattle.af_ops.specs.declared.method.Method.TheVariants.{Get, Post, Patch, Delete}
+use Rattle.af_ops.specs.Laws.{Matches, OneRowAtMost}
+use Rattle.af_ops.specs.Methods.{same_method}
+use Rattle.af_ops.specs.Table.{Segment, Text, Part, endpoints, route_of, segments_of}
+
+-- whether some path may be of both patterns
+overlap : List Segment → List Segment → Bool
+overlap [] [] = true
+overlap [] (other ∷ others) = false
+overlap (one ∷ ones) [] = false
+overlap (Text a ∷ ones) (Text b ∷ others) = pointwise nat_eq a b && overlap ones others
+overlap (Text a ∷ ones) (Part n ∷ others) = overlap ones others
+overlap (Part m ∷ ones) (Text b ∷ others) = overlap ones others
+overlap (Part m ∷ ones) (Part n ∷ others) = overlap ones others
+
+matched : (ones others : List Segment) (path : List (List ℕ)) → Matches ones path → Matches others path → overlap ones others ≡ true
+unfolding overlap
+matched [] [] path one other = refl
+matched [] (o ∷ others) [] one other = absurd other
+matched [] (o ∷ others) (text ∷ path) one other = absurd one
+matched (o ∷ ones) [] [] one other = absurd one
+matched (o ∷ ones) [] (text ∷ path) one other = absurd other
+matched (o ∷ ones) (p ∷ others) [] one other = absurd one
+matched (Text a ∷ ones) (Text b ∷ others) (text ∷ path) one other =
+    and_from (pointwise nat_eq a b) (overlap ones others) ((bytes_decides a b).1 (sym one.0 ∙ other.0)) (matched ones others path one.1 other.1)
+matched (Text a ∷ ones) (Part n ∷ others) (text ∷ path) one other = matched ones others path one.1 other.1
+matched (Part m ∷ ones) (Text b ∷ others) (text ∷ path) one other = matched ones others path one.1 other.1
+matched (Part m ∷ ones) (Part n ∷ others) (text ∷ path) one other = matched ones others path one.1 other.1
+
+-- whether some request may be of both rows
+clash : Endpoint → Endpoint → Bool
+clash one other = same_method (route_of one).method (route_of other).method && overlap (segments_of (route_of one).place) (segments_of (route_of other).place)
+
+-- no element clashes with a later one, nor a later one with it
+all_apart : {X : Type 0} → (X → X → Bool) → List X → Bool
+all_apart test [] = true
+all_apart test (x ∷ xs) = list_all (λ y. not (test x y) && not (test y x)) xs && all_apart test xs
+
+all_at : {X : Type 0} (test : X → Bool) (xs : List X) (i : ℕ) (d : X) → list_all test xs ≡ true → i < length xs → test (get_or xs i d) ≡ true
+all_at test [] i d all inside = absurd (omega arith)
+all_at test (x ∷ xs) zero d all inside = (and_parts (test x) (list_all test xs) all).0
+all_at test (x ∷ xs) (suc i) d all inside = all_at test xs i d (and_parts (test x) (list_all test xs) all).1 (omega arith)
+
+apart_at : {X : Type 0} (test : X → X → Bool) (xs : List X) (i j : ℕ) (d : X) → all_apart test xs ≡ true → i < length xs → j < length xs → test (get_or xs i d) (get_or xs j d) ≡ true → i ≡ j
+unfolding all_apart
+apart_at test [] i j d apart here there both = absurd (omega arith)
+apart_at test (x ∷ xs) zero zero d apart here there both = refl
+apart_at test (x ∷ xs) zero (suc j) d apart here there both =
+    let parts = and_parts (list_all (λ y. not (test x y) && not (test y x)) xs) (all_apart test xs) apart in
+    let none = and_parts (not (test x (get_or xs j d))) (not (test (get_or xs j d) x)) (all_at (λ y. not (test x y) && not (test y x)) xs j d parts.0 (omega arith)) in
+    absurd (false≢true (sym (not-true (test x (get_or xs j d)) none.0) ∙ both))
+apart_at test (x ∷ xs) (suc i) zero d apart here there both =
+    let parts = and_parts (list_all (λ y. not (test x y) && not (test y x)) xs) (all_apart test xs) apart in
+    let none = and_parts (not (test x (get_or xs i d))) (not (test (get_or xs i d) x)) (all_at (λ y. not (test x y) && not (test y x)) xs i d parts.0 (omega arith)) in
+    absurd (false≢true (sym (not-true (test (get_or xs i d) x) none.1) ∙ both))
+apart_at test (x ∷ xs) (suc i) (suc j) d apart here there both =
+    let parts = and_parts (list_all (λ y. not (test x y) && not (test y x)) xs) (all_apart test xs) apart in
+    ap suc (apart_at test xs i j d parts.1 (omega arith) (omega arith) both)
+
+-- where an operation stands in the table
+rank : Endpoint → ℕ
+rank endpoint.Version = 0
+rank endpoint.ListDags = 1
+rank endpoint.GetDag = 2
+rank endpoint.PauseDag = 3
+
+stands : (it d : Endpoint) → get_or endpoints (rank it) d ≡ it
+unfolding rank
+stands endpoint.Version d = refl
+stands endpoint.ListDags d = refl
+stands endpoint.GetDag d = refl
+stands endpoint.PauseDag d = refl
+
+inside : (it : Endpoint) → rank it < length endpoints
+unfolding rank
+inside endpoint.Version = omega arith
+inside endpoint.ListDags = omega arith
+inside endpoint.GetDag = omega arith
+inside endpoint.PauseDag = omega arith
+
+same-refl : (method : Method) → same_method method method ≡ true
+same-refl Get = refl
+same-refl Post = refl
+same-refl Patch = refl
+same-refl Delete = refl
+
+table_apart : all_apart clash endpoints ≡ true
+unfolding all_apart clash overlap
+table_apart = refl
+
+pub one_row : OneRowAtMost
+unfolding clash
+one_row path one other method at_one at_other =
+    let same : same_method (route_of one).method (route_of other).method ≡ true = subst (λ (m : Method). same_method (route_of one).method m ≡ true) method (same-refl (route_of one).method) in
+    let both : clash one other ≡ true = and_from (same_method (route_of one).method (route_of other).method) (overlap (segments_of (route_of one).place) (segments_of (route_of other).place)) same (matched (segments_of (route_of one).place) (segments_of (route_of other).place) path at_one at_other) in
+    let at : rank one ≡ rank other = apart_at clash endpoints (rank one) (rank other) one table_apart (inside one) (inside other) (rw (stands one one, stands other one) both) in
+    sym (stands one one) ∙ ap (λ n. get_or endpoints n one) at ∙ stands other one

@@ -1,0 +1,55 @@
+-- Laws about operations, in words of their own.
+use Rattle.std.specs.Prelude.{◌≡◌, ◌≢◌, ℕ, List, [], ◌∷◌, Bool, not, filter, Some, None, Ok, ⊤}
+use Rattle.af_runs.specs.Runs.{is_of}
+use Rattle.af_sched.specs.State.{AreInOrder, StateRows, is_of_id}
+use Rattle.af_ops.specs.declared.endpoint.Endpoint.{Endpoint}
+use Rattle.af_ops.specs.declared.method.Method.TheVariants.{Get}
+use Rattle.af_ops.specs.declared.op.Op.{Op}
+use Rattle.af_ops.specs.Effects.{Effect, effect_of}
+use Rattle.af_ops.specs.Endpoints.{dag_of, endpoint_of}
+use Rattle.af_ops.specs.Listings.{default_limit, page, read_rows}
+use Rattle.af_ops.specs.Table.{Segment, Text, Part, route_of, segments_of}
+
+-- the rows of a listing stand in byte order of their ids, and no id stands twice
+abbrev pub ListingsGoById : Type 0
+ListingsGoById =
+    (reads : List ℕ → Bool) (state : StateRows) → AreInOrder state.dags
+    → AreInOrder (page default_limit 0 (read_rows reads (λ row. row.dag.dag_id) state.dags))
+
+-- an operation that is asked for by GET leaves every state as it is
+abbrev pub ReadingsLeaveTheState : Type 0
+ReadingsLeaveTheState =
+    (reads : List ℕ → Bool) (state : StateRows) (asked : Op) (now : ℕ) (effect : Effect) → (route_of (endpoint_of asked)).method ≡ Get
+    → effect_of reads state asked now ≡ Ok effect → effect.next ≡ None
+
+-- what is told to be a change leaves another state
+abbrev pub ChangesLeaveAnotherState : Type 0
+ChangesLeaveAnotherState =
+    (reads : List ℕ → Bool) (state : StateRows) (asked : Op) (now : ℕ) (effect : Effect) (next : StateRows) → effect_of reads state asked now ≡ Ok effect
+    → effect.next ≡ Some next → next ≢ state
+
+-- the other DAGs, their runs and the pools are the same
+pub record LeavesOthers (dag_id : List ℕ) (old new : StateRows) : Type 0 where
+  pub dags : filter (λ row. not (is_of_id dag_id row)) new.dags ≡ filter (λ row. not (is_of_id dag_id row)) old.dags
+  pub runs : filter (λ run. not (is_of dag_id run)) new.runs ≡ filter (λ run. not (is_of dag_id run)) old.runs
+  pub pools : new.pools ≡ old.pools
+
+-- an operation at one DAG leaves all other DAGs, their runs and the pools as they were
+abbrev pub ChangesStayAtTheirDag : Type 0
+ChangesStayAtTheirDag =
+    (reads : List ℕ → Bool) (state : StateRows) (asked : Op) (now : ℕ) (effect : Effect) (next : StateRows) (dag_id : List ℕ) → effect_of reads state asked now ≡ Ok effect
+    → effect.next ≡ Some next → dag_of asked ≡ Some dag_id → LeavesOthers dag_id state next
+
+-- the texts between a path's slashes are those of a pattern, where a part stands for any text that is not empty
+abbrev pub Matches : List Segment → List (List ℕ) → Type 0
+Matches [] [] = ⊤
+Matches [] (text ∷ path) = ⊥
+Matches (segment ∷ pattern) [] = ⊥
+Matches (Text expected ∷ pattern) (text ∷ path) = (text ≡ expected) × Matches pattern path
+Matches (Part name ∷ pattern) (text ∷ path) = (text ≢ []) × Matches pattern path
+
+-- a method and a path name one operation at most
+abbrev pub OneRowAtMost : Type 0
+OneRowAtMost =
+    (path : List (List ℕ)) (one other : Endpoint) → (route_of one).method ≡ (route_of other).method
+    → Matches (segments_of (route_of one).place) path → Matches (segments_of (route_of other).place) path → one ≡ other

@@ -1,0 +1,65 @@
+-- A small policy and a small state, for worked values: a viewer, a user who may read one DAG, one who may edit all, one without
+-- permissions, and three DAGs, the first of them paused.
+use Rattle.std.specs.Prelude.{ℕ, List, [], ◌∷◌, ◌++◌, Bool, true, false, Option, Some, None, codes}
+use Rattle.af_role.specs.declared.action.Action.TheVariants.{Read}
+use Rattle.af_role.specs.Pairs.{on_dag}
+use Rattle.af_role.specs.Roles.{RoleRow}
+use Rattle.af_role.specs.DefaultRoles.{viewer_adds, user_adds}
+use Rattle.af_policy.specs.Rows.{UserRow, PolicyRows}
+use Rattle.af_sched.specs.State.{StateRows}
+use Rattle.af_sched.specs.declared.dag_row.DagRow.{DagRow}
+use Rattle.af_ops.specs.declared.op.Op.{Op}
+use Rattle.af_ops.specs.declared.shown_answer.Shown.{Shown}
+use Rattle.af_ops.specs.Served.{answer_of}
+use Rattle.af_ops.specs.Standings.{StandingRows}
+use Rattle.af_ops.specs.Verdicts.{Verdict, judged}
+
+abbrev pub users : List UserRow
+users =
+    record { name = codes "bob"; digest = codes "digest of bob"; roles = codes "OnlyB" ∷ [] }
+    ∷ record { name = codes "pat"; digest = codes "digest of pat"; roles = codes "Public" ∷ [] }
+    ∷ record { name = codes "uma"; digest = codes "digest of uma"; roles = codes "User" ∷ [] }
+    ∷ record { name = codes "vera"; digest = codes "digest of vera"; roles = codes "Viewer" ∷ [] }
+    ∷ []
+
+abbrev pub roles : List RoleRow
+roles =
+    record { name = codes "OnlyB"; pairs = on_dag Read (codes "b") ∷ [] }
+    ∷ record { name = codes "Public"; pairs = [] }
+    ∷ record { name = codes "User"; pairs = viewer_adds ++ user_adds }
+    ∷ record { name = codes "Viewer"; pairs = viewer_adds }
+    ∷ []
+
+abbrev pub policy : PolicyRows
+policy = record { users = users; roles = roles }
+
+abbrev pub dag : List ℕ → Bool → DagRow
+dag id paused = record {
+  dag = record { dag_id = id; tasks = []; schedule = None; catchup = true; max_active_runs = 16 };
+  is_paused = paused;
+  cursor = None;
+}
+
+-- the state in which the DAG b is paused, or not
+abbrev pub state_with : Bool → StateRows
+state_with paused = record {
+  dags = dag (codes "a") true ∷ dag (codes "b") paused ∷ dag (codes "c") false ∷ [];
+  runs = [];
+  next_run = 1;
+  pools = [];
+}
+
+-- the opening policy, with this many entries in the audit
+abbrev pub at_entries : ℕ → Bool → StandingRows
+at_entries entries paused = record { under = record { version = 0; seq = entries }; state = state_with paused }
+
+abbrev pub opening : StandingRows
+opening = at_entries 0 false
+
+-- the verdict on what this user asks
+abbrev pub asks : StandingRows → List ℕ → Op → Verdict
+asks standing who asked = judged policy standing asked 0 (Some who)
+
+-- what this user is told
+abbrev pub is_told : StandingRows → List ℕ → Op → Option Shown
+is_told standing who asked = answer_of asked standing.under (asks standing who asked)

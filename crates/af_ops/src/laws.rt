@@ -1,0 +1,26 @@
+ghost use Rattle.af_ops.specs.Laws.{ListingsGoById, ReadingsLeaveTheState, ChangesLeaveAnotherState, ChangesStayAtTheirDag, OneRowAtMost};
+
+/// A method and a path name one operation of the table at most.
+pub fn one_row_at_most()
+    ensures { OneRowAtMost }
+{}
+
+/// A listing of DAGs goes by id in byte order, and tells no DAG twice.
+pub fn listings_go_by_id()
+    ensures { ListingsGoById }
+{}
+
+/// An operation that is asked for by GET leaves every state as it is.
+pub fn readings_leave_the_state()
+    ensures { ReadingsLeaveTheState }
+{}
+
+/// An operation that is told to change the state leaves another one.
+pub fn changes_leave_another_state()
+    ensures { ChangesLeaveAnotherState }
+{}
+
+/// An operation at one DAG leaves all other DAGs, their runs and the pools as they were.
+pub fn changes_stay_at_their_dag()
+    ensures { ChangesStayAtTheirDag }
+{}

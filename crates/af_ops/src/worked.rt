@@ -1,0 +1,105 @@
+//! Worked values: what the definitions give for those who ask, on one policy and one state, computed by the checker.
+ghost use Rattle.std.specs.Prelude.{◌≡◌, [], ◌∷◌, codes, map, Err, Ok, None, Some, true, false};
+ghost use Rattle.af_ops.specs.declared.answer.CallFault.TheVariants as why;
+ghost use Rattle.af_ops.specs.declared.answer.OpFault.TheVariants as fault;
+ghost use Rattle.af_ops.specs.declared.body_fault.BodyFault.TheVariants.{BadBody, BadMember, OutOfMemory};
+ghost use Rattle.af_ops.specs.declared.body_fault.Member.TheVariants.{IsPaused};
+ghost use Rattle.af_ops.specs.declared.endpoint.Endpoint.TheVariants as endpoint;
+ghost use Rattle.af_ops.specs.declared.method.Method.TheVariants.{Get, Post, Patch};
+ghost use Rattle.af_ops.specs.declared.op.Op.TheVariants as op;
+ghost use Rattle.af_ops.specs.declared.place.Place.TheVariants as place;
+ghost use Rattle.af_ops.specs.declared.status.Status.TheVariants as status;
+ghost use Rattle.af_role.specs.declared.action.Action.TheVariants.{Read, Edit};
+ghost use Rattle.serde_json.specs.Written.{compact_text};
+ghost use Rattle.af_ops.specs.Bodies.{pause_in};
+ghost use Rattle.af_ops.specs.Endpoints.{op_of_row};
+ghost use Rattle.af_ops.specs.Fields.{listing_of};
+ghost use Rattle.af_ops.specs.Methods.{method_of};
+ghost use Rattle.af_ops.specs.Replies.{dag_data, fault_data, version_data};
+ghost use Rattle.af_ops.specs.Served.{answer_of, fault_told, left_by};
+ghost use Rattle.af_ops.specs.Statuses.{code_of, is_fault_status};
+ghost use Rattle.af_ops.specs.Table.{at_dag, at_some_dag, endpoint_at, endpoints, methods_at, route_of, segments_of, spelled};
+ghost use Rattle.af_ops.specs.Verdicts.{Open, Stranger, Lacks, Refuses, Tells, Changes, judged, verdict};
+ghost use Rattle.af_ops.specs.Worked.{asks, at_entries, dag, is_told, opening, policy, state_with};
+
+/// Who asks for DAGs: a viewer is told all three, who may read one DAG that one, who has no permission the requirement that is
+/// lacked. Who may not read a DAG is told the same whether it is there or not; who may is told that it is not.
+pub fn readings_by_the_rule()
+    ensures viewer { asks opening (codes "vera") op.ListDags ≡ Tells (compact_text (listing_of (codes "dags") (map dag_data (state_with false).dags) 3)) }
+    ensures one { asks opening (codes "bob") op.ListDags ≡ Tells (compact_text (listing_of (codes "dags") (dag_data (dag (codes "b") false) ∷ []) 1)) }
+    ensures denied { asks opening (codes "pat") op.ListDags ≡ Lacks (at_some_dag Read) }
+    ensures unknown { asks opening (codes "nobody") op.ListDags ≡ Lacks (at_some_dag Read) }
+    ensures nobody { judged policy opening op.ListDags 0 None ≡ Stranger }
+    ensures shown { asks opening (codes "bob") (op.GetDag (codes "b")) ≡ Tells (compact_text (dag_data (dag (codes "b") false))) }
+    ensures hidden { asks opening (codes "bob") (op.GetDag (codes "a")) ≡ Lacks (at_dag Read) }
+    ensures hidden_absent { asks opening (codes "bob") (op.GetDag (codes "nosuch")) ≡ Lacks (at_dag Read) }
+    ensures absent { asks opening (codes "vera") (op.GetDag (codes "nosuch")) ≡ Refuses fault.NoSuchDag }
+    ensures open { verdict policy opening None op.Version 0 ≡ Open (compact_text version_data) }
+{}
+
+/// A DAG is paused, and paused again: the first is a change. A denial comes before a bad body, that before an absent DAG, and
+/// both before a history that is full.
+pub fn changes_by_the_rule()
+    ensures paused { asks opening (codes "uma") (op.PauseDag (codes "b") (Ok true)) ≡ Changes (compact_text (dag_data (dag (codes "b") true))) (state_with true) }
+    ensures left { left_by (asks opening (codes "uma") (op.PauseDag (codes "b") (Ok true))) opening ≡ at_entries 1 true }
+    ensures again { asks (at_entries 1 true) (codes "uma") (op.PauseDag (codes "b") (Ok true)) ≡ Tells (compact_text (dag_data (dag (codes "b") true))) }
+    ensures back { asks (at_entries 1 true) (codes "uma") (op.PauseDag (codes "b") (Ok false)) ≡ Changes (compact_text (dag_data (dag (codes "b") false))) (state_with false) }
+    ensures denied { asks opening (codes "vera") (op.PauseDag (codes "b") (Err BadBody)) ≡ Lacks (at_dag Edit) }
+    ensures bad_body { asks opening (codes "uma") (op.PauseDag (codes "nosuch") (Err BadBody)) ≡ Refuses fault.BadBody }
+    ensures bad_member { asks opening (codes "uma") (op.PauseDag (codes "nosuch") (Err (BadMember IsPaused))) ≡ Refuses (fault.BadMember IsPaused) }
+    ensures absent { asks opening (codes "uma") (op.PauseDag (codes "nosuch") (Ok true)) ≡ Refuses fault.NoSuchDag }
+    ensures last { asks (at_entries 999_999 false) (codes "uma") (op.PauseDag (codes "b") (Ok true)) ≡ Changes (compact_text (dag_data (dag (codes "b") true))) (state_with true) }
+    ensures full { asks (at_entries 1_000_000 false) (codes "uma") (op.PauseDag (codes "b") (Ok true)) ≡ Refuses fault.HistoryFull }
+    ensures full_reads { asks (at_entries 1_000_000 true) (codes "uma") (op.PauseDag (codes "b") (Ok true)) ≡ Tells (compact_text (dag_data (dag (codes "b") true))) }
+{}
+
+/// What each of them is told.
+pub fn messages_by_the_rule()
+    ensures one { is_told opening (codes "bob") op.ListDags ≡ Some (record { status = status.Ok; version = Some 0; seq = Some 0; body = Some (codes "{\"dags\":[{\"dag_id\":\"b\",\"is_paused\":false,\"max_active_runs\":16,\"next_dagrun\":null,\"schedule_interval\":null}],\"total_entries\":1}") }) }
+    ensures paused { is_told opening (codes "uma") (op.PauseDag (codes "b") (Ok true)) ≡ Some (record { status = status.Ok; version = Some 0; seq = Some 1; body = Some (codes "{\"dag_id\":\"b\",\"is_paused\":true,\"max_active_runs\":16,\"next_dagrun\":null,\"schedule_interval\":null}") }) }
+    ensures again { is_told (at_entries 1 true) (codes "uma") (op.PauseDag (codes "b") (Ok true)) ≡ Some (record { status = status.Ok; version = Some 0; seq = Some 1; body = Some (codes "{\"dag_id\":\"b\",\"is_paused\":true,\"max_active_runs\":16,\"next_dagrun\":null,\"schedule_interval\":null}") }) }
+    ensures denied { is_told opening (codes "bob") (op.GetDag (codes "nosuch")) ≡ Some (record { status = status.Forbidden; version = Some 0; seq = Some 0; body = Some (codes "{\"detail\":\"missing permission DAG:nosuch.can_read\",\"status\":403,\"title\":\"Forbidden\",\"type\":\"about:blank\"}") }) }
+    ensures absent { is_told opening (codes "vera") (op.GetDag (codes "nosuch")) ≡ Some (record { status = status.NotFound; version = Some 0; seq = Some 0; body = Some (codes "{\"detail\":\"no such dag: nosuch\",\"status\":404,\"title\":\"Not Found\",\"type\":\"about:blank\"}") }) }
+    ensures bad_member { is_told opening (codes "uma") (op.PauseDag (codes "b") (Err (BadMember IsPaused))) ≡ Some (record { status = status.BadRequest; version = Some 0; seq = Some 0; body = Some (codes "{\"detail\":\"bad member: is_paused\",\"status\":400,\"title\":\"Bad Request\",\"type\":\"about:blank\"}") }) }
+    ensures nobody { answer_of op.ListDags opening.under Stranger ≡ Some (record { status = status.Unauthorized; version = Some 0; seq = Some 0; body = Some (codes "{\"detail\":\"authentication required\",\"status\":401,\"title\":\"Unauthorized\",\"type\":\"about:blank\"}") }) }
+    ensures version { answer_of op.Version opening.under (verdict policy opening None op.Version 0) ≡ Some (record { status = status.Ok; version = None; seq = None; body = Some (codes "{\"git_version\":null,\"version\":\"afplane 1\"}") }) }
+    ensures memory { fault_told op.ListDags opening.under (why.Op fault.OutOfMemory) ≡ None }
+{}
+
+/// Bodies of a pause: the last of a repeated member stays, null counts as absent, other members are ignored.
+pub fn bodies_by_the_rule()
+    ensures paused { pause_in (codes "{\"is_paused\":true}") ≡ Ok true }
+    ensures others { pause_in (codes " {\"tags\":[1],\"is_paused\":true,\"is_paused\":false} ") ≡ Ok false }
+    ensures cut { pause_in (codes "{") ≡ Err BadBody }
+    ensures empty { pause_in [] ≡ Err BadBody }
+    ensures list { pause_in (codes "[true]") ≡ Err BadBody }
+    ensures absent { pause_in (codes "{}") ≡ Err (BadMember IsPaused) }
+    ensures nothing { pause_in (codes "{\"is_paused\":null}") ≡ Err (BadMember IsPaused) }
+    ensures text { pause_in (codes "{\"is_paused\":\"true\"}") ≡ Err (BadMember IsPaused) }
+{}
+
+/// Requests by the table: methods are named to the letter, and a part that is no id names nothing.
+pub fn routes_by_the_rule()
+    ensures get { method_of (codes "GET") ≡ Some Get }
+    ensures small { method_of (codes "get") ≡ None }
+    ensures head { method_of (codes "HEAD") ≡ None }
+    ensures each { map (λ it. endpoint_at (route_of it).method (route_of it).place) endpoints ≡ map (λ it. Some it) endpoints }
+    ensures post { endpoint_at Post place.Dag ≡ None }
+    ensures methods { methods_at place.Dag ≡ record { get = true; post = false; patch = true; delete = false } }
+    ensures path { spelled (segments_of place.Dag) ≡ codes "/api/v1/dags/{dag_id}" }
+    ensures one { op_of_row endpoint.GetDag (codes "b" ∷ []) (codes "{") ≡ Some (op.GetDag (codes "b")) }
+    ensures body { op_of_row endpoint.PauseDag (codes "b" ∷ []) (codes "{") ≡ Some (op.PauseDag (codes "b") (Err BadBody)) }
+    ensures no_id { op_of_row endpoint.GetDag (codes "a b" ∷ []) [] ≡ None }
+    ensures each_dag { op_of_row endpoint.PauseDag (codes "~" ∷ []) (codes "{}") ≡ None }
+    ensures no_part { op_of_row endpoint.GetDag ([] ∷ []) [] ≡ None }
+{}
+
+/// Bodies of faults, and the numbers of the statuses.
+pub fn faults_by_the_rule()
+    ensures lost { compact_text (fault_data status.InternalError (codes "done, reply lost")) ≡ codes "{\"detail\":\"done, reply lost\",\"status\":500,\"title\":\"Internal Server Error\",\"type\":\"about:blank\"}" }
+    ensures memory { compact_text (fault_data status.Unavailable (codes "out of memory")) ≡ codes "{\"detail\":\"out of memory\",\"status\":503,\"title\":\"Service Unavailable\",\"type\":\"about:blank\"}" }
+    ensures cut_off { compact_text (fault_data status.BadRequest (codes "incomplete request")) ≡ codes "{\"detail\":\"incomplete request\",\"status\":400,\"title\":\"Bad Request\",\"type\":\"about:blank\"}" }
+    ensures numbers { map code_of (status.Ok ∷ status.NoContent ∷ status.BadRequest ∷ status.Unauthorized ∷ status.Forbidden ∷ status.NotFound ∷ status.MethodNotAllowed ∷ status.Conflict ∷ status.ContentTooLarge ∷ status.HeadTooLarge ∷ status.InternalError ∷ status.NotImplemented ∷ status.Unavailable ∷ status.InsufficientStorage ∷ []) ≡ 200 ∷ 204 ∷ 400 ∷ 401 ∷ 403 ∷ 404 ∷ 405 ∷ 409 ∷ 413 ∷ 431 ∷ 500 ∷ 501 ∷ 503 ∷ 507 ∷ [] }
+    ensures no_fault { is_fault_status status.NoContent ≡ false }
+    ensures first_fault { is_fault_status status.BadRequest ≡ true }
+{}
