@@ -10,3 +10,5 @@ pub mod RemovalLemmas
 pub mod ChangeLemmas
 pub mod SyncLemmas
 pub mod GrantLemmas
+pub mod VersionLemmas
+pub mod LawLemmas

@@ -1,6 +1,8 @@
 //! Policies: who is behind a token, and which permissions the roles of each user grant.
 #![tactic(auto)]
 
+mod ask;
+mod bad_input;
 mod change;
 mod change_fault;
 mod change_kind;
@@ -15,24 +17,33 @@ mod role_rows;
 mod role_table;
 mod row_fault;
 mod shared;
+mod submit_fault;
 mod tables;
 mod user;
 mod user_rows;
 mod user_table;
 mod uses;
+mod versions;
 mod view;
 mod worked;
 
+pub use ask::Ask;
+pub use bad_input::{BadInput, Member, Parameter};
 pub use change::{Change, DagAccess, RoleInput, UserPatch};
 pub use change_fault::ChangeFault;
 pub use change_kind::ChangeKind;
 pub use draft::{NoAdmin, PolicyDraft};
-pub use laws::{grants_by_roles, only_users_are_granted};
+pub use laws::{
+    grants_by_roles, only_users_are_granted, some_admin_stays, sync_keeps_the_rest,
+    sync_lists_exactly, used_roles_stay,
+};
 pub use policy::Policy;
 pub use reader::Reader;
 pub use role_names::RoleNames;
 pub use row_fault::RowFault;
+pub use submit_fault::SubmitFault;
 pub use user::User;
+pub use versions::Versions;
 pub use view::PolicyView;
 pub use worked::{
     bearers_by_the_rule, denials_by_the_rule, grants_by_the_rule, readers_by_the_rule,

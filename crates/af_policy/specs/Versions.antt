@@ -1,0 +1,97 @@
+-- The versions of a policy: who asks for a change, what comes of it, and what the list of versions keeps.
+use Rattle.std.specs.Prelude.{◌≡◌, ℕ, List, [], ◌∷◌, ◌++◌, length, nat_le, Option, Some, None, Result, Ok, Err, if◌then◌else◌}
+use Rattle.af_role.specs.declared.need.Need.{Need}
+use Rattle.af_policy.specs.Rows.{PolicyRows}
+use Rattle.af_policy.specs.Grants.{missing}
+use Rattle.af_policy.specs.Identity.{bearer_of}
+use Rattle.af_policy.specs.Changes.{changed, kind_of, needs_of}
+use Rattle.af_policy.specs.declared.change.Change.{Change}
+use Rattle.af_policy.specs.declared.change_kind.ChangeKind.{ChangeKind}
+use Rattle.af_policy.specs.declared.change_fault.ChangeFault.{ChangeFault}
+use Rattle.af_policy.specs.declared.change_fault.ChangeFault.TheVariants as change
+use Rattle.af_policy.specs.declared.ask.Ask.{Ask}
+use Rattle.af_policy.specs.declared.ask.Ask.TheVariants.{Made, Bad}
+use Rattle.af_policy.specs.declared.submit_fault.SubmitFault.{SubmitFault}
+use Rattle.af_policy.specs.declared.submit_fault.SubmitFault.TheVariants.{Unauthenticated, Denied, BadBody, Refused, Full, OutOfMemory}
+
+abbrev pub asked_kind : Ask → ChangeKind
+asked_kind (Made change) = kind_of change
+asked_kind (Bad kind input) = kind
+
+-- want of memory is told as such
+abbrev pub refused_by : ChangeFault → SubmitFault
+refused_by (change.BadAction text) = Refused (change.BadAction text)
+refused_by (change.PairNotAllowed text) = Refused (change.PairNotAllowed text)
+refused_by (change.UnknownRole name) = Refused (change.UnknownRole name)
+refused_by change.NoSuchRole = Refused change.NoSuchRole
+refused_by change.NoSuchUser = Refused change.NoSuchUser
+refused_by change.DefaultRole = Refused change.DefaultRole
+refused_by change.Exists = Refused change.Exists
+refused_by change.RoleInUse = Refused change.RoleInUse
+refused_by change.LastAdmin = Refused change.LastAdmin
+refused_by change.TooMany = Refused change.TooMany
+refused_by change.OutOfMemory = OutOfMemory
+
+abbrev pub made_or_refused : Result PolicyRows ChangeFault → Result PolicyRows SubmitFault
+made_or_refused (Ok policy) = Ok policy
+made_or_refused (Err fault) = Err (refused_by fault)
+
+abbrev pub permitted : PolicyRows → Ask → Result PolicyRows SubmitFault
+permitted policy (Bad kind input) = Err (BadBody input)
+permitted policy (Made change) = made_or_refused (changed policy change)
+
+abbrev pub unless_lacked : PolicyRows → Ask → Option Need → Result PolicyRows SubmitFault
+unless_lacked policy ask (Some need) = Err (Denied need)
+unless_lacked policy ask None = permitted policy ask
+
+abbrev pub asked_by : PolicyRows → Ask → Option (List ℕ) → Result PolicyRows SubmitFault
+asked_by policy ask None = Err Unauthenticated
+asked_by policy ask (Some user) = unless_lacked policy ask (missing policy user (needs_of (asked_kind ask)) None [])
+
+-- what a change that is asked for under a policy comes to: nobody's token; the first requirement that its author lacks; a
+-- body that is none; the first fault of the change; or the next policy
+abbrev pub decided : PolicyRows → Option (List ℕ) → Ask → Result PolicyRows SubmitFault
+decided policy token ask = asked_by policy ask (bearer_of policy token)
+
+-- a later policy follows one: some author, who lacks nothing under it for a change, makes that change
+pub record Follows (policy later : PolicyRows) : Type 0 where
+  pub author : List ℕ
+  pub change : Change
+  pub lacks_nothing : missing policy author (needs_of (kind_of change)) None [] ≡ None
+  pub made : changed policy change ≡ Ok later
+
+-- the policies but the latest, the latest, and the greatest number that a version may have
+pub record VersionRows : Type 0 where
+  pub earlier : List PolicyRows
+  pub latest : PolicyRows
+  pub last : ℕ
+
+-- version k is the k-th
+abbrev pub all_versions : VersionRows → List PolicyRows
+all_versions versions = versions.earlier ++ versions.latest ∷ []
+
+abbrev pub first_of : List PolicyRows → PolicyRows → PolicyRows
+first_of [] latest = latest
+first_of (policy ∷ policies) latest = policy
+
+-- each policy follows the one before it
+unfoldable pub IsHistory : List PolicyRows → PolicyRows → Type 0
+IsHistory [] latest = Unit {0}
+IsHistory (policy ∷ policies) latest = Follows policy (first_of policies latest) × IsHistory policies latest
+
+abbrev pub within : VersionRows → Result PolicyRows SubmitFault → Result PolicyRows SubmitFault
+within versions (Err fault) = Err fault
+within versions (Ok policy) = if nat_le versions.last (length versions.earlier) then Err Full else Ok policy
+
+-- what a change that is asked for comes to at the latest version: as decided there, or that no version is left
+abbrev pub submitted : VersionRows → Option (List ℕ) → Ask → Result PolicyRows SubmitFault
+submitted versions token ask = within versions (decided versions.latest token ask)
+
+-- what is told of a call that ends with that latest policy
+abbrev pub told_as : Result ℕ SubmitFault → PolicyRows → Result PolicyRows SubmitFault
+told_as (Ok version) latest = Ok latest
+told_as (Err fault) latest = Err fault
+
+-- the versions with one more
+abbrev pub with_version : VersionRows → PolicyRows → VersionRows
+with_version versions policy = record { earlier = versions.earlier ++ versions.latest ∷ []; latest = policy; last = versions.last }

@@ -1,0 +1,149 @@
+ghost use Rattle.std.specs.Prelude.{◌≡◌, ◌⊎◌, ◌<◌, [], length, slice_get, None, Some, Ok, Err, IfOk, OnOk, OnErr};
+ghost use Rattle.std.specs.Option.{option_copied};
+ghost use Rattle.af_policy.specs.Versions.{Follows, all_versions, asked_by, decided, permitted, submitted, told_as, with_version};
+ghost use Rattle.af_policy.specs.Changes.{changed};
+ghost use Rattle.af_policy.specs.declared.change.Change.{Change};
+ghost use Rattle.af_policy.specs.declared.ask.Ask.TheVariants.{Made};
+
+use crate::{Ask, Policy, SubmitFault};
+use af_names::{DagId, UserName};
+use std::alloc::{AllocError, Global};
+use std::marker::Model;
+
+/// The versions of a policy, numbered from 0, and the greatest number that a version may have. Each later one is made of the
+/// one before by a change, whose author lacked nothing there. Contracts see it as the policies and that number.
+#[derive(Drop)]
+pub struct Versions {
+    earlier: Vec<Policy>,
+    latest: Policy,
+    last: u32,
+}
+
+impl Model for Versions {
+    ghost use Rattle.std.specs.Prelude.{◌≤◌, length};
+    ghost use Rattle.af_policy.specs.Versions.{IsHistory, VersionRows};
+
+    ghost Value = { VersionRows };
+
+    ghost view = { λ versions. record { earlier = versions.earlier.items; latest = versions.latest; last = versions.last } };
+
+    ghost invariant = { λ versions. (length versions.earlier.items ≤ versions.last) × IsHistory versions.earlier.items versions.latest };
+}
+
+impl Versions {
+    /// The one version 0, and the greatest number that a version may have.
+    pub fn open(alloc: Global, policy: Policy, last: u32) -> Versions
+        ensures { result ≡ record { earlier = []; latest = policy; last = last } }
+    {
+        Versions {
+            earlier: Vec::new(alloc),
+            latest: policy,
+            last,
+        }
+    }
+
+    /// The number of the latest version.
+    pub fn current(&self) -> u32
+        ensures { result ≡ length self.now.earlier }
+    {
+        let _last = self.last;
+        self.earlier.len() as u32
+    }
+
+    /// The latest version.
+    pub fn latest(&self) -> &Policy
+        ensures { result.now ≡ self.now.latest }
+    {
+        &self.latest
+    }
+
+    /// A version. None past the latest.
+    pub fn policy(&self, version: u32) -> Option<&Policy>
+        ensures { option_copied result ≡ slice_get (all_versions self.now) version }
+    {
+        if version == self.current() {
+            return Some(&self.latest);
+        }
+        self.earlier.get(version as usize)
+    }
+
+    /// Makes a version of the latest by the change that the bearer of a token asks for, and gives its number. The faults
+    /// are told in the order of `SubmitFault`; after one there is no further version.
+    pub fn submit(
+        &mut self,
+        alloc: Global,
+        token: Option<&[u8]>,
+        ask: &Ask,
+    ) -> Result<u32, SubmitFault>
+        ensures told { (told_as result self.new.latest ≡ submitted self.old (option_copied token.entry) ask.now) ⊎ (result ≡ Err SubmitFault.OutOfMemory) }
+        ensures ok { IfOk result (λ version. (self.new ≡ with_version self.old self.new.latest) × (version ≡ length self.new.earlier)) }
+        ensures err { OnErr result (self.new ≡ self.old) }
+    {
+        let policy = self.latest.decide(alloc, token, ask)?;
+        if self.current() >= self.last {
+            return Err(SubmitFault::Full);
+        }
+        self.push(policy)?;
+        Ok(self.current())
+    }
+
+    /// Puts a policy behind the latest, which it follows.
+    fn push(&mut self, policy: Policy) -> Result<(), AllocError>
+        requires room { length self.old.earlier < self.old.last }
+        requires follows { Follows self.old.latest policy }
+        ensures ok { OnOk result (self.new ≡ with_version self.old policy) }
+        ensures err { OnErr result (self.new ≡ self.old) }
+    {
+        let before = self.latest.copy()?;
+        self.earlier.push(before)?;
+        self.latest = policy;
+        Ok(())
+    }
+}
+
+impl Policy {
+    /// What a change that is asked for under this policy comes to: the next policy, or the first fault of `SubmitFault`.
+    pub fn decide(
+        &self,
+        alloc: Global,
+        token: Option<&[u8]>,
+        ask: &Ask,
+    ) -> Result<Policy, SubmitFault>
+        ensures told { (result ≡ decided self.now (option_copied token.entry) ask.now) ⊎ (result ≡ Err SubmitFault.OutOfMemory) }
+        ensures follows { IfOk result (λ later. Follows self.now later) }
+    {
+        match self.bearer(token) {
+            Some(user) => self.decide_for(alloc, user, ask),
+            None => Err(SubmitFault::Unauthenticated),
+        }
+    }
+
+    /// What a change that a user asks for comes to.
+    fn decide_for(&self, alloc: Global, user: &UserName, ask: &Ask) -> Result<Policy, SubmitFault>
+        ensures told { (result ≡ asked_by self.now ask.now (Some user.now)) ⊎ (result ≡ Err SubmitFault.OutOfMemory) }
+        ensures follows { IfOk result (λ later. Follows self.now later) }
+    {
+        let dags: &[DagId] = &[];
+        match self.missing(user, ask.kind().needs(), None, dags) {
+            Some(need) => Err(SubmitFault::Denied(need)),
+            None => {
+                let later = self.permit(alloc, ask)?;
+                Ok(later)
+            }
+        }
+    }
+
+    /// What a change that is permitted comes to.
+    fn permit(&self, alloc: Global, ask: &Ask) -> Result<Policy, SubmitFault>
+        ensures told { (result ≡ permitted self.now ask.now) ⊎ (result ≡ Err SubmitFault.OutOfMemory) }
+        ensures makes { IfOk result (λ later. (change : Change) × (ask.now ≡ Made change) × (changed self.now change ≡ Ok later)) }
+    {
+        match ask {
+            Ask::Made(change) => {
+                let later = self.changed(alloc, change)?;
+                Ok(later)
+            }
+            Ask::Bad(_, input) => Err(SubmitFault::BadBody(*input)),
+        }
+    }
+}
