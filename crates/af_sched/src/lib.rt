@@ -36,6 +36,3 @@ pub use report_fault::ReportFault;
 pub use script::Script;
 pub use scripted::Scripted;
 pub use state::State;
-
-#[cfg(test)]
-mod tests;

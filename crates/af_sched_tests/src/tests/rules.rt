@@ -1,9 +1,12 @@
-use crate::tests::tables::{dag, has_states, instances, settled, task};
+use crate::tests::openings::{instances, moment, task, with_pool};
+use crate::tests::seen::first_are;
 use af_graph::{Rule, TaskState};
+use af_names::PoolName;
 use std::alloc::Global;
 use std::test::Fail;
 
-/// Whether d, after b and c, becomes this by its rule.
+/// The states of a diamond's tasks d, a, b and c after a tick, of which a has succeeded and b and c are in these states,
+/// where d's rule is this and its pool has no slots.
 fn becomes(
     alloc: Global,
     rule: Rule,
@@ -11,16 +14,18 @@ fn becomes(
     c: TaskState,
     wanted: TaskState,
 ) -> Result<bool, Fail> {
+    let mut last = task(alloc, "d", &["b", "c"], rule)?;
+    last.pool = PoolName::parse(alloc, "p")?;
     let tasks = vec![in alloc;
-        task(alloc, "d", &["b", "c"], rule)?,
+        last,
         task(alloc, "a", &[], Rule::AllSuccess)?,
         task(alloc, "b", &["a"], Rule::AllSuccess)?,
         task(alloc, "c", &["a"], Rule::AllSuccess)?,
     ]?;
-    let row = dag(alloc, "g", tasks, false)?;
-    let mut diamond = instances(alloc, &[TaskState::NoStatus, TaskState::Success, b, c])?;
-    settled(&row, 7, &mut diamond)?;
-    Ok(has_states(&diamond, &[wanted, TaskState::Success, b, c]))
+    let diamond = instances(alloc, &[TaskState::NoStatus, TaskState::Success, b, c])?;
+    let mut state = with_pool(alloc, 0, tasks, false, diamond)?;
+    let _changes = state.tick(alloc, moment(7)?)?;
+    Ok(first_are(&state, &[wanted, TaskState::Success, b, c]))
 }
 
 #[test]

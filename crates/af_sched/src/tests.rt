@@ -1,6 +1,0 @@
-mod claims;
-mod creating;
-mod phases;
-mod story;
-mod tables;
-mod ticks;

@@ -1,0 +1,9 @@
+mod adding;
+mod claims;
+mod creating;
+mod openings;
+mod rules;
+mod seen;
+mod steps;
+mod texts;
+mod ticks;

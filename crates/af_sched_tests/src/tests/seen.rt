@@ -1,0 +1,79 @@
+use af_graph::TaskState;
+use af_names::Instant;
+use af_runs::{Instance, Run, RunState};
+use af_sched::State;
+use std::test::Fail;
+
+/// Whether the DAGs have these ids.
+pub fn are_dags(state: &State, wanted: &[&str]) -> bool {
+    let rows = state.dags();
+    rows.len() == wanted.len()
+        && rows
+            .iter()
+            .zip(wanted)
+            .all(|(row, want)| row.dag.dag_id().as_str() == *want)
+}
+
+/// Whether the first DAG's cursor is at this moment.
+pub fn cursor_is(state: &State, wanted: Instant) -> Result<bool, Fail> {
+    match state.dags().first() {
+        Some(row) => Ok(row.cursor == Some(wanted)),
+        None => Ok(false),
+    }
+}
+
+/// Whether there are so many runs, of which so many are running.
+pub fn runs_are(state: &State, all: usize, running: usize) -> bool {
+    let rows = state.runs();
+    rows.len() == all && count_in(rows, RunState::Running) == running
+}
+
+fn count_in(rows: &[Run], state: RunState) -> usize {
+    rows.iter().filter(|run| run.state == state).count()
+}
+
+pub fn states_are(state: &State, wanted: &[RunState]) -> bool {
+    let rows = state.runs();
+    rows.len() == wanted.len()
+        && rows
+            .iter()
+            .zip(wanted)
+            .all(|(run, want)| run.state == *want)
+}
+
+/// Whether the first run has this id, and its interval ends at this moment.
+pub fn first_is(state: &State, run_id: &str, end: Instant) -> Result<bool, Fail> {
+    match state.runs().first() {
+        Some(run) => Ok(run.run_id.as_str() == run_id && run.interval.end == end),
+        None => Ok(false),
+    }
+}
+
+/// Whether the instances of the first run are in these states.
+pub fn first_are(state: &State, wanted: &[TaskState]) -> bool {
+    match state.runs().first() {
+        Some(run) => are(run, wanted),
+        None => false,
+    }
+}
+
+/// Whether the instances of a run are in these states.
+pub fn are(run: &Run, wanted: &[TaskState]) -> bool {
+    let rows = run.instances.as_slice();
+    rows.len() == wanted.len()
+        && rows
+            .iter()
+            .zip(wanted)
+            .all(|(row, want)| row.state == *want)
+}
+
+/// The first instance of the first run.
+pub fn first_instance(state: &State) -> Result<Instance, Fail> {
+    let Some(run) = state.runs().first() else {
+        return Err(Fail::from("no run"));
+    };
+    match run.instances.as_slice().first() {
+        Some(instance) => Ok(*instance),
+        None => Err(Fail::from("no instance")),
+    }
+}

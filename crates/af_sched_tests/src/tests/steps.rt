@@ -1,0 +1,158 @@
+use crate::tests::openings::{at, dag, moment, task};
+use crate::tests::seen::{are_dags, cursor_is, first_are, first_is, runs_are, states_are};
+use af_graph::{Rule, TaskState};
+use af_names::{DagId, PoolName, RunId, TaskId};
+use af_runs::RunState;
+use af_sched::{AddDagFault, Claim, Outcome, ReportFault, State};
+use std::alloc::Global;
+use std::test::Fail;
+
+/// What is done to a state, or seen of it.
+#[derive(Clone, Copy)]
+pub enum Step {
+    /// A tick at this moment changes the state.
+    Changes(&'static str),
+    /// A tick at this moment leaves it as it was.
+    Rests(&'static str),
+    /// A tick at this moment is planned, which leaves the runs as they are, and is then done.
+    Planned(&'static str),
+    /// The next claim is the first try of this task of the first run.
+    Claims(&'static str),
+    /// There is nothing to claim.
+    ClaimsNone,
+    /// The next claim is of this task, and the report of this outcome is taken, both so many microseconds after 1970.
+    Ends(&'static str, Outcome, u64),
+    /// A report of the run of this number, this task and this try, so many microseconds after 1970, is answered so.
+    Reports(u64, &'static str, u32, Outcome, u64, Result<(), ReportFault>),
+    /// Pool p gets so many slots.
+    Slots(u64),
+    /// The DAG of this id is paused, or goes on.
+    Paused(&'static str, bool),
+    /// Adding a DAG of this id is answered so.
+    Added(&'static str, Result<(), AddDagFault>),
+    /// The DAGs have these ids.
+    Dags(&'static [&'static str]),
+    /// The instances of the first run are in these states.
+    Are(&'static [TaskState]),
+    /// The cursor of the first DAG is at this moment.
+    Cursor(&'static str),
+    /// There are so many runs, and so many of them are running.
+    Runs(usize, usize),
+    /// The runs are in these states.
+    States(&'static [RunState]),
+    /// The first run has this id, and its interval ends at this moment.
+    First(&'static str, &'static str),
+}
+
+/// Of these steps, one after the other, the number of the first that does not go as it says.
+pub fn first_fault(
+    alloc: Global,
+    state: &mut State,
+    steps: &[Step],
+) -> Result<Option<usize>, Fail> {
+    for (number, step) in steps.iter().enumerate() {
+        if !goes(alloc, state, *step)? {
+            return Ok(Some(number));
+        }
+    }
+    Ok(None)
+}
+
+/// Whether a step goes as it says.
+fn goes(alloc: Global, state: &mut State, step: Step) -> Result<bool, Fail> {
+    match step {
+        Step::Changes(moment) => Ok(state.tick(alloc, at(moment)?)?),
+        Step::Rests(moment) => Ok(!state.tick(alloc, at(moment)?)?),
+        Step::Planned(moment) => planned(alloc, state, moment),
+        Step::Claims(task_id) => claims(alloc, state, task_id),
+        Step::ClaimsNone => Ok(state.claim(alloc, moment(3)?)?.is_none()),
+        Step::Ends(task_id, outcome, micros) => ends(alloc, state, task_id, outcome, micros),
+        Step::Reports(run, task_id, try_number, outcome, micros, wanted) => {
+            let claim = claim_of(alloc, run, task_id, try_number)?;
+            Ok(state.report(&claim, outcome, moment(micros)?) == wanted)
+        }
+        _ => changed_or_seen(alloc, state, step),
+    }
+}
+
+/// Whether a step that is no tick, claim or report goes as it says.
+fn changed_or_seen(alloc: Global, state: &mut State, step: Step) -> Result<bool, Fail> {
+    match step {
+        Step::Slots(slots) => {
+            let name = PoolName::parse(alloc, "p")?;
+            Ok(state.set_slots(&name, slots).is_ok())
+        }
+        Step::Paused(dag_id, is_paused) => {
+            state.set_paused(&DagId::parse(alloc, dag_id)?, is_paused);
+            Ok(true)
+        }
+        Step::Added(dag_id, wanted) => {
+            let tasks = vec![in alloc; task(alloc, "t", &[], Rule::AllSuccess)?]?;
+            Ok(state.add_dag(dag(alloc, dag_id, tasks, false)?) == wanted)
+        }
+        _ => seen(state, step),
+    }
+}
+
+/// Whether the state is as a step says.
+fn seen(state: &State, step: Step) -> Result<bool, Fail> {
+    match step {
+        Step::Dags(wanted) => Ok(are_dags(state, wanted)),
+        Step::Are(wanted) => Ok(first_are(state, wanted)),
+        Step::Cursor(moment) => cursor_is(state, at(moment)?),
+        Step::Runs(all, running) => Ok(runs_are(state, all, running)),
+        Step::States(wanted) => Ok(states_are(state, wanted)),
+        Step::First(run_id, end) => first_is(state, run_id, at(end)?),
+        _ => Ok(false),
+    }
+}
+
+/// Plans a tick, and does it: whether the plan leaves the runs as they are, and tells a change.
+fn planned(alloc: Global, state: &mut State, moment: &str) -> Result<bool, Fail> {
+    let before = state.runs().len();
+    let plan = state.plan_tick(alloc, at(moment)?)?;
+    let is_planned = plan.changes() && state.runs().len() == before;
+    state.commit(plan);
+    Ok(is_planned)
+}
+
+/// Whether the next claim is the first try of this task of the first run.
+fn claims(alloc: Global, state: &mut State, task_id: &str) -> Result<bool, Fail> {
+    match state.claim(alloc, moment(3)?)? {
+        Some(claim) => Ok(
+            claim.task_id.as_str() == task_id && claim.try_number == 1 && claim.run_number == 1,
+        ),
+        None => Ok(false),
+    }
+}
+
+fn ends(
+    alloc: Global,
+    state: &mut State,
+    task_id: &str,
+    outcome: Outcome,
+    micros: u64,
+) -> Result<bool, Fail> {
+    let at = moment(micros)?;
+    let Some(claim) = state.claim(alloc, at)? else {
+        return Ok(false);
+    };
+    let is_taken = state.report(&claim, outcome, at).is_ok();
+    Ok(is_taken && claim.task_id.as_str() == task_id)
+}
+
+/// A claim of run r of DAG g.
+pub fn claim_of(
+    alloc: Global,
+    run_number: u64,
+    task_id: &str,
+    try_number: u32,
+) -> Result<Claim, Fail> {
+    Ok(Claim {
+        run_number,
+        dag_id: DagId::parse(alloc, "g")?,
+        run_id: RunId::parse(alloc, "r")?,
+        task_id: TaskId::parse(alloc, task_id)?,
+        try_number,
+    })
+}
