@@ -1,5 +1,5 @@
 -- Rows in order of a key: what a search found, and that they stay in order.
-use Rattle.std.proofs.Common.{◌≡◌, ◌∙◌, ap, ℕ, ◌<◌, ◌≤◌, List, [], ◌∷◌, ◌++◌, get_or, set, take, drop, suc, true, false, not, length}
+use Rattle.std.proofs.Common.{arith, refl, ◌≡◌, ◌∙◌, ap, ℕ, ◌<◌, ◌≤◌, List, [], ◌∷◌, ◌++◌, get_or, set, take, drop, suc, true, false, not, length}
 use Rattle.std.specs.Prelude.{filter, insert, Some, Result, Ok, Err, MatchResult}
 use Rattle.std.specs.List.{HoldsAt}
 use Rattle.std.specs.List.Sorted.{IsStrictlySortedBy, IsNonDecreasingBy, IsPartitionPoint, IsSearchInRange, IsBinarySearchResult}
@@ -74,3 +74,12 @@ module _ {X : Type 0} (key_of : X → List ℕ) (rows : List X) where
 
   pub order-without : (key : List ℕ) → AreInOrder key_of rows → AreInOrder key_of (without_row key_of rows key)
   order-without key order = order-filter key_of nat_list_cmp_total (λ (row : X). not (has_key key_of key row)) rows order
+
+-- the first row fits at the first place
+pub fits_empty : {X : Type 0} (key_of : X → List ℕ) (key : List ℕ) → FitsAt key_of [] key 0
+fits_empty key_of key = record {
+  within = omega arith;
+  absent = refl;
+  none = refl;
+  parted = ((λ j d low high. absurd (omega arith)), (λ j d low high. absurd (omega arith)));
+}

@@ -7,3 +7,4 @@ pub mod WiringLemmas
 pub mod OrderLemmas
 pub mod ScheduleLemmas
 pub mod DagLemmas
+pub mod PlainLemmas

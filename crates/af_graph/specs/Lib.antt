@@ -6,4 +6,5 @@ pub mod Rows
 pub mod Schedules
 pub mod States
 pub mod Steps
+pub mod Texts
 pub mod TriggerRules

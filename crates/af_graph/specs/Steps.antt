@@ -1,5 +1,6 @@
 -- What the steps of working a graph out keep. No public contract cites this file.
 use Rattle.std.specs.Prelude.{ℕ, ◌≡◌, ◌<◌, ◌+◌, ◌==◌, Bool, true, not, ◌&&◌, ◌||◌, nat_lt, List, length, Option, Some, ◌⊎◌, filter, slice_index, vec_len, if◌then◌else◌}
+use Rattle.std.specs.Option.{option_map_or}
 use Rattle.std.specs.BTreeMap as tree
 use Rattle.std.specs.BTreeSet as sorted
 use Rattle.std.specs.Cmp.Lexicographic.{slice_cmp}
@@ -24,6 +25,10 @@ place_in index id = tree.get_by (λ key. slice_cmp nat_cmp id key.now) index.pla
 -- the index has the places of these tasks
 abbrev pub IsIndexOf : Index → List TaskSpec → Type 0
 IsIndexOf index tasks = (id : List ℕ) → place_in index id ≡ place_of tasks id
+
+-- the task of this id has been taken, or no task has it
+abbrev pub is_done : List TaskSpec → List ℕ → List ℕ → Bool
+is_done tasks taken id = option_map_or (is_among taken) (place_of tasks id) true
 
 -- the fault that a misfit is told as
 abbrev pub told : List TaskSpec → Misfit → DagFault

@@ -1,15 +1,18 @@
-ghost use Rattle.std.specs.Prelude.{◌≡◌, ◌<◌, ◌⊎◌, ℕ, length, Some, Ok, Err, IfOk, Contains};
+ghost use Rattle.std.specs.Prelude.{◌≡◌, ◌<◌, ◌⊎◌, ℕ, length, Some, None, Ok, Err, IfOk, IfSome, MatchOption, Contains};
 ghost use Rattle.std.specs.Option.{option_map};
 ghost use Rattle.std.specs.List.{slice_get};
-ghost use Rattle.af_graph.specs.Definition.{checked};
+ghost use Rattle.af_graph.specs.Definition.{checked, fault_of};
 ghost use Rattle.af_graph.specs.Order.{order_of, IsOrder};
 ghost use Rattle.af_graph.specs.Graph.{upstream_of, downstream_of, upstream_rows, place_of};
 
 use crate::dag_fault::DagFault;
 use crate::dag_spec::DagSpec;
+use crate::misfit::Misfit;
+use crate::plain::{first_misfit, place_of};
 use crate::rule::Rule;
 use crate::schedule::Schedule;
 use crate::task_spec::TaskSpec;
+use crate::task_specs::TaskSpecs;
 use crate::wiring::Wiring;
 use af_names::{DagId, TaskId};
 use std::alloc::{AllocError, Global};
@@ -37,13 +40,15 @@ impl Model for Dag {
 
 impl Dag {
     /// The DAG of a definition. Else the first fault of `DagFault`, in its order; `OutOfMemory`
-    /// only where a growth was refused. It takes time in the number of tasks and of edges, each of
+    /// only where a growth was refused, and the definition has no fault: a fault is told, memory or not. It takes time in the number of tasks and of edges, each of
     /// them at most times the logarithm of the number of tasks.
     pub fn new(alloc: Global, spec: DagSpec) -> Result<Dag, DagFault>
-        ensures { (result ≡ checked spec) ⊎ (result ≡ Err DagFault.OutOfMemory) }
+        ensures told { (result ≡ checked spec) ⊎ (result ≡ Err DagFault.OutOfMemory) }
+        ensures refused { IfSome (fault_of spec.tasks) (λ fault. result ≡ Err fault) }
     {
         match Wiring::of(alloc, spec.tasks.as_slice()) {
             Ok(wiring) => Ok(Dag { spec, wiring }),
+            Err(Misfit::OutOfMemory) => Err(without_memory(spec.tasks)),
             Err(misfit) => Err(misfit.told(spec.tasks)),
         }
     }
@@ -123,10 +128,16 @@ impl Dag {
     pub fn place_of(&self, task_id: &TaskId) -> Option<usize>
         ensures { result ≡ place_of self.now.tasks task_id.now }
     {
-        self.spec
-            .tasks
-            .as_slice()
-            .iter()
-            .position(|task| task.task_id == *task_id)
+        place_of(self.spec.tasks.as_slice(), task_id)
+    }
+}
+
+/// What is told of tasks where a growth was refused: their fault, if they have one.
+fn without_memory(tasks: TaskSpecs) -> DagFault
+    ensures { MatchOption (fault_of tasks) (result ≡ DagFault.OutOfMemory) (λ fault. result ≡ fault) }
+{
+    match first_misfit(tasks.as_slice()) {
+        Some(misfit) => misfit.told(tasks),
+        None => DagFault::OutOfMemory,
     }
 }

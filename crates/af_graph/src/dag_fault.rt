@@ -1,5 +1,6 @@
 use af_names::TaskId;
 use std::alloc::AllocError;
+use std::fmt;
 
 /// Why a definition makes no DAG. Where several apply, the first is told.
 #[derive(Debug, Drop, PartialEq, Eq)]
@@ -28,5 +29,19 @@ impl From<AllocError> for DagFault {
 
     fn from(_error: AllocError) -> DagFault {
         DagFault::OutOfMemory
+    }
+}
+
+impl fmt::Display for DagFault {
+    fn fmt<W: fmt::Write>(&self, f: &mut fmt::Formatter<W>) -> fmt::Result {
+        match self {
+            DagFault::NoTask => f.write_str("no task"),
+            DagFault::TooMany => f.write_str("more than 512 tasks"),
+            DagFault::Duplicate(id) => write!(f, "two tasks of one id: {id}"),
+            DagFault::UnknownUpstream(id) => write!(f, "an upstream task that is not there: {id}"),
+            DagFault::Cycle(id) => write!(f, "on a cycle or below one: {id}"),
+            DagFault::BadSlots(id) => write!(f, "pool slots out of range: {id}"),
+            DagFault::OutOfMemory => f.write_str("out of memory"),
+        }
     }
 }

@@ -10,6 +10,7 @@ mod laws;
 mod links;
 mod misfit;
 mod multiples;
+mod plain;
 mod rule;
 mod schedule;
 mod taking;
@@ -33,6 +34,3 @@ pub use task_specs::TaskSpecs;
 pub use task_state::TaskState;
 pub use verdict::{Verdict, ready};
 pub use wiring::{MOST_SLOTS, MOST_TASKS};
-
-#[cfg(test)]
-mod tests;

@@ -73,7 +73,7 @@ impl Wiring {
 }
 
 /// The place of the first task whose slots are out of range.
-fn first_bad_slots(tasks: &[TaskSpec]) -> Option<usize>
+pub(crate) fn first_bad_slots(tasks: &[TaskSpec]) -> Option<usize>
     ensures { result ≡ find (at_place tasks.now has_bad_slots) (places tasks.now) }
 {
     position_of_bad_slots(tasks)

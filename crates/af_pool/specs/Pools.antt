@@ -1,9 +1,8 @@
 -- Pools: rows by name in byte order (Airflow 2, "Pools"). The limits are this product's own rule.
-use Rattle.std.specs.Prelude.{ℕ, ◌≡◌, ◌-◌, ◌≤◌, List, ◌∷◌, ◌++◌, Bool, true, not, length, map, filter, find, unwrap_or, option_map, All, nat_lt, nat_le, codes, Option, Some, None, Result, IfErr, if◌then◌else◌}
+use Rattle.std.specs.Prelude.{ℕ, ◌≡◌, ◌-◌, ◌≤◌, List, Bool, true, not, length, unwrap_or, option_map, All, nat_lt, nat_le, codes, Option, Some, None, Result, IfErr, if◌then◌else◌}
 use Rattle.std.specs.List.{list_any}
-use Rattle.std.specs.List.Sorted.{IsStrictlySortedBy}
-use Rattle.std.specs.Ordering.{nat_cmp, is_lt}
-use Rattle.std.specs.Cmp.Lexicographic.{slice_cmp}
+pub use Rattle.af_base.specs.Ordered.{comes_before}
+use Rattle.af_base.specs.Ordered.{Kept, AreInOrder, is_there, row_of, with_row, with_change, without_row}
 use Rattle.af_graph.specs.Graph.{same_name}
 use Rattle.af_graph.specs.declared.dag_spec.DagSpec.{DagSpec}
 use Rattle.af_graph.specs.declared.task_state.TaskState.{TaskState}
@@ -13,47 +12,40 @@ use Rattle.af_pool.specs.declared.fault.PoolFault.TheVariants.{BadSlots, NoSuchP
 use Rattle.af_pool.specs.Occupants.{OccupantRow, slots_taken, slots_in}
 
 -- the pools: their rows, by name in byte order, and for how many more rows memory is reserved
-pub record PoolRows : Type 0 where
-  pub rows : List Pool
-  pub spare : ℕ
+abbrev pub PoolRows : Type 0
+PoolRows = Kept Pool
 
 -- the name of the pool that is always there
 abbrev pub default_name : List ℕ
 default_name = codes "default_pool"
 
--- whether the row is that of the pool of this name
-abbrev pub is_named : List ℕ → Pool → Bool
-is_named name pool = same_name pool.name name
+-- the key by which the rows are in order
+abbrev pub name_of : Pool → List ℕ
+name_of pool = pool.name
 
 -- whether there is a pool of this name
 abbrev pub has_pool : List Pool → List ℕ → Bool
-has_pool pools name = list_any (is_named name) pools
+has_pool pools name = is_there name_of pools name
 
 -- the pool of this name
 abbrev pub pool_of : List Pool → List ℕ → Option Pool
-pool_of pools name = find (is_named name) pools
+pool_of pools name = row_of name_of pools name
 
 -- the slots of the pool of this name; 0 where there is none
 abbrev pub slots_of : List Pool → List ℕ → ℕ
 slots_of pools name = unwrap_or (option_map (λ pool. pool.slots) (pool_of pools name)) 0
 
--- whether one name stands before another in byte order
-abbrev pub comes_before : List ℕ → List ℕ → Bool
-comes_before name other = is_lt (slice_cmp nat_cmp name other)
-
 -- the pools with one more, in its place by name
 abbrev pub with_pool : List Pool → Pool → List Pool
-with_pool pools pool =
-    filter (λ other. comes_before other.name pool.name) pools
-    ++ pool ∷ filter (λ other. comes_before pool.name other.name) pools
+with_pool pools pool = with_row name_of pools pool
 
 -- the pools, that of this name with other slots
 abbrev pub with_slots : List Pool → List ℕ → ℕ → List Pool
-with_slots pools name slots = map (λ pool. if is_named name pool then record pool { slots = slots } else pool) pools
+with_slots pools name slots = with_change name_of (λ pool. record pool { slots = slots }) pools name
 
 -- the pools without that of this name
 abbrev pub without_pool : List Pool → List ℕ → List Pool
-without_pool pools name = filter (λ pool. not (is_named name pool)) pools
+without_pool pools name = without_row name_of pools name
 
 -- whether some task of the DAG names the pool
 abbrev pub names_pool : List ℕ → DagSpec → Bool
@@ -102,7 +94,7 @@ open_slots pools name occupants = slots_of pools name - occupied_slots pools nam
 -- what holds of the rows at all times
 pub record ArePools (pools : List Pool) : Type 0 where
   -- they are in byte order of their names, and no two have one name
-  pub in_order : IsStrictlySortedBy (slice_cmp nat_cmp) (map (λ pool. pool.name) pools)
+  pub in_order : AreInOrder name_of pools
   pub few : length pools ≤ 65_536
   pub bounded : All (λ pool. pool.slots ≤ 1_000_000) pools
   -- the default pool is there

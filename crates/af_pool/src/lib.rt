@@ -11,6 +11,3 @@ pub use fault::PoolFault;
 pub use occupant::Occupant;
 pub use pool::Pool;
 pub use pools::Pools;
-
-#[cfg(test)]
-mod tests;

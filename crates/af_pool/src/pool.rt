@@ -1,3 +1,4 @@
+use af_base::{Change, Keyed};
 use af_names::PoolName;
 
 /// One pool: its name, and its slots, 0 to 1,000,000.
@@ -5,4 +6,30 @@ use af_names::PoolName;
 pub struct Pool {
     pub name: PoolName,
     pub slots: u32,
+}
+
+impl Keyed for Pool {
+    ghost key_of = { λ pool. pool.name };
+
+    fn key(&self) -> &str {
+        self.name.as_str()
+    }
+}
+
+/// A pool gets other slots.
+#[derive(Drop)]
+pub(crate) struct SetSlots {
+    pub(crate) slots: u32,
+}
+
+impl Change<Pool> for SetSlots {
+    ghost use Rattle.std.specs.Prelude.{refl};
+
+    ghost changed = { λ change pool. record pool { slots = change.slots } };
+
+    fn change(self, row: &mut Pool) {
+        row.slots = self.slots;
+    }
+
+    ghost keeps_key = { λ change pool. refl };
 }

@@ -1,11 +1,12 @@
 ghost use Rattle.std.specs.Prelude.{◌≡◌, ◌≢◌, ◌⊎◌, ◌+◌, ◌-◌, ◌^◌, ◌<◌, ◌≤◌, ◌∷◌, [], Err, Some, IfOk, IfErr, IfSome, IsNone, IsOk, OnOk, OnErr, MatchResult, min, option_copied, is_ok, if◌then◌else◌};
-ghost use Rattle.af_pool.specs.Places.{StandsAt, FitsAt, CanAdd, CanSet, CanRemove};
+ghost use Rattle.af_pool.specs.Places.{CanAdd, CanSet, CanRemove};
 ghost use Rattle.af_graph.specs.Graph.{same_name};
 ghost use Rattle.af_pool.specs.Pools.{ArePools, names_pool, default_name, has_pool, pool_of, slots_of, is_in_use, with_pool, with_slots, without_pool, add_fault, set_fault, remove_fault, IsOkOrOutOfMemory, occupied_slots, occupied_in, open_slots};
 
 use crate::fault::PoolFault;
 use crate::occupant::{Occupant, slots_in, slots_taken};
-use crate::pool::Pool;
+use crate::pool::{Pool, SetSlots};
+use af_base::Ordered;
 use af_graph::{Dag, TaskState};
 use af_names::PoolName;
 use std::alloc::{AllocError, Global};
@@ -27,21 +28,17 @@ const MOST_POOLS: usize = 65_536;
 /// memory is reserved.
 #[derive(Drop)]
 pub struct Pools {
-    rows: Vec<Pool>,
+    rows: Ordered<Pool>,
 }
 
 impl Model for Pools {
-    ghost use Rattle.std.specs.Prelude.{◌-◌, vec_len, vec_capacity};
     ghost use Rattle.af_pool.specs.Pools.{PoolRows, ArePools};
 
     ghost Value = { PoolRows };
 
-    ghost view = { λ pools. record {
-      rows = pools.rows.items;
-      spare = vec_capacity pools.rows - vec_len pools.rows;
-    } };
+    ghost view = { λ pools. pools.rows };
 
-    ghost invariant = { λ pools. ArePools pools.rows.items };
+    ghost invariant = { λ pools. ArePools pools.rows.rows };
 }
 
 impl Pools {
@@ -52,11 +49,14 @@ impl Pools {
         let Ok(name) = PoolName::parse(alloc, DEFAULT_POOL) else {
             return Err(AllocError);
         };
-        let mut rows = Vec::new(alloc);
-        rows.push(Pool {
-            name,
-            slots: DEFAULT_SLOTS,
-        })?;
+        let mut rows = Ordered::new(alloc);
+        rows.insert_at(
+            0,
+            Pool {
+                name,
+                slots: DEFAULT_SLOTS,
+            },
+        )?;
         Ok(Pools { rows })
     }
 
@@ -65,14 +65,14 @@ impl Pools {
         ensures rows { result.now ≡ self.now.rows }
         ensures kept { ArePools self.now.rows }
     {
-        self.rows.as_slice()
+        self.rows.rows()
     }
 
     /// For how many more pools memory is reserved.
     pub fn spare(&self) -> usize
         ensures { result ≡ self.now.spare }
     {
-        self.rows.capacity() - self.rows.len()
+        self.rows.spare()
     }
 
     /// Reserves memory for that many more pools. `AllocError` only where a growth was refused, so never where there is
@@ -108,7 +108,7 @@ impl Pools {
     {
         let place = self.place_to_add(&name, slots)?;
         let slots = slots as u32;
-        self.rows.insert(place, Pool { name, slots })?;
+        self.rows.insert_at(place, Pool { name, slots })?;
         Ok(())
     }
 
@@ -128,7 +128,9 @@ impl Pools {
         ensures err { OnErr result (self.new ≡ self.old) }
     {
         let place = self.place_to_set(name, slots)?;
-        self.rows[place].slots = slots as u32;
+        let slots = slots as u32;
+        self.rows
+            .change_at(name.as_str(), place, SetSlots { slots });
         Ok(())
     }
 
@@ -149,7 +151,7 @@ impl Pools {
         ensures spare { self.old.spare ≤ self.new.spare }
     {
         let place = self.place_to_remove(name, dags)?;
-        let _pool = self.rows.remove(place);
+        let _pool = self.rows.remove_at(name.as_str(), place);
         Ok(())
     }
 
@@ -161,9 +163,9 @@ impl Pools {
         if slots > MOST_SLOTS {
             return Err(PoolFault::BadSlots);
         }
-        match self.place_of(name) {
+        match self.rows.place(name.as_str()) {
             Ok(_) => Err(PoolFault::Exists),
-            Err(_) if self.rows.len() >= MOST_POOLS => Err(PoolFault::Full),
+            Err(_) if self.rows().len() >= MOST_POOLS => Err(PoolFault::Full),
             Err(place) => Ok(place),
         }
     }
@@ -176,7 +178,7 @@ impl Pools {
         if slots > MOST_SLOTS {
             return Err(PoolFault::BadSlots);
         }
-        match self.place_of(name) {
+        match self.rows.place(name.as_str()) {
             Ok(place) => Ok(place),
             Err(_) => Err(PoolFault::NoSuchPool),
         }
@@ -187,7 +189,7 @@ impl Pools {
         ensures ok { IfOk result (CanRemove self.now.rows name.now dags.now) }
         ensures err { IfErr result (λ fault. remove_fault self.now.rows name.now dags.now ≡ Some fault) }
     {
-        match self.place_of(name) {
+        match self.rows.place(name.as_str()) {
             Err(_) => Err(PoolFault::NoSuchPool),
             Ok(_) if is_default(name) => Err(PoolFault::DefaultPool),
             Ok(_) if is_in_use(name, dags) => Err(PoolFault::InUse),
@@ -195,28 +197,18 @@ impl Pools {
         }
     }
 
-    /// Where the row of the pool of this name stands, or where it would.
-    fn place_of(&self, name: &PoolName) -> Result<usize, usize>
-        ensures { MatchResult result (StandsAt self.now.rows name.now) (FitsAt self.now.rows name.now) }
-    {
-        self.rows.binary_search_by(|pool| pool.name.cmp(name))
-    }
-
     /// Whether there is a pool of this name.
     pub fn has(&self, name: &PoolName) -> bool
         ensures { result ≡ has_pool self.now.rows name.now }
     {
-        self.place_of(name).is_ok()
+        self.rows.has(name.as_str())
     }
 
     /// The pool of this name.
     pub fn get(&self, name: &PoolName) -> Option<&Pool>
         ensures { option_copied result ≡ pool_of self.now.rows name.now }
     {
-        match self.place_of(name) {
-            Ok(place) => Some(&self.rows[place]),
-            Err(_) => None,
-        }
+        self.rows.get(name.as_str())
     }
 
     /// The slots of the pool of this name; 0 where there is none.

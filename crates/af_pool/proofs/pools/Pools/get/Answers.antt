@@ -1,9 +1,0 @@
-use Rattle.std.proofs.Common.{ap}
-use Rattle.std.specs.Prelude.{Some}
-use Rattle.af_pool.proofs.PoolLemmas.{pool_of-is}
-use Rattle.af_pool.proofs.pools.Pools.get.Goals as goal
-
-pub returns-in-Ok : goal.returns-in-Ok
-returns-in-Ok c =
-    let stands = rw (← c.self.view_is) at c.in-Ok.ensures in
-    rw (← c.self.view_is, pool_of-is _ _ _ stands c.index.result.now) (ap Some c.index.ensures)
