@@ -2,13 +2,17 @@
 use Rattle.std.proofs.Common.{◌≡◌, ◌<◌, ◌∙◌, ℕ, zero, suc, Bool, true, false, List, [], ◌∷◌, length, get_or, refl, sym, ap, arith, not, ◌&&◌, subst}
 use Rattle.std.specs.List.{list_all}
 use Rattle.std.specs.Cmp.Lexicographic.{pointwise, bytes_decides}
-use Rattle.std.specs.Prelude.{nat_eq}
+use Rattle.std.specs.Prelude.{nat_eq, Option, Some, None, option_map}
 use Rattle.std.proofs.lemmas.Bool.{and_from, and_parts, false≢true, not-true}
 use Rattle.af_ops.specs.declared.endpoint.Endpoint.{Endpoint}
 use Rattle.af_ops.specs.declared.endpoint.Endpoint.TheVariants as endpoint
 use Rattle.af_ops.specs.declared.method.Method.{Method}
 use Rattle.af_ops.specs.declared.method.Method.TheVariants.{Get, Post, Patch, Delete}
-use Rattle.af_ops.specs.Laws.{Matches, OneRowAtMost}
+use Rattle.af_ops.specs.declared.op.Op.{Op}
+use Rattle.af_ops.specs.declared.op.Op.TheVariants as op
+use Rattle.af_ops.specs.Bodies.{pause_in}
+use Rattle.af_ops.specs.Endpoints.{dag_id_in, dag_of, endpoint_of}
+use Rattle.af_ops.specs.Laws.{EachIsFound, Matches, OneRowAtMost, OperationsAreOfTheirRow}
 use Rattle.af_ops.specs.Methods.{same_method}
 use Rattle.af_ops.specs.Table.{Segment, Text, Part, endpoints, route_of, segments_of}
 
@@ -104,3 +108,30 @@ one_row path one other method at_one at_other =
     let both : clash one other ≡ true = and_from (same_method (route_of one).method (route_of other).method) (overlap (segments_of (route_of one).place) (segments_of (route_of other).place)) same (matched (segments_of (route_of one).place) (segments_of (route_of other).place) path at_one at_other) in
     let at : rank one ≡ rank other = apart_at clash endpoints (rank one) (rank other) one table_apart (inside one) (inside other) (rw (stands one one, stands other one) both) in
     sym (stands one one) ∙ ap (λ n. get_or endpoints n one) at ∙ stands other one
+
+pub each_found : EachIsFound
+each_found endpoint.Version = refl
+each_found endpoint.ListDags = refl
+each_found endpoint.GetDag = refl
+each_found endpoint.PauseDag = refl
+
+-- ---- what is read of a row
+
+some_same : {X : Type 0} {x y : X} → Some x ≡ Some y → x ≡ y
+some_same is = cc
+
+mapped : (make : List ℕ → Op) (it : Endpoint) (found : Option (List ℕ)) (asked : Op) → ((id : List ℕ) → endpoint_of (make id) ≡ it) → ((id : List ℕ) → dag_of (make id) ≡ Some id) → option_map make found ≡ Some asked → (endpoint_of asked ≡ it) × (dag_of asked ≡ found)
+mapped make it None asked of_it names is = absurd (none_some is)
+  where
+    none_some : {X : Type 0} {x : X} → None ≡ Some x → ⊥
+    none_some same = cc
+mapped make it (Some id) asked of_it names is =
+    (ap endpoint_of (sym (some_same is)) ∙ of_it id, ap dag_of (sym (some_same is)) ∙ names id)
+
+pub of_their_row : OperationsAreOfTheirRow
+of_their_row endpoint.Version parts body asked is = (ap endpoint_of (sym (some_same is)), ap dag_of (sym (some_same is)))
+of_their_row endpoint.ListDags parts body asked is = (ap endpoint_of (sym (some_same is)), ap dag_of (sym (some_same is)))
+of_their_row endpoint.GetDag parts body asked is =
+    mapped (λ id. op.GetDag id) endpoint.GetDag (dag_id_in parts) asked (λ id. refl) (λ id. refl) is
+of_their_row endpoint.PauseDag parts body asked is =
+    mapped (λ id. op.PauseDag id (pause_in body)) endpoint.PauseDag (dag_id_in parts) asked (λ id. refl) (λ id. refl) is

@@ -23,6 +23,12 @@ plain_is (x ∷ s) all =
     let tests = or_parts (x == 34) _ none.0 in
     rw (escape_byte_plain x (eqb-false x 34 tests.0) (eqb-false x 92 tests.1) (ltb-false x 32 none.1)) (ap (λ rest. x ∷ rest) (plain_is s both.1))
 
+-- a text in its quotation marks
+pub quoted_put : (before s : List ℕ) → list_all is_plain s ≡ true → ((before ++ 34 ∷ []) ++ s) ++ 34 ∷ [] ≡ before ++ compact_text (string s)
+quoted_put before s plain =
+    append_assoc (before ++ 34 ∷ []) s (34 ∷ []) ∙ append_assoc before (34 ∷ []) (s ++ 34 ∷ [])
+    ∙ ap (λ escaped. before ++ 34 ∷ (escaped ++ 34 ∷ [])) (sym (plain_is s plain))
+
 name_plain : (name : List ℕ) → is_name name ≡ true → escape name ≡ name
 name_plain name named = plain_is name (and_parts (nat_le (length name) 64) _ named).1
 

@@ -1,14 +1,15 @@
 -- Laws about operations, in words of their own.
-use Rattle.std.specs.Prelude.{◌≡◌, ◌≢◌, ℕ, List, [], ◌∷◌, Bool, not, filter, Some, None, Ok, ⊤}
+use Rattle.std.specs.Prelude.{◌≡◌, ◌≢◌, ◌||◌, ℕ, List, [], ◌∷◌, Bool, false, not, nat_eq, filter, Some, None, Ok, ⊤, codes, if◌then◌else◌}
+use Rattle.std.specs.Cmp.Lexicographic.{pointwise}
 use Rattle.af_runs.specs.Runs.{is_of}
 use Rattle.af_sched.specs.State.{AreInOrder, StateRows, is_of_id}
 use Rattle.af_ops.specs.declared.endpoint.Endpoint.{Endpoint}
 use Rattle.af_ops.specs.declared.method.Method.TheVariants.{Get}
 use Rattle.af_ops.specs.declared.op.Op.{Op}
 use Rattle.af_ops.specs.Effects.{Effect, effect_of}
-use Rattle.af_ops.specs.Endpoints.{dag_of, endpoint_of}
+use Rattle.af_ops.specs.Endpoints.{dag_id_in, dag_of, endpoint_of, op_of_row}
 use Rattle.af_ops.specs.Listings.{default_limit, page, read_rows}
-use Rattle.af_ops.specs.Table.{Segment, Text, Part, route_of, segments_of}
+use Rattle.af_ops.specs.Table.{Segment, Text, Part, endpoint_at, route_of, segments_of}
 
 -- the rows of a listing stand in byte order of their ids, and no id stands twice
 abbrev pub ListingsGoById : Type 0
@@ -53,3 +54,19 @@ abbrev pub OneRowAtMost : Type 0
 OneRowAtMost =
     (path : List (List ℕ)) (one other : Endpoint) → (route_of one).method ≡ (route_of other).method
     → Matches (segments_of (route_of one).place) path → Matches (segments_of (route_of other).place) path → one ≡ other
+
+-- each operation is found by its method and its path
+abbrev pub EachIsFound : Type 0
+EachIsFound = (it : Endpoint) → endpoint_at (route_of it).method (route_of it).place ≡ Some it
+
+-- whether a path has a part for a DAG's id
+abbrev pub names_dag : List Segment → Bool
+names_dag [] = false
+names_dag (Text text ∷ rest) = names_dag rest
+names_dag (Part name ∷ rest) = pointwise nat_eq name (codes "dag_id") || names_dag rest
+
+-- what is read of a row of the table is that row's operation, and it names the DAG of the path's part, where the path has one
+abbrev pub OperationsAreOfTheirRow : Type 0
+OperationsAreOfTheirRow =
+    (it : Endpoint) (parts : List (List ℕ)) (body : List ℕ) (asked : Op) → op_of_row it parts body ≡ Some asked
+    → (endpoint_of asked ≡ it) × (dag_of asked ≡ (if names_dag (segments_of (route_of it).place) then dag_id_in parts else None))

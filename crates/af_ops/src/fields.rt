@@ -1,8 +1,10 @@
 // The members of a row: one call each, in byte order of their names.
-ghost use Rattle.std.specs.Prelude.{◌≡◌, ◌∷◌, [], OnOk, IsTrue, true, codes};
+ghost use Rattle.std.specs.Prelude.{◌≡◌, ◌≤◌, ◌++◌, ◌∷◌, [], OnOk, IfOk, IsTrue, true, false, map};
 ghost use Rattle.std.specs.List.{list_all};
 ghost use Rattle.json.specs.Run.{is_plain};
-ghost use Rattle.serde_json.specs.Data.{null, boolean, number, unsigned, string};
+ghost use Rattle.serde_json.specs.Data.{null, array, boolean, number, unsigned, string};
+ghost use Rattle.serde_json.specs.View.{items_of};
+ghost use Rattle.serde_json.specs.Written.{compact_text, items_text};
 ghost use Rattle.serde_json.specs.Find.{of_integer};
 ghost use Rattle.af_ops.specs.Texts.{Adds, is_name};
 ghost use Rattle.af_ops.specs.Fields.{instant_data};
@@ -102,9 +104,7 @@ impl Text {
         requires name { IsTrue (is_name name.now) }
         ensures { OnOk result (Adds later self.old self.new ((name.now, string value.now) ∷ [])) }
     {
-        let mut out = Writer::new(Vec::new(alloc));
-        out.string(value)?;
-        let text = out.into_inner();
+        let text = escaped_text(alloc, value)?;
         self.reserve(text.len() + (name.len() + 16))?;
         self.push_member(later, name.as_bytes(), text.as_slice());
         Ok(())
@@ -154,6 +154,71 @@ impl Text {
     {
         self.plain(later, name, value.as_str())
     }
+}
+
+impl Text {
+    /// A list of texts of any bytes.
+    pub fn texts(
+        &mut self,
+        alloc: Global,
+        later: bool,
+        name: &str,
+        values: &[&str],
+    ) -> Result<(), AllocError>
+        requires { IsTrue (is_name name.now) }
+        ensures { OnOk result (Adds later self.old self.new ((name.now, array (items_of (map (λ value. string value.now) values.now))) ∷ [])) }
+    {
+        self.reserve(name.len() + 20)?;
+        self.push_member(later, name.as_bytes(), b"[");
+        put_texts(alloc, self, values)?;
+        self.reserve(8)?;
+        Ok(())
+    }
+}
+
+/// The texts as the items of an array, and the end of that.
+fn put_texts(alloc: Global, out: &mut Text, values: &[&str]) -> Result<(), AllocError>
+    requires { 4 ≤ out.old.ready }
+    ensures text { OnOk result (out.new.items ≡ out.old.items ++ items_text false (items_of (map (λ value. string value.now) values.now))) }
+    ensures room { OnOk result (2 ≤ out.new.ready) }
+{
+    let mut later = false;
+    for value in values {
+        if later {
+            out.push(b",");
+        }
+        put_text(alloc, out, *value)?;
+        later = true;
+    }
+    out.push(b"]");
+    Ok(())
+}
+
+/// Appends a text of any bytes, in quotation marks.
+fn put_text(alloc: Global, out: &mut Text, value: &str) -> Result<(), AllocError>
+    ensures text { OnOk result (out.new.items ≡ out.old.items ++ compact_text (string value.now)) }
+    ensures room { OnOk result (4 ≤ out.new.ready) }
+{
+    if !is_plain_text(value.as_bytes()) {
+        let text = escaped_text(alloc, value)?;
+        out.reserve(text.len() + 8)?;
+        out.push(text.as_slice());
+        return Ok(());
+    }
+    out.reserve(value.len() + 8)?;
+    out.push(b"\"");
+    out.push(value.as_bytes());
+    out.push(b"\"");
+    Ok(())
+}
+
+/// A text as JSON spells it.
+fn escaped_text(alloc: Global, value: &str) -> Result<Vec<u8>, AllocError>
+    ensures { IfOk result (λ text. text.items ≡ compact_text (string value.now)) }
+{
+    let mut out = Writer::new(Vec::new(alloc));
+    out.string(value)?;
+    Ok(out.into_inner())
 }
 
 /// Whether no byte wants an escape.

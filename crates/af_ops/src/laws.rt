@@ -1,8 +1,18 @@
-ghost use Rattle.af_ops.specs.Laws.{ListingsGoById, ReadingsLeaveTheState, ChangesLeaveAnotherState, ChangesStayAtTheirDag, OneRowAtMost};
+ghost use Rattle.af_ops.specs.Laws.{ListingsGoById, ReadingsLeaveTheState, ChangesLeaveAnotherState, ChangesStayAtTheirDag, OneRowAtMost, EachIsFound, OperationsAreOfTheirRow};
 
 /// A method and a path name one operation of the table at most.
 pub fn one_row_at_most()
     ensures { OneRowAtMost }
+{}
+
+/// Each operation is found by its method and its path.
+pub fn each_is_found()
+    ensures { EachIsFound }
+{}
+
+/// What is read of a row of the table is that row's operation, and it names the DAG that the path names.
+pub fn operations_are_of_their_row()
+    ensures { OperationsAreOfTheirRow }
 {}
 
 /// A listing of DAGs goes by id in byte order, and tells no DAG twice.

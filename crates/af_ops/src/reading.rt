@@ -1,4 +1,4 @@
-ghost use Rattle.std.specs.Prelude.{◌≡◌, IfOk, is_some, map, string_bytes};
+ghost use Rattle.std.specs.Prelude.{◌≡◌, IfOk, IsErr, IsSome, is_some, map, string_bytes};
 ghost use Rattle.af_ops.specs.Endpoints.{IsRead, are_names, dag_id_in, op_of_row};
 
 use crate::bodies::read_pause;
@@ -10,14 +10,16 @@ use std::alloc::{AllocError, Global};
 
 /// The operation that a row of the table stands for, where the parts of the path, decoded, are these; none where a part is no
 /// name of its kind. Where there is no memory to read the body, the operation says so in place of its input, and is decided
-/// without it. `AllocError` only where a growth was refused for a name.
+/// without it. `AllocError` only where a growth was refused for a
+/// name, and all parts are names of their kinds.
 pub fn read_row(
     alloc: Global,
     endpoint: Endpoint,
     parts: &[String],
     body: &[u8],
 ) -> Result<Option<Op>, AllocError>
-    ensures { IfOk result (λ found. IsRead (op_of_row endpoint (map (λ part. string_bytes part) parts.now) body.now) found) }
+    ensures ok { IfOk result (λ found. IsRead (op_of_row endpoint (map (λ part. string_bytes part) parts.now) body.now) found) }
+    ensures memory { IsErr result → IsSome (op_of_row endpoint (map (λ part. string_bytes part) parts.now) body.now) }
 {
     match endpoint {
         Endpoint::Version => Ok(Some(Op::Version)),
@@ -62,7 +64,8 @@ fn is_dag_id(alloc: Global, parts: &[String]) -> bool
 
 /// The DAG's id that is the first part of a path.
 fn dag_id_in(alloc: Global, parts: &[String]) -> Result<Option<DagId>, AllocError>
-    ensures { IfOk result (λ dag_id. dag_id ≡ dag_id_in (map (λ part. string_bytes part) parts.now)) }
+    ensures ok { IfOk result (λ dag_id. dag_id ≡ dag_id_in (map (λ part. string_bytes part) parts.now)) }
+    ensures memory { IsErr result → IsSome (dag_id_in (map (λ part. string_bytes part) parts.now)) }
 {
     let Some(part) = parts.first() else {
         return Ok(None);

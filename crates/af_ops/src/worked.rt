@@ -18,7 +18,7 @@ ghost use Rattle.af_ops.specs.Methods.{method_of};
 ghost use Rattle.af_ops.specs.Replies.{dag_data, fault_data, version_data};
 ghost use Rattle.af_ops.specs.Served.{answer_of, fault_told, left_by};
 ghost use Rattle.af_ops.specs.Statuses.{code_of, is_fault_status};
-ghost use Rattle.af_ops.specs.Table.{at_dag, at_some_dag, endpoint_at, endpoints, methods_at, route_of, segments_of, spelled};
+ghost use Rattle.af_ops.specs.Table.{at_dag, at_some_dag, endpoint_at, methods_at, segments_of, spelled};
 ghost use Rattle.af_ops.specs.Verdicts.{Open, Stranger, Lacks, Refuses, Tells, Changes, judged, verdict};
 ghost use Rattle.af_ops.specs.Worked.{asks, at_entries, dag, is_told, opening, policy, state_with};
 
@@ -83,7 +83,6 @@ pub fn routes_by_the_rule()
     ensures get { method_of (codes "GET") ≡ Some Get }
     ensures small { method_of (codes "get") ≡ None }
     ensures head { method_of (codes "HEAD") ≡ None }
-    ensures each { map (λ it. endpoint_at (route_of it).method (route_of it).place) endpoints ≡ map (λ it. Some it) endpoints }
     ensures post { endpoint_at Post place.Dag ≡ None }
     ensures methods { methods_at place.Dag ≡ record { get = true; post = false; patch = true; delete = false } }
     ensures path { spelled (segments_of place.Dag) ≡ codes "/api/v1/dags/{dag_id}" }
