@@ -1,6 +1,9 @@
 -- The bytes between two places of a buffer, when more are read behind them.
 use Rattle.std.proofs.Common.{◌≡◌, ◌+◌, ◌≤◌, ℕ, List, ◌++◌, length, take, drop, sym, ap, ◌∙◌, arith}
-use Rattle.std.proofs.lemmas.List.{take-append-drop, drop-append-le, length-take-le}
+use Rattle.std.proofs.lemmas.List.{append_assoc, take-append-drop, drop-append-le, length-take-le}
+use Rattle.af_http.specs.Streams.{Given}
+use Rattle.af_http.specs.Fronts.{front_of}
+use Rattle.af_http.specs.Gathering.{Fills, Holds}
 use Rattle.std.proofs.Math.Seq.{take-append-add}
 
 take_longer : (bytes : List ℕ) (e n : ℕ) → e ≤ length bytes → take (e + n) bytes ≡ take e bytes ++ take n (drop e bytes)
@@ -15,3 +18,19 @@ fill_more old new s e n ordered within same =
     ap (drop s) (take_longer new e n within)
     ∙ drop-append-le s (take e new) (take n (drop e new)) (omega (arith, length-take-le e new within))
     ∙ ap (λ t. drop s t ++ take n (drop e new)) same
+
+-- more came, and nothing was dropped
+pub holds_more : (a b c : Given) (held now new : List ℕ) → (more : List ℕ) × Holds a b held now more → (more : List ℕ) × Fills b c now new more
+    → (more : List ℕ) × Holds a c held new more
+holds_more a b c held now new (x, h) (y, f) = (
+  x ++ y,
+  record {
+    came = f.came ∙ ap (λ t. t ++ y) h.came ∙ append_assoc a.bytes x y;
+    same = λ tail.
+        ap (λ (t : List ℕ). front_of (t ++ tail)) (sym (append_assoc held x y))
+        ∙ ap front_of (append_assoc (held ++ x) y tail)
+        ∙ h.same (y ++ tail)
+        ∙ ap front_of (sym (append_assoc now y tail))
+        ∙ ap (λ (t : List ℕ). front_of (t ++ tail)) (sym f.kept);
+  },
+)

@@ -7,8 +7,15 @@ use Rattle.af_ops.specs.declared.op.Op.{Op}
 use Rattle.af_ops.specs.declared.served.Served.{Served}
 use Rattle.af_http.specs.Fronts.{nothing, part, large, whole, front_of}
 use Rattle.af_http.specs.Requests.{Asked, asked_by, fields_of, is_taken, is_head}
-use Rattle.af_http.specs.Reading.{Begins, Stand, Parses, IsBadHead, IsRefused, status_of, refusal_text}
-use Rattle.af_http.specs.Run.{Exchange, asked_in, exchanges_text, end_after, AllGoOn, LastEnds, Ends, IsWritten, Makes, Answered, Run}
+use Rattle.af_http.specs.Reading.{Begins, Stand, Parses, IsBadHead, IsRefused, closes_after, status_of, refusal_text}
+use Rattle.af_http.specs.Run.{Exchange, asked_in, exchanges_text, end_by, end_after, AllGoOn, LastEnds, EndsOr, IsWritten, Makes, Answered, Run}
+use Rattle.af_http.specs.Streams.{Taken}
+use Rattle.af_http.specs.Replies.{wants_memory}
+use Rattle.af_http.specs.Routes.{IsRouted}
+use Rattle.af_http.specs.declared.route_fault.RouteFault.{RouteFault}
+use Rattle.af_http.specs.declared.route_fault.RouteFault.TheVariants as fault
+use Rattle.af_ops.specs.Endpoints.{IsRead}
+use Rattle.af_ops.specs.declared.served.Served.TheVariants as served
 use Rattle.af_http.specs.Laws.{IsFunction, IsByText}
 use Rattle.af_http.specs.declared.reply.Reply.{Reply}
 use Rattle.af_http.specs.declared.reply.Reply.TheVariants as reply
@@ -44,10 +51,10 @@ bad_not_taken text head rest head_only a r e (inr (h, parses, not, is)) x =
     differ : true ≡ false → ⊥
     differ e = cc
 
-refused_begins : (ended : Bool) (text : List ℕ) (refusal : Refusal) (a : Asked) (r : List ℕ) → IsRefused ended text refusal → Begins text a r → ⊥
-refused_begins ended text (BadHead head_only) a r (head, rest, e, bad) x = bad_not_taken text head rest head_only a r e bad x
-refused_begins ended text Incomplete a r is x = let e : part ≡ whole x.head r = sym is.0 ∙ x.framed in cc
-refused_begins ended text HeadTooLarge a r is x = let e : large ≡ whole x.head r = sym is ∙ x.framed in cc
+refused_begins : (text : List ℕ) (refusal : Refusal) (a : Asked) (r : List ℕ) → IsRefused text refusal → Begins text a r → ⊥
+refused_begins text (BadHead head_only) a r (head, rest, e, bad) x = bad_not_taken text head rest head_only a r e bad x
+refused_begins text Incomplete a r is x = let e : part ≡ whole x.head r = sym is ∙ x.framed in cc
+refused_begins text HeadTooLarge a r is x = let e : large ≡ whole x.head r = sym is ∙ x.framed in cc
 
 bad_one : (a b : List ℕ) (x y : Bool) → a ≡ b → IsBadHead a x → IsBadHead b y → x ≡ y
 bad_one a b x y e (inl (p, none)) (inl (q, none2)) = p ∙ sym q
@@ -55,67 +62,66 @@ bad_one a b x y e (inl (p, none)) (inr (k, parses, not, q)) = let P : List ℕ �
 bad_one a b x y e (inr (h, parses, not, p)) (inl (q, none)) = let P : List ℕ → Type 0 = λ t. Parses t h in absurd (none h (subst P e parses))
 bad_one a b x y e (inr (h, px, nx, p)) (inr (k, py, ny, q)) = p ∙ ap (λ (t : RequestHead). is_head t.method) (parses_one a b h k e px py) ∙ sym q
 
-refusal_one : (ended : Bool) (text : List ℕ) (x y : Refusal) → IsRefused ended text x → IsRefused ended text y → x ≡ y
-refusal_one ended text (BadHead a) (BadHead b) (head, rest, e, bad) (head2, rest2, e2, bad2) = ap BadHead (bad_one head head2 a b (whole_same (sym e ∙ e2)).0 bad bad2)
-refusal_one ended text (BadHead a) Incomplete (head, rest, e, bad) is = let c : whole head rest ≡ part = sym e ∙ is.0 in cc
-refusal_one ended text (BadHead a) HeadTooLarge (head, rest, e, bad) is = let c : whole head rest ≡ large = sym e ∙ is in cc
-refusal_one ended text Incomplete (BadHead b) is (head, rest, e, bad) = let c : whole head rest ≡ part = sym e ∙ is.0 in cc
-refusal_one ended text Incomplete Incomplete is is2 = refl
-refusal_one ended text Incomplete HeadTooLarge is is2 = let c : part ≡ large = sym is.0 ∙ is2 in cc
-refusal_one ended text HeadTooLarge (BadHead b) is (head, rest, e, bad) = let c : whole head rest ≡ large = sym e ∙ is in cc
-refusal_one ended text HeadTooLarge Incomplete is is2 = let c : large ≡ part = sym is ∙ is2.0 in cc
-refusal_one ended text HeadTooLarge HeadTooLarge is is2 = refl
+refusal_one : (text : List ℕ) (x y : Refusal) → IsRefused text x → IsRefused text y → x ≡ y
+refusal_one text (BadHead a) (BadHead b) (head, rest, e, bad) (head2, rest2, e2, bad2) = ap BadHead (bad_one head head2 a b (whole_same (sym e ∙ e2)).0 bad bad2)
+refusal_one text (BadHead a) Incomplete (head, rest, e, bad) is = let c : whole head rest ≡ part = sym e ∙ is in cc
+refusal_one text (BadHead a) HeadTooLarge (head, rest, e, bad) is = let c : whole head rest ≡ large = sym e ∙ is in cc
+refusal_one text Incomplete (BadHead b) is (head, rest, e, bad) = let c : whole head rest ≡ part = sym e ∙ is in cc
+refusal_one text Incomplete Incomplete is is2 = refl
+refusal_one text Incomplete HeadTooLarge is is2 = let c : part ≡ large = sym is ∙ is2 in cc
+refusal_one text HeadTooLarge (BadHead b) is (head, rest, e, bad) = let c : whole head rest ≡ large = sym e ∙ is in cc
+refusal_one text HeadTooLarge Incomplete is is2 = let c : large ≡ part = sym is ∙ is2 in cc
+refusal_one text HeadTooLarge HeadTooLarge is is2 = refl
 
-over_refused : (ended : Bool) (text : List ℕ) (refusal : Refusal) → front_of text ≡ nothing → IsRefused ended text refusal → ⊥
-over_refused ended text (BadHead a) none (head, rest, e, bad) = let c : nothing ≡ whole head rest = sym none ∙ e in cc
-over_refused ended text Incomplete none is = let c : nothing ≡ part = sym none ∙ is.0 in cc
-over_refused ended text HeadTooLarge none is = let c : nothing ≡ large = sym none ∙ is in cc
+over_refused : (text : List ℕ) (refusal : Refusal) → front_of text ≡ nothing → IsRefused text refusal → ⊥
+over_refused text (BadHead a) none (head, rest, e, bad) = let c : nothing ≡ whole head rest = sym none ∙ e in cc
+over_refused text Incomplete none is = let c : nothing ≡ part = sym none ∙ is in cc
+over_refused text HeadTooLarge none is = let c : nothing ≡ large = sym none ∙ is in cc
 
 -- an end before a request, for what stands there
 pub data Halt : Type 0 where
   over : Halt
   turned_away : Refusal → Halt
 
-abbrev Halts : Bool → List ℕ → List ℕ → Ended → Halt → Type 0
-Halts ended text closing e over = (front_of text ≡ nothing) × (closing ≡ []) × (e ≡ end.Closed)
-Halts ended text closing e (turned_away refusal) = IsRefused ended text refusal × (closing ≡ refusal_text refusal) × (e ≡ end.Refused (status_of refusal))
+abbrev Halts : List ℕ → List ℕ → Ended → Halt → Type 0
+Halts text closing e over = (front_of text ≡ nothing) × (closing ≡ []) × (e ≡ end.Closed)
+Halts text closing e (turned_away refusal) = IsRefused text refusal × (closing ≡ refusal_text refusal) × (e ≡ end.Refused (status_of refusal))
 
-halts_begins : (ended : Bool) (text closing : List ℕ) (e : Ended) (h : Halt) (a : Asked) (r : List ℕ) → Halts ended text closing e h → Begins text a r → ⊥
-halts_begins ended text closing e over a r s x = let c : nothing ≡ whole x.head r = sym s.0 ∙ x.framed in cc
-halts_begins ended text closing e (turned_away refusal) a r s x = refused_begins ended text refusal a r s.0 x
+halts_begins : (text closing : List ℕ) (e : Ended) (h : Halt) (a : Asked) (r : List ℕ) → Halts text closing e h → Begins text a r → ⊥
+halts_begins text closing e over a r s x = let c : nothing ≡ whole x.head r = sym s.0 ∙ x.framed in cc
+halts_begins text closing e (turned_away refusal) a r s x = refused_begins text refusal a r s.0 x
 
-halts_one : (ended : Bool) (text c d : List ℕ) (e f : Ended) (h k : Halt) → Halts ended text c e h → Halts ended text d f k → (e ≡ f) × (c ≡ d)
-halts_one ended text c d e f over over x y = (x.2 ∙ sym y.2, x.1 ∙ sym y.1)
-halts_one ended text c d e f over (turned_away r) x y = absurd (over_refused ended text r x.0 y.0)
-halts_one ended text c d e f (turned_away r) over x y = absurd (over_refused ended text r y.0 x.0)
-halts_one ended text c d e f (turned_away r) (turned_away q) x y =
-    let same = refusal_one ended text r q x.0 y.0 in
+halts_one : (text c d : List ℕ) (e f : Ended) (h k : Halt) → Halts text c e h → Halts text d f k → (e ≡ f) × (c ≡ d)
+halts_one text c d e f over over x y = (x.2 ∙ sym y.2, x.1 ∙ sym y.1)
+halts_one text c d e f over (turned_away r) x y = absurd (over_refused text r x.0 y.0)
+halts_one text c d e f (turned_away r) over x y = absurd (over_refused text r y.0 x.0)
+halts_one text c d e f (turned_away r) (turned_away q) x y =
+    let same = refusal_one text r q x.0 y.0 in
     (x.2 ∙ ap (λ t. end.Refused (status_of t)) same ∙ sym y.2, x.1 ∙ ap refusal_text same ∙ sym y.1)
 
 -- how a run ends after these exchanges, for what stands in the text
-abbrev Done : ℕ → List Exchange → Bool → List ℕ → List ℕ → Ended → Type 0
-Done n xs ended rest closing e =
-    (AllGoOn n xs × (h : Halt) × Halts ended rest closing e h) ⊎ (LastEnds n xs e × (closing ≡ []))
+abbrev Done : ℕ → List Exchange → List ℕ → List ℕ → Ended → Type 0
+Done n xs rest closing e =
+    (AllGoOn n xs × (h : Halt) × Halts rest closing e h) ⊎ (LastEnds n xs e × (closing ≡ []))
 
-ends_done : (xs : List Exchange) (ended : Bool) (text rest closing : List ℕ) (e : Ended) → IsByText text e → Ends xs ended text rest closing e → Done 0 xs ended rest closing e
-ends_done xs ended text rest closing end.Closed by (inl (on, is), none) = inl (on, over, (is.0, none, refl))
-ends_done xs ended text rest closing end.Closed by (inr last, none) = inr (last, none)
-ends_done xs ended text rest closing (end.Refused status) by (refusal, (on, is, e), s) = inl (on, turned_away refusal, (is, e, ap end.Refused s))
-ends_done xs ended text rest closing end.NoMemory by (inl (none, empty, is)) = absurd (by empty)
-ends_done xs ended text rest closing end.NoMemory by (inr (last, none)) = inr (last, none)
+ends_done : (xs : List Exchange) (ended : Bool) (text rest closing : List ℕ) (e : Ended) → IsByText e → EndsOr xs ended text rest closing e → Done 0 xs rest closing e
+ends_done xs ended text rest closing end.Closed by (inl (on, empty, is), none) = inl (on, over, (empty, none, refl))
+ends_done xs ended text rest closing end.Closed by (inr (last, is), none) = inr (last, none)
+ends_done xs ended text rest closing (end.Refused status) by (refusal, on, refused, is, same, s) = inl (on, turned_away refusal, (refused, same, ap end.Refused s))
+ends_done xs ended text rest closing end.NoMemory by is = absurd by
 ends_done xs ended text rest closing end.ReadFault by is = absurd by
 ends_done xs ended text rest closing end.WriteFault by is = absurd by
 ends_done xs ended text rest closing end.Turns by is = absurd by
 
 -- after the first exchange: the run goes on, or ends there
-abbrev Next : ℕ → Exchange → List Exchange → Bool → List ℕ → List ℕ → Ended → Type 0
-Next n x xs ended rest closing e =
-    ((end_after n x ≡ None) × Done (n + 1) xs ended rest closing e) ⊎ ((end_after n x ≡ Some e) × (xs ≡ []) × (closing ≡ []))
+abbrev Next : ℕ → Exchange → List Exchange → List ℕ → List ℕ → Ended → Type 0
+Next n x xs rest closing e =
+    ((end_after n x ≡ None) × Done (n + 1) xs rest closing e) ⊎ ((end_after n x ≡ Some e) × (xs ≡ []) × (closing ≡ []))
 
-next : (n : ℕ) (x : Exchange) (xs : List Exchange) (ended : Bool) (rest closing : List ℕ) (e : Ended) → Done n (x ∷ xs) ended rest closing e → Next n x xs ended rest closing e
-next n x xs ended rest closing e (inl (on, h, s)) = inl (on.0, inl (on.1, h, s))
-next n x [] ended rest closing e (inr (last, none)) = inr (last, refl, none)
-next n x (y ∷ xs) ended rest closing e (inr (last, none)) = inl (last.0, inr (last.1, none))
+next : (n : ℕ) (x : Exchange) (xs : List Exchange) (rest closing : List ℕ) (e : Ended) → Done n (x ∷ xs) rest closing e → Next n x xs rest closing e
+next n x xs rest closing e (inl (on, h, s)) = inl (on.0, inl (on.1, h, s))
+next n x [] rest closing e (inr (last, none)) = inr (last, refl, none)
+next n x (y ∷ xs) rest closing e (inr (last, none)) = inl (last.0, inr (last.1, none))
 
 none_some : {A : Type 0} {o : Option A} {x : A} → o ≡ None → o ≡ Some x → ⊥
 none_some p q = let e = sym p ∙ q in cc
@@ -132,55 +138,100 @@ ok_one p q = let e = sym p ∙ q in cc
 err_one : {A B : Type 0} {a b : B} {r : Result A B} → r ≡ Err a → r ≡ Err b → a ≡ b
 err_one p q = let e = sym p ∙ q in cc
 
+-- a fault that is no want of memory is that of the definition
+fault_is : (r : Result Op RouteFault) (f : RouteFault) → wants_memory (reply.Fault f) ≡ false → IsRouted r (Err f) → r ≡ Err f
+fault_is r fault.NoPath fine it = it
+fault_is r (fault.BadMethod methods) fine it = it
+fault_is r fault.OutOfMemory fine it = cc
+
+-- an operation that was read is that of the definition, or that without its body
+record Found (r : Result Op RouteFault) (op : Op) : Type 0 where
+  pub wanted : Op
+  pub is : r ≡ Ok wanted
+  pub read : IsRead (Some wanted) (Some op)
+
+op_is : (r : Result Op RouteFault) (op : Op) → IsRouted r (Ok op) → Found r op
+op_is (Ok wanted) op it = record { wanted = wanted; is = refl; read = it }
+op_is (Err _) op it = elim it [ ]
+
 module _ {S : Type 0} (answers : S → Option (List ℕ) → Op → Served → S → Type 0) (one : IsFunction answers) where
-  makes_one : (old : S) (a : Asked) (x y : Reply) (m k : S) → Makes answers old a x m → Makes answers old a y k → (x ≡ y) × (m ≡ k)
-  makes_one old a (reply.Fault f) (reply.Fault g) m k x y =
-      let same : f ≡ g = err_one x.0 y.0 in
+  makes_one : (old : S) (a : Asked) (x y : Reply) (m k : S) → wants_memory x ≡ false → wants_memory y ≡ false → Makes answers old a x m → Makes answers old a y k → (x ≡ y) × (m ≡ k)
+  makes_one old a (reply.Fault f) (reply.Fault g) m k wx wy x y =
+      let same : f ≡ g = err_one (fault_is _ f wx x.0) (fault_is _ g wy y.0) in
       (ap reply.Fault same, x.1 ∙ sym y.1)
-  makes_one old a (reply.Fault f) (reply.Served s) m k x y = absurd (ok_err y.1 x.0)
-  makes_one old a (reply.Served s) (reply.Fault g) m k x y = absurd (ok_err x.1 y.0)
-  makes_one old a (reply.Served s) (reply.Served t) m k x y =
-      let same : x.0 ≡ y.0 = ok_one x.1 y.1 in
-      let P : Op → Type 0 = λ op. answers old a.token op s m in
-      let both = one old a.token y.0 s t m k (subst P same x.2) y.2 in
-      (ap reply.Served both.0, both.1)
+  makes_one old a (reply.Fault f) (reply.Served s) m k wx wy x y = absurd (ok_err (op_is _ y.0 y.1).is (fault_is _ f wx x.0))
+  makes_one old a (reply.Served s) (reply.Fault g) m k wx wy x y = absurd (ok_err (op_is _ x.0 x.1).is (fault_is _ g wy y.0))
+  makes_one old a (reply.Served (served.Shown s)) (reply.Served (served.Shown t)) m k wx wy x y =
+      let this = op_is _ x.0 x.1 in
+      let that = op_is _ y.0 y.1 in
+      let same : this.wanted ≡ that.wanted = ok_one this.is that.is in
+      let P : Op → Type 0 = λ op. IsRead (Some op) (Some x.0) in
+      let both = one old a.token that.wanted x.0 y.0 s t m k (subst P same this.read) that.read x.2 y.2 in
+      (ap (λ t. reply.Served (served.Shown t)) both.0, both.1)
+  makes_one old a (reply.Served (served.Shown s)) (reply.Served served.NothingDone) m k wx wy x y = cc
+  makes_one old a (reply.Served (served.Shown s)) (reply.Served served.ReplyLost) m k wx wy x y = cc
+  makes_one old a (reply.Served served.NothingDone) (reply.Served t) m k wx wy x y = cc
+  makes_one old a (reply.Served served.ReplyLost) (reply.Served t) m k wx wy x y = cc
+
+  -- a run that ends for its text wanted no memory
+  next_fine : (n : ℕ) (x : Exchange) (xs : List Exchange) (rest closing : List ℕ) (e : Ended) → IsByText e → Next n x xs rest closing e → wants_memory x.reply ≡ false
+  next_fine n x xs rest closing e text (inl (go, more)) = by (wants_memory x.reply) go
+    where
+      by : (w : Bool) → end_by w (closes_after n x.asked) ≡ None → w ≡ false
+      by false go = refl
+      by true go = cc
+  next_fine n x xs rest closing e text (inr (stop, none, is)) = by (wants_memory x.reply) stop
+    where
+      never : (e : Ended) → IsByText e → Some end.NoMemory ≡ Some e → ⊥
+      never end.Closed text is = cc
+      never (end.Refused status) text is = cc
+      never end.NoMemory text is = text
+      never end.ReadFault text is = text
+      never end.WriteFault text is = text
+      never end.Turns text is = text
+
+      by : (w : Bool) → end_by w (closes_after n x.asked) ≡ Some e → w ≡ false
+      by false stop = refl
+      by true stop = absurd (never e text stop)
 
   abbrev Agree : List Exchange → List Exchange → S → S → Ended → Ended → List ℕ → List ℕ → Type 0
   Agree xs ys a b e f c d = (xs ≡ ys) × (a ≡ b) × (e ≡ f) × (c ≡ d)
 
-  agree : (n : ℕ) (old : S) (ended : Bool) (text : List ℕ) (xs ys : List Exchange) (r q c d : List ℕ) (e f : Ended) (a b : S)
+  agree : (n : ℕ) (old : S) (text : List ℕ) (xs ys : List Exchange) (r q c d : List ℕ) (e f : Ended) (a b : S)
       → Stand text (asked_in xs) r → Stand text (asked_in ys) q → Answered answers old xs a → Answered answers old ys b
-      → Done n xs ended r c e → Done n ys ended q d f → Agree xs ys a b e f c d
-  agree n old ended text [] [] r q c d e f a b sx sy ax ay (inl (on, h, x)) (inl (on2, k, y)) =
-      let P : List ℕ → Type 0 = λ t. Halts ended t c e h in
-      let same = halts_one ended q c d e f h k (subst P (sym sx ∙ sy) x) y in
+      → IsByText e → IsByText f → Done n xs r c e → Done n ys q d f → Agree xs ys a b e f c d
+  agree n old text [] [] r q c d e f a b sx sy ax ay te tf (inl (on, h, x)) (inl (on2, k, y)) =
+      let P : List ℕ → Type 0 = λ t. Halts t c e h in
+      let same = halts_one q c d e f h k (subst P (sym sx ∙ sy) x) y in
       (refl, ax ∙ sym ay, same.0, same.1)
-  agree n old ended text [] [] r q c d e f a b sx sy ax ay (inr x) dy = absurd x.0
-  agree n old ended text [] [] r q c d e f a b sx sy ax ay (inl x) (inr y) = absurd y.0
-  agree n old ended text [] (y ∷ ys) r q c d e f a b sx sy ax ay (inr x) dy = absurd x.0
-  agree n old ended text [] (y ∷ ys) r q c d e f a b sx sy ax ay (inl (on, h, x)) dy =
-      let P : List ℕ → Type 0 = λ t. Halts ended t c e h in
-      absurd (halts_begins ended text c e h y.asked sy.0 (subst P (sym sx) x) sy.1)
-  agree n old ended text (x ∷ xs) [] r q c d e f a b sx sy ax ay dx (inr y) = absurd y.0
-  agree n old ended text (x ∷ xs) [] r q c d e f a b sx sy ax ay dx (inl (on, h, y)) =
-      let P : List ℕ → Type 0 = λ t. Halts ended t d f h in
-      absurd (halts_begins ended text d f h x.asked sx.0 (subst P (sym sy) y) sx.1)
-  agree n old ended text (x ∷ xs) (y ∷ ys) r q c d e f a b sx sy ax ay dx dy =
+  agree n old text [] [] r q c d e f a b sx sy ax ay te tf (inr x) dy = absurd x.0
+  agree n old text [] [] r q c d e f a b sx sy ax ay te tf (inl x) (inr y) = absurd y.0
+  agree n old text [] (y ∷ ys) r q c d e f a b sx sy ax ay te tf (inr x) dy = absurd x.0
+  agree n old text [] (y ∷ ys) r q c d e f a b sx sy ax ay te tf (inl (on, h, x)) dy =
+      let P : List ℕ → Type 0 = λ t. Halts t c e h in
+      absurd (halts_begins text c e h y.asked sy.0 (subst P (sym sx) x) sy.1)
+  agree n old text (x ∷ xs) [] r q c d e f a b sx sy ax ay te tf dx (inr y) = absurd y.0
+  agree n old text (x ∷ xs) [] r q c d e f a b sx sy ax ay te tf dx (inl (on, h, y)) =
+      let P : List ℕ → Type 0 = λ t. Halts t d f h in
+      absurd (halts_begins text d f h x.asked sx.0 (subst P (sym sy) y) sx.1)
+  agree n old text (x ∷ xs) (y ∷ ys) r q c d e f a b sx sy ax ay te tf dx dy =
       let first = begins_one text x.asked y.asked sx.0 sy.0 sx.1 sy.1 in
       let P : Asked → Type 0 = λ t. Makes answers old t x.reply ax.0 in
-      let made = makes_one old y.asked x.reply y.reply ax.0 ay.0 (subst P first.0 ax.1) ay.1 in
+      let nx = next n x xs r c e dx in
+      let ny = next n y ys q d f dy in
+      let made = makes_one old y.asked x.reply y.reply ax.0 ay.0 (next_fine n x xs r c e te nx) (next_fine n y ys q d f tf ny) (subst P first.0 ax.1) ay.1 in
       let same : x ≡ y = exchange_same x y first.0 made.0 in
-      by same first.1 made.1 (next n x xs ended r c e dx) (next n y ys ended q d f dy)
+      by same first.1 made.1 nx ny
       (λ dx2 dy2.
       let Q : List ℕ → Type 0 = λ t. Stand t (asked_in xs) r in
       let R : S → Type 0 = λ t. Answered answers t xs a in
-      agree (n + 1) ay.0 ended sy.0 xs ys r q c d e f a b (subst Q first.1 sx.2) sy.2 (subst R made.1 ax.2) ay.2 dx2 dy2)
+      agree (n + 1) ay.0 sy.0 xs ys r q c d e f a b (subst Q first.1 sx.2) sy.2 (subst R made.1 ax.2) ay.2 te tf dx2 dy2)
     where
       exchange_same : (x y : Exchange) → x.asked ≡ y.asked → x.reply ≡ y.reply → x ≡ y
       exchange_same x y p q = λ i. record { asked = p i; reply = q i }
 
-      by : x ≡ y → sx.0 ≡ sy.0 → ax.0 ≡ ay.0 → Next n x xs ended r c e → Next n y ys ended q d f
-          → (Done (n + 1) xs ended r c e → Done (n + 1) ys ended q d f → Agree xs ys a b e f c d)
+      by : x ≡ y → sx.0 ≡ sy.0 → ax.0 ≡ ay.0 → Next n x xs r c e → Next n y ys q d f
+          → (Done (n + 1) xs r c e → Done (n + 1) ys q d f → Agree xs ys a b e f c d)
           → Agree (x ∷ xs) (y ∷ ys) a b e f c d
       by same after mid (inl (go, dx2)) (inl (go2, dy2)) more =
           let m = more dx2 dy2 in
@@ -196,24 +247,24 @@ module _ {S : Type 0} (answers : S → Option (List ℕ) → Op → Served → S
             is ∙ sym is2,
           )
 
-  written_all : (text out full : List ℕ) (e : Ended) → IsByText text e → IsWritten e full out → out ≡ full
-  written_all text out full end.Closed by is = is
-  written_all text out full (end.Refused status) by is = is
-  written_all text out full end.NoMemory by is = is
-  written_all text out full end.ReadFault by is = absurd by
-  written_all text out full end.WriteFault by is = absurd by
-  written_all text out full end.Turns by is = absurd by
+  written_all : (xs : List Exchange) (closing : List ℕ) (w : Taken) (out : List ℕ) (e : Ended) → IsByText e → IsWritten e xs closing w out → out ≡ exchanges_text 0 xs ++ closing
+  written_all xs closing w out end.Closed by is = is
+  written_all xs closing w out (end.Refused status) by is = is
+  written_all xs closing w out end.NoMemory by is = absurd by
+  written_all xs closing w out end.ReadFault by is = absurd by
+  written_all xs closing w out end.WriteFault by is = absurd by
+  written_all xs closing w out end.Turns by is = absurd by
 
-  pub runs_one : (old : S) (ended : Bool) (text : List ℕ) (e d : Ended) (out written : List ℕ) (a b : S)
-      → Run answers old ended text e out a → Run answers old ended text d written b → IsByText text e → IsByText text d
+  pub runs_one : (old : S) (ended : Bool) (text : List ℕ) (e d : Ended) (out written : List ℕ) (w v : Taken) (a b : S)
+      → Run answers old ended text e out w a → Run answers old ended text d written v b → IsByText e → IsByText d
       → (e ≡ d) × (out ≡ written) × (a ≡ b)
-  runs_one old ended text e d out written a b x y p q =
-      let same = agree 0 old ended text x.exchanges y.exchanges x.rest y.rest x.closing y.closing e d a b x.stand y.stand x.answered y.answered
+  runs_one old ended text e d out written w v a b x y p q =
+      let same = agree 0 old text x.exchanges y.exchanges x.rest y.rest x.closing y.closing e d a b x.stand y.stand x.answered y.answered p q
       (ends_done x.exchanges ended text x.rest x.closing e p x.ends) (ends_done y.exchanges ended text y.rest y.closing d q y.ends) in (
         same.2,
-        written_all text out (exchanges_text 0 x.exchanges ++ x.closing) e p x.written
+        written_all x.exchanges x.closing w out e p x.written
             ∙ ap (λ t. exchanges_text 0 t ++ x.closing) same.0
             ∙ ap (λ t. exchanges_text 0 y.exchanges ++ t) same.3
-            ∙ sym (written_all text written (exchanges_text 0 y.exchanges ++ y.closing) d q y.written),
+            ∙ sym (written_all y.exchanges y.closing v written d q y.written),
         same.1,
       )

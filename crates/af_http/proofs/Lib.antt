@@ -1,6 +1,7 @@
 pub mod LineLemmas
 pub mod FieldLemmas
 pub mod IncomingLemmas
+pub mod StreamLemmas
 pub mod SendLemmas
 pub mod AnswerLemmas
 pub mod RouteLemmas

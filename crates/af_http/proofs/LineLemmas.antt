@@ -5,8 +5,9 @@ use Rattle.std.specs.List.{list_any}
 use Rattle.std.proofs.lemmas.Bool.{eq-eqb, ne_eqb, or_parts, both_ways, lt-ltb, le-ltb}
 use Rattle.std.proofs.lemmas.Option.{none-some}
 use Rattle.std.proofs.lemmas.List.{length-take-le, take_at, drop_at, append-nil, append_assoc, take-append-drop, length-append}
+use Rattle.af_http.specs.Limits.{head_limit}
 use Rattle.af_http.specs.Lines.{lines_of, onto, text_of, is_blank, begins_blank, after_blanks, HasNoLine}
-use Rattle.af_http.specs.Fronts.{Front, front_of, fronted, fronted_by, split_head, finished, unfinished, ahead, head_limit, large, whole, part}
+use Rattle.af_http.specs.Fronts.{Front, front_of, fronted, fronted_by, split_head, finished, unfinished, ahead, large, whole, part}
 use Rattle.af_http.specs.Extents.{IsExtent, open_front, sized}
 use Rattle.af_http.specs.declared.extent.Extent.TheVariants.{Large, Whole}
 

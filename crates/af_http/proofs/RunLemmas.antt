@@ -1,20 +1,24 @@
 -- A run, one turn at a time.
 use Rattle.std.proofs.Common.{◌≡◌, ◌<◌, ◌≤◌, ◌+◌, ◌*◌, ◌||◌, ◌⊎◌, inl, inr, ℕ, Bool, true, false, List, [], ◌∷◌, ◌++◌, length, refl, sym, ap, ◌∙◌, subst, Option, Some, None, arith}
-use Rattle.std.specs.Prelude.{Result, Ok, Err}
-use Rattle.std.proofs.lemmas.List.{append-nil, append_assoc, length_push}
+use Rattle.std.specs.Io.KnownBytes.{Appends}
+use Rattle.std.proofs.lemmas.List.{append-nil, append_assoc, length_push, append_cancel_left}
 use Rattle.std.proofs.lemmas.Bool.{eq-eqb, cases_eq}
 use Rattle.af_ops.specs.declared.op.Op.{Op}
 use Rattle.af_ops.specs.declared.served.Served.{Served}
+use Rattle.af_http.specs.Limits.{read_limit, request_limit}
+use Rattle.af_http.specs.Streams.{Given, Taken, Waiting, Took, Grew, one_if}
 use Rattle.af_http.specs.Requests.{Asked}
 use Rattle.af_http.specs.Replies.{wants_memory}
 use Rattle.af_http.specs.Answers.{memory_text}
 use Rattle.af_http.specs.Reading.{Begins, Stand, closes_after}
-use Rattle.af_http.specs.Run.{Exchange, asked_in, exchange_text, exchanges_text, end_by, end_after, AllGoOn, LastEnds, Ends, IsWritten, Makes, Answered, Run}
-use Rattle.af_http.specs.Reads.{Awaited, Reads}
-use Rattle.af_http.specs.Sending.{Sent, Puts, started}
-use Rattle.af_http.specs.Turns.{CountsRead, CountsReadFault, CountsWriteFault, Stops, Exchanges, Turned, Ran, IsMemoryText}
+use Rattle.af_http.specs.Run.{Exchange, asked_in, exchange_text, exchanges_text, end_by, end_after, AllGoOn, LastEnds, last_text, IsLeft, Ends, EndsOr, IsWritten, write_faults, IsMemoryText, Makes, Answered, Run}
+use Rattle.af_http.specs.Reads.{Awaits, Awaited, Reads, read_faults}
+use Rattle.af_http.specs.Connections.{Connects}
+use Rattle.af_http.specs.Sending.{Place, all_put, Broke, Went, Puts, Writes}
+use Rattle.af_http.specs.Turns.{or_fault, Stops, Stopped, Exchanges, Turned, WentAll, Ran}
+use Rattle.af_http.proofs.StreamLemmas.{took_none, took_more}
+use Rattle.af_http.proofs.SendLemmas.{grew_none, grew_also}
 use Rattle.af_http.proofs.ReadLemmas.{asked_push, awaited_push, reads_none, reads_anyway, reads_at, reads_then}
-use Rattle.af_http.specs.declared.stream.Failed.{Failed}
 use Rattle.af_http.specs.declared.ended.Ended.{Ended}
 use Rattle.af_http.specs.declared.ended.Ended.TheVariants as end
 
@@ -68,99 +72,110 @@ goes_few n (x ∷ xs) low on =
     let h = goes_few (n + 1) xs next on.1 in
     omega arith
 
+last_text_push : (n : ℕ) (xs : List Exchange) (x : Exchange) → last_text n (xs ++ x ∷ []) ≡ exchange_text (n + length xs) x
+last_text_push n [] x = let k : n ≡ n + length {A = Exchange} [] = omega arith in ap (λ k. exchange_text k x) k
+last_text_push n (y ∷ []) x = let k : n + 1 ≡ n + length (y ∷ []) = omega arith in ap (λ k. exchange_text k x) k
+last_text_push n (y ∷ z ∷ xs) x =
+    let k : (n + 1) + length (z ∷ xs) ≡ n + length (y ∷ z ∷ xs) = omega arith in
+    last_text_push (n + 1) (z ∷ xs) x ∙ ap (λ k. exchange_text k x) k
+
 -- how a run ends at a request
-ends_last : (xs : List Exchange) (ended : Bool) (text rest : List ℕ) (e : Ended) (w c : Bool) → Some e ≡ end_by w c → LastEnds 0 xs e → Ends xs ended text rest [] e
-ends_last xs ended text rest end.Closed w c is last = (inr last, refl)
-ends_last xs ended text rest end.NoMemory w c is last = inr (last, refl)
-ends_last xs ended text rest end.ReadFault w c is last = absurd (by w c is)
+never_by : (w c : Bool) (e : Ended) → Some e ≡ end_by w c → (e ≡ end.NoMemory) ⊎ (e ≡ end.Closed)
+never_by true c e p = inl (some_same p)
   where
-    by : (w c : Bool) → Some end.ReadFault ≡ end_by w c → ⊥
-    by true c is = cc
-    by false true is = cc
-    by false false is = cc
-ends_last xs ended text rest end.WriteFault w c is last = absurd (by w c is)
+    some_same : {a b : Ended} → Some a ≡ Some b → a ≡ b
+    some_same e = cc
+never_by false true e p = inr (some_same p)
   where
-    by : (w c : Bool) → Some end.WriteFault ≡ end_by w c → ⊥
-    by true c is = cc
-    by false true is = cc
-    by false false is = cc
-ends_last xs ended text rest end.Turns w c is last = absurd (by w c is)
-  where
-    by : (w c : Bool) → Some end.Turns ≡ end_by w c → ⊥
-    by true c is = cc
-    by false true is = cc
-    by false false is = cc
-ends_last xs ended text rest (end.Refused s) w c is last = absurd (by w c is)
-  where
-    by : (w c : Bool) → Some (end.Refused s) ≡ end_by w c → ⊥
-    by true c is = cc
-    by false true is = cc
-    by false false is = cc
+    some_same : {a b : Ended} → Some a ≡ Some b → a ≡ b
+    some_same e = cc
+never_by false false e p = cc
 
--- how a run ends before a request
-ends_stopped : (xs : List Exchange) (ended : Bool) (text rest all : List ℕ) (e : Ended) → AllGoOn 0 xs → Stops ended rest all (Ok (Some e)) → Ends xs ended text rest all e
-ends_stopped xs ended text rest all end.Closed on s = (inl (on, s.0), s.1)
-ends_stopped xs ended text rest all end.ReadFault on s = (on, s.0, s.1)
-ends_stopped xs ended text rest all end.Turns on s = (on, s.0, s.1)
-ends_stopped xs ended text rest all (end.Refused status) on s = (s.0, (on, s.1, s.2), s.3)
-ends_stopped xs ended text rest all end.WriteFault on s = absurd s
-ends_stopped xs ended text rest all end.NoMemory on s = absurd s
+ends_last : (xs : List Exchange) (text rest : List ℕ) (e : Ended) → (e ≡ end.NoMemory) ⊎ (e ≡ end.Closed) → LastEnds 0 xs e → Ends xs false text rest [] e
+ends_last xs text rest end.Closed by last = (inr (last, refl), refl)
+ends_last xs text rest end.NoMemory by last = (inr (last, refl), refl)
+ends_last xs text rest end.ReadFault by last = elim by [ inl p ↦ cc | inr p ↦ cc ]
+ends_last xs text rest end.WriteFault by last = elim by [ inl p ↦ cc | inr p ↦ cc ]
+ends_last xs text rest end.Turns by last = elim by [ inl p ↦ cc | inr p ↦ cc ]
+ends_last xs text rest (end.Refused s) by last = elim by [ inl p ↦ cc | inr p ↦ cc ]
 
-never_write : (ended : Bool) (rest all : List ℕ) (e : Ended) → Stops ended rest all (Ok (Some e)) → e ≡ end.WriteFault → ⊥
-never_write ended rest all end.WriteFault s is = s
-never_write ended rest all end.Closed s is = cc
-never_write ended rest all end.ReadFault s is = cc
-never_write ended rest all end.Turns s is = cc
-never_write ended rest all (end.Refused status) s is = cc
-never_write ended rest all end.NoMemory s is = cc
+-- an end that is not a failed write
+ends_or : (xs : List Exchange) (ended : Bool) (text rest closing : List ℕ) (e : Ended) → (e ≡ end.WriteFault → ⊥) → Ends xs ended text rest closing e → EndsOr xs ended text rest closing e
+ends_or xs ended text rest closing end.Closed other s = s
+ends_or xs ended text rest closing end.ReadFault other s = s
+ends_or xs ended text rest closing end.Turns other s = s
+ends_or xs ended text rest closing (end.Refused status) other s = s
+ends_or xs ended text rest closing end.NoMemory other s = s
+ends_or xs ended text rest closing end.WriteFault other s = absurd (other refl)
 
-never_write_by : (w c : Bool) (e : Ended) → Some e ≡ end_by w c → e ≡ end.WriteFault → ⊥
-never_write_by true c e is same = cc
-never_write_by false true e is same = cc
-never_write_by false false e is same = cc
-
-never_turns_by : (w c : Bool) (e : Ended) → Some e ≡ end_by w c → e ≡ end.Turns → ⊥
-never_turns_by true c e is same = cc
-never_turns_by false true e is same = cc
-never_turns_by false false e is same = cc
+or_ends : (xs : List Exchange) (ended : Bool) (text rest closing : List ℕ) (e : Ended) → EndsOr xs ended text rest closing e → EndsOr xs ended text rest closing end.WriteFault
+or_ends xs ended text rest closing end.Closed s = (end.Closed, s)
+or_ends xs ended text rest closing end.ReadFault s = (end.ReadFault, s)
+or_ends xs ended text rest closing end.Turns s = (end.Turns, s)
+or_ends xs ended text rest closing (end.Refused status) s = (end.Refused status, s)
+or_ends xs ended text rest closing end.NoMemory s = (end.NoMemory, s)
+or_ends xs ended text rest closing end.WriteFault s = s
 
 -- an end at a request, or none
-at_request : (xs : List Exchange) (x : Exchange) → AllGoOn 0 xs → (o : Option Ended) → end_after (0 + length xs) x ≡ o
-    → AllGoOn 0 (xs ++ x ∷ []) ⊎ ((e : Ended) × LastEnds 0 (xs ++ x ∷ []) e)
-at_request xs x on None is = inl (on_push 0 xs x on is)
-at_request xs x on (Some e) is = inr (e, last_push 0 xs x e on is)
+at_request : (xs : List Exchange) (x : Exchange) (text rest : List ℕ) (n : ℕ) → n ≡ 0 + length xs → AllGoOn 0 xs → (w c : Bool) → end_by w c ≡ end_after n x
+    → (e : Ended) × Ends (xs ++ x ∷ []) false text rest [] e
+at_request xs x text rest n k on w c is = by (end_by w c) refl
+  where
+    by : (o : Option Ended) → end_by w c ≡ o → (e : Ended) × Ends (xs ++ x ∷ []) false text rest [] e
+    by None e = (end.WriteFault, (on_push 0 xs x on (ap (λ u. end_after u x) (sym k) ∙ sym is ∙ e), refl, refl))
+    by (Some s) e = (s, ends_last (xs ++ x ∷ []) text rest s (never_by w c s (sym e)) (last_push 0 xs x s on (ap (λ u. end_after u x) (sym k) ∙ sym is ∙ e)))
 
-fails_stopped : (xs : List Exchange) (ended : Bool) (text rest all : List ℕ) (f : Failed) → AllGoOn 0 xs → Stops ended rest all (Err f) → Ends xs ended text rest all end.WriteFault
-fails_stopped xs ended text rest all f on (inl none) = inl (inl on, none)
-fails_stopped xs ended text rest all f on (inr (refusal, is, e)) = inr (inl (refusal, (on, is, e)))
+-- how a run ends before a request
+ends_stopped : (w : Waiting) (xs : List Exchange) (ended : Bool) (text rest all : List ℕ) (e : Ended) → AllGoOn 0 xs → Stops w ended rest all e
+    → (k : Ended) × Ends xs ended text rest all k × ((e ≡ end.WriteFault → ⊥) → EndsOr xs ended text rest all e)
+ends_stopped w xs ended text rest all end.Closed on (empty, is, none) = let s : Ends xs ended text rest all end.Closed = (inl (on, empty, is), none) in (end.Closed, s, λ other. s)
+ends_stopped w xs ended text rest all end.ReadFault on (unread, is, none, idle, sound) = let s : Ends xs ended text rest all end.ReadFault = (on, unread, is, none) in (end.ReadFault, s, λ other. s)
+ends_stopped w xs ended text rest all end.Turns on (unread, is, none) = let s : Ends xs ended text rest all end.Turns = (on, unread, is, none) in (end.Turns, s, λ other. s)
+ends_stopped w xs ended text rest all (end.Refused status) on (refusal, refused, is, closing, same) =
+    let s : Ends xs ended text rest all (end.Refused status) = (refusal, on, refused, is, closing, same) in (end.Refused status, s, λ other. s)
+ends_stopped w xs ended text rest all end.WriteFault on (is, none, failed) = (end.WriteFault, (on, is, none), λ other. absurd (other refl))
+ends_stopped w xs ended text rest all end.NoMemory on s = absurd s
 
--- all of it was written
-pub all_written : (e : Ended) (text out : List ℕ) → out ≡ text → IsWritten e text out
-all_written end.WriteFault text out same = ([], sym same ∙ sym (append-nil out))
-all_written end.Closed text out same = same
-all_written end.ReadFault text out same = same
-all_written (end.Refused status) text out same = same
-all_written end.Turns text out same = same
-all_written end.NoMemory text out same = same
+-- what a failed write says of the end
+or_is : (f : Bool) (e k : Ended) → Some e ≡ or_fault f (Some k) → (f ≡ false → e ≡ k) × (f ≡ true → e ≡ end.WriteFault)
+or_is true e k is = (λ f. cc, λ f. cc)
+or_is false e k is = (λ f. cc, λ f. cc)
 
--- a run that ends so, and whose last write fails
-ends_anyway : (xs : List Exchange) (ended : Bool) (text rest closing : List ℕ) (e : Ended) → Ends xs ended text rest closing e → Ends xs ended text rest closing end.WriteFault
-ends_anyway xs ended text rest closing end.Closed (inl (on, over), none) = inl (inl on, none)
-ends_anyway xs ended text rest closing end.Closed (inr last, none) = inl (inr (end.Closed, last), none)
-ends_anyway xs ended text rest closing (end.Refused status) (refusal, away, is) = inr (inl (refusal, away))
-ends_anyway xs ended text rest closing end.NoMemory (inl unopened) = inr (inr unopened)
-ends_anyway xs ended text rest closing end.NoMemory (inr (last, none)) = inl (inr (end.NoMemory, last), none)
-ends_anyway xs ended text rest closing end.ReadFault (on, is, none) = inl (inl on, none)
-ends_anyway xs ended text rest closing end.Turns (on, is, none) = inl (inl on, none)
-ends_anyway xs ended text rest closing end.WriteFault is = is
+or_none : (f : Bool) (o p : Option Ended) → p ≡ None → p ≡ or_fault f o → (f ≡ false) × (o ≡ None)
+or_none true o p none is = let no : None ≡ Some end.WriteFault = sym none ∙ is in cc
+or_none false o p none is = (refl, sym is ∙ none)
 
-cut : (e : Ended) (text all out left : List ℕ) → IsWritten e text all → all ≡ out ++ left → IsWritten end.WriteFault text out
-cut end.WriteFault text all out left (back, is) same = (left ++ back, is ∙ ap (λ t. t ++ back) same ∙ append_assoc out left back)
-cut end.Closed text all out left is same = (left, sym is ∙ same)
-cut end.ReadFault text all out left is same = (left, sym is ∙ same)
-cut (end.Refused status) text all out left is same = (left, sym is ∙ same)
-cut end.Turns text all out left is same = (left, sym is ∙ same)
-cut end.NoMemory text all out left is same = (left, sym is ∙ same)
+quiet : (e : Ended) → (e ≡ end.NoMemory) ⊎ (e ≡ end.Closed) → (read_faults e ≡ 0) × (e ≡ end.Turns → ⊥) × (e ≡ end.WriteFault → ⊥) × (e ≡ end.ReadFault → ⊥)
+quiet end.NoMemory by = (refl, λ s. cc, λ s. cc, λ s. cc)
+quiet end.Closed by = (refl, λ s. cc, λ s. cc, λ s. cc)
+quiet end.ReadFault by = elim by [ inl p ↦ cc | inr p ↦ cc ]
+quiet end.WriteFault by = elim by [ inl p ↦ cc | inr p ↦ cc ]
+quiet end.Turns by = elim by [ inl p ↦ cc | inr p ↦ cc ]
+quiet (end.Refused s) by = elim by [ inl p ↦ cc | inr p ↦ cc ]
+
+-- the same of an end that a failed write may have made
+fault_quiet : (read_faults end.WriteFault ≡ 0) × (end.WriteFault ≡ end.Turns → ⊥)
+fault_quiet = (refl, λ s. cc)
+
+-- what was put in all
+put_all : (p q : Place) (xs : List Exchange) (x : Exchange) (count : ℕ) → length xs ≡ count → all_put q ≡ all_put p ++ exchanges_text 0 xs
+    → all_put q ++ exchange_text count x ≡ all_put p ++ exchanges_text 0 (xs ++ x ∷ [])
+put_all p q xs x count counted went =
+    let k : count ≡ 0 + length xs = omega (arith, counted) in
+    ap (λ t. t ++ exchange_text count x) went
+    ∙ append_assoc (all_put p) (exchanges_text 0 xs) (exchange_text count x)
+    ∙ ap (λ n. all_put p ++ (exchanges_text 0 xs ++ exchange_text n x)) k
+    ∙ ap (λ t. all_put p ++ t) (sym (text_push 0 xs x))
+
+-- a sound start
+went_from : (some : ℕ) (f g : Bool) (p q : Place) (a : List ℕ) → f ≡ false → Went some f g p q a → Went some false g p q a
+went_from some false g p q a sound w = w
+went_from some true g p q a sound w = cc
+
+went_well : (some : ℕ) (f g : Bool) (p q : Place) (a : List ℕ) → f ≡ false → g ≡ false → Went some f g p q a → (all_put q ≡ all_put p ++ a) × (q.sink.failures ≡ p.sink.failures)
+went_well some false false p q a sound well w = w
+went_well some false true p q a sound well w = cc
+went_well some true g p q a sound well w = cc
 
 stand_more : (xs : List Exchange) (x : Exchange) (before more held left tail : List ℕ)
     → Stand (before ++ (more ++ tail)) (asked_in xs) (held ++ (more ++ tail)) → Begins ((held ++ more) ++ tail) x.asked (left ++ tail)
@@ -187,301 +202,436 @@ stand_here xs x before more held left was b =
     let P : List ℕ → Type 0 = λ t. Stand t (asked_in (xs ++ x ∷ [])) (left ++ []) in
     subst P (append-nil (before ++ more)) (stand_more xs x before more held left [] (was (more ++ [])) (b []))
 
-put_push : (xs : List Exchange) (x : Exchange) (count : ℕ) (start taken left all : List ℕ) → length xs ≡ count → all ≡ exchange_text count x
-    → Sent start taken left (exchanges_text 0 xs ++ all) → Sent start taken left (exchanges_text 0 (xs ++ x ∷ []))
-put_push xs x count start taken left all counted is s =
-    let P : List ℕ → Type 0 = λ t. Sent start taken left t in
-    let k : count ≡ 0 + length xs = omega (arith, counted) in
-    subst P (ap (λ t. exchanges_text 0 xs ++ t) (is ∙ ap (λ n. exchange_text n x) k) ∙ sym (text_push 0 xs x)) s
-
 module _ {S : Type 0} (answers : S → Option (List ℕ) → Op → Served → S → Type 0) where
   answered_push : (old : S) (xs : List Exchange) (mid : S) (x : Exchange) (new : S) → Answered answers old xs mid → Makes answers mid x.asked x.reply new
       → Answered answers old (xs ++ x ∷ []) new
   answered_push old [] mid x new e m = let P : S → Type 0 = λ s. Makes answers s x.asked x.reply new in (new, subst P e m, refl)
   answered_push old (y ∷ xs) mid x new (next, first, more) m = (next, first, answered_push next xs mid x new more m)
 
-  pub run_cut : (old : S) (ended : Bool) (text : List ℕ) (e : Ended) (all out left : List ℕ) (new : S) → Run answers old ended text e all new
-      → all ≡ out ++ left → Run answers old ended text end.WriteFault out new
-  run_cut old ended text e all out left new r same = record {
-    exchanges = r.exchanges;
-    rest = r.rest;
-    closing = r.closing;
-    stand = r.stand;
-    answered = r.answered;
-    ends = ends_anyway r.exchanges ended text r.rest r.closing e r.ends;
-    written = cut e (exchanges_text 0 r.exchanges ++ r.closing) all out left r.written same;
-  }
-
-  -- a run without memory to begin with
-  pub no_memory : (ended : Bool) (old : S) (e : Ended) (out : List ℕ) → IsMemoryText e out → Run answers old ended [] e out old
-  no_memory ended old e out is =
-      record { exchanges = []; rest = []; closing = memory_text; stand = refl; answered = refl; ends = by e is; written = wrote e is }
-    where
-      by : (e : Ended) → IsMemoryText e out → Ends [] ended [] [] memory_text e
-      by end.NoMemory is = inl (refl, refl, refl)
-      by end.WriteFault is = inr (inr (refl, refl, refl))
-      by end.Closed is = absurd is
-      by end.ReadFault is = absurd is
-      by end.Turns is = absurd is
-      by (end.Refused status) is = absurd is
-
-      wrote : (e : Ended) → IsMemoryText e out → IsWritten e ([] ++ memory_text) out
-      wrote end.NoMemory is = is
-      wrote end.WriteFault is = is
-      wrote end.Closed is = absurd is
-      wrote end.ReadFault is = absurd is
-      wrote end.Turns is = absurd is
-      wrote (end.Refused status) is = absurd is
-
-module _ {S R : Type 0} (answers : S → Option (List ℕ) → Op → Served → S → Type 0) (given : R → List ℕ) (reads : R → ℕ) where
-  -- so far: these bytes came, and were read as requests, whatever follows; what answers them was put
-  pub record Begun (count : ℕ) (old now : S) (first before : R) (held start taken left : List ℕ) : Type 0 where
+  -- so far: these bytes came, and were read as requests, whatever follows; what answers them was put, and no write failed
+  pub record Begun (count : ℕ) (old now : S) (first before : Given) (held : List ℕ) (p q : Place) : Type 0 where
     pub more : List ℕ
     pub exchanges : List Exchange
-    pub came : given before ≡ given first ++ more
+    pub came : before.bytes ≡ first.bytes ++ more
     pub counted : length exchanges ≡ count
     pub stand : (tail : List ℕ) → Stand (more ++ tail) (asked_in exchanges) (held ++ tail)
-    pub awaited : Awaited given reads first [] (asked_in exchanges) before held
-    pub onward : reads first ≤ reads before
-    pub few : reads before ≤ reads first + 65536 * count
+    pub awaited : Awaited first [] (asked_in exchanges) before held
+    pub calls : ℕ
+    pub took : Took calls 0 0 first before
+    pub few : calls ≤ read_limit * count
     pub answered : Answered answers old exchanges now
     pub on : AllGoOn 0 exchanges
-    pub went : Sent start taken left (exchanges_text 0 exchanges)
+    pub grew : Grew p.sink q.sink
+    pub went : all_put q ≡ all_put p ++ exchanges_text 0 exchanges
+    pub well : q.sink.failures ≡ p.sink.failures
+    pub sound : q.waiting.failed ≡ false
 
-  pub begun_none : (old : S) (first : R) (taken held left : List ℕ) → held ≡ [] → left ≡ [] → Begun 0 old old first first held taken taken left
-  begun_none old first taken held left empty none = record {
+  pub begun_none : (old : S) (first : Given) (held : List ℕ) (p : Place) → held ≡ [] → p.waiting.failed ≡ false → Begun 0 old old first first held p p
+  begun_none old first held p empty sound = record {
     more = [];
     exchanges = [];
-    came = sym (append-nil (given first));
+    came = sym (append-nil first.bytes);
     counted = refl;
     stand = λ tail. ap (λ t. t ++ tail) (sym empty);
     awaited = (refl, empty);
-    onward = omega arith;
+    calls = 0;
+    took = took_none first;
     few = omega arith;
     answered = refl;
     on = tt;
-    went = record { front = []; taken_is = sym (append-nil taken); text_is = sym none };
+    grew = grew_none p.sink;
+    went = sym (append-nil (all_put p));
+    well = refl;
+    sound = sound;
   }
 
-  pub begun_more : (count : ℕ) (ended : Bool) (old now new : S) (first before after : R) (held held2 start taken taken2 left left2 more all : List ℕ) (n n2 : ℕ)
-      → Begun count old now first before held start taken left
-      → Turned answers given reads count now ended before after held held2 more all new (Ok None)
-      → Puts {B = Option Ended} (record { taken = taken; held = left; failures = n }) (record { taken = taken2; held = left2; failures = n2 }) all started (Ok None)
-      → Begun (count + 1) old new first after held2 start taken2 left2
-  begun_more count ended old now new first before after held held2 start taken taken2 left left2 more all n n2 b t p = by t.turn
-    where
-      by : Exchanges answers count now (held ++ more) held2 all new (Ok None) ⊎ (Stops ended (held ++ more) all (Ok None) × (new ≡ now))
-          → Begun (count + 1) old new first after held2 start taken2 left2
-      by (inr s) = absurd s.0
-      by (inl x) =
-          let k : count ≡ 0 + length b.exchanges = omega (arith, b.counted) in
-          record {
-            more = b.more ++ more;
-            exchanges = b.exchanges ++ x.exchange ∷ [];
-            came = t.awaits.came_is ∙ ap (λ u. u ++ more) b.came ∙ append_assoc (given first) b.more more;
-            counted = length_push b.exchanges x.exchange ∙ ap (λ u. u + 1) b.counted;
-            stand = λ tail. stand_more b.exchanges x.exchange b.more more held held2 tail (b.stand (more ++ tail)) (x.begins tail);
-            awaited =
-                let P : List Asked → Type 0 = λ q. Awaited given reads first [] q after held2 in
-                let q = begins_now held more held2 x.exchange.asked x.begins in
-                subst P (sym (asked_push b.exchanges x.exchange))
-                (awaited_push given reads first [] (asked_in b.exchanges) before held after more held2 x.exchange.asked b.awaited t.awaits q);
-            onward = let k = b.onward in let m = t.awaits.onward in omega (arith, k, m);
-            few = let k = b.few in let m = t.awaits.few in omega (arith, k, m);
-            answered = answered_push answers old b.exchanges now x.exchange new b.answered x.makes;
-            on = on_push 0 b.exchanges x.exchange b.on (ap (λ u. end_after u x.exchange) (sym k) ∙ sym x.ends);
-            went = put_push b.exchanges x.exchange count start taken2 left2 all b.counted x.all_is (p.sent start (exchanges_text 0 b.exchanges) b.went);
-          }
+  pub begun_more : (count : ℕ) (old now new : S) (first before after : Given) (held held2 : List ℕ) (p q q2 : Place) (o : Option Ended)
+      → Begun count old now first before held p q → Turned answers count now before after held held2 q q2 new o → o ≡ None
+      → Begun (count + 1) old new first after held2 p q2
+  begun_more count old now new first before after held held2 p q q2 o b (inr (s, kept)) none =
+      let no = or_none q2.waiting.failed (Some s.e) o none s.outcome_is in
+      let bad : Some s.e ≡ None = no.1 in cc
+  begun_more count old now new first before after held held2 p q q2 o b (inl x) none =
+      let goes = or_none q2.waiting.failed (end_after count x.exchange) o none x.outcome_is in
+      let k : count ≡ 0 + length b.exchanges = omega (arith, b.counted) in
+      let w = went_well 1 q.waiting.failed q2.waiting.failed q q2 (exchange_text count x.exchange) b.sound goes.0 x.puts.went in
+      let n = x.awaits.few in
+      let m = b.few in
+      record {
+        more = b.more ++ x.more;
+        exchanges = b.exchanges ++ x.exchange ∷ [];
+        came = x.awaits.came_is ∙ ap (λ u. u ++ x.more) b.came ∙ append_assoc first.bytes b.more x.more;
+        counted = length_push b.exchanges x.exchange ∙ ap (λ u. u + 1) b.counted;
+        stand = λ tail. stand_more b.exchanges x.exchange b.more x.more held held2 tail (b.stand (x.more ++ tail)) (x.begins tail);
+        awaited =
+            let P : List Asked → Type 0 = λ t. Awaited first [] t after held2 in
+            let here = begins_now held x.more held2 x.exchange.asked x.begins in
+            subst P (sym (asked_push b.exchanges x.exchange))
+            (awaited_push first [] (asked_in b.exchanges) before held after x.more held2 x.exchange.asked b.awaited x.awaits here);
+        calls = b.calls + x.awaits.count;
+        took = took_more b.took x.awaits.took;
+        few = omega (arith, n, m);
+        answered = answered_push old b.exchanges now x.exchange new b.answered x.makes;
+        on = on_push 0 b.exchanges x.exchange b.on (ap (λ u. end_after u x.exchange) (sym k) ∙ goes.1);
+        grew = grew_also b.grew x.puts.grew;
+        went = w.0 ∙ put_all p q b.exchanges x.exchange count b.counted b.went;
+        well = w.1 ∙ b.well;
+        sound = goes.0;
+      }
 
-  pub begun_ends : (count : ℕ) (ended : Bool) (old now new : S) (first before after : R) (held held2 start taken taken2 left left2 more all : List ℕ) (n n2 : ℕ) (e : Ended)
-      → Begun count old now first before held start taken left
-      → Turned answers given reads count now ended before after held held2 more all new (Ok (Some e))
-      → Puts {B = Option Ended} (record { taken = taken; held = left; failures = n }) (record { taken = taken2; held = left2; failures = n2 }) all started (Ok (Some e))
-      → (e ≡ end.Turns → reads after ≡ reads before + 65536)
-      → (text : List ℕ) × (given after ≡ given first ++ text) × Ran answers given reads old ended first after text start taken2 left2 new (Ok e)
-  begun_ends count ended old now new first before after held held2 start taken taken2 left left2 more all n n2 e b t p many = (
-    b.more ++ more,
-    t.awaits.came_is ∙ ap (λ u. u ++ more) b.came ∙ append_assoc (given first) b.more more,
-    by t.turn,
-  )
+  -- a run that ends at a request
+  ends_at : (count : ℕ) (old now new : S) (first before after : Given) (held held2 : List ℕ) (p q q2 : Place) (e : Ended)
+      → (b : Begun count old now first before held p q) (x : Exchanges answers count now before after held held2 q q2 new (Some e)) → count < 1000
+      → (f : Bool) → f ≡ q2.waiting.failed → Some e ≡ or_fault f (end_after count x.exchange)
+      → EndsOr (b.exchanges ++ x.exchange ∷ []) false (b.more ++ x.more) (held2 ++ []) [] e × (read_faults e ≡ 0) × (e ≡ end.Turns → ⊥)
+      × WentAll f p q2 (b.exchanges ++ x.exchange ∷ []) [] e
+  ends_at count old now new first before after held held2 p q q2 e b x low false f_is is =
+      let k : count ≡ 0 + length b.exchanges = omega (arith, b.counted) in
+      let w = wants_memory x.exchange.reply in
+      let c = closes_after count x.exchange.asked in
+      let by = never_by w c e is in
+      let calm = quiet e by in
+      let xs = b.exchanges ++ x.exchange ∷ [] in
+      let went = went_well 1 q.waiting.failed q2.waiting.failed q q2 (exchange_text count x.exchange) b.sound (sym f_is) x.puts.went in (
+        ends_or xs false (b.more ++ x.more) (held2 ++ []) [] e calm.2
+            (ends_last xs (b.more ++ x.more) (held2 ++ []) e by (last_push 0 b.exchanges x.exchange e b.on (ap (λ u. end_after u x.exchange) (sym k) ∙ sym is))),
+        calm.0,
+        calm.1,
+        (
+          went.0 ∙ put_all p q b.exchanges x.exchange count b.counted b.went ∙ ap (λ t. all_put p ++ t) (sym (append-nil (exchanges_text 0 xs))),
+          went.1 ∙ b.well,
+          calm.2,
+          λ same. absurd (calm.3 same),
+        ),
+      )
+  ends_at count old now new first before after held held2 p q q2 e b x low true f_is is =
+      let k : count ≡ 0 + length b.exchanges = omega (arith, b.counted) in
+      let e_is : e ≡ end.WriteFault = some_same is in
+      let xs = b.exchanges ++ x.exchange ∷ [] in
+      let P : Ended → Type 0 = λ t. EndsOr xs false (b.more ++ x.more) (held2 ++ []) [] t in
+      let Q : Ended → Type 0 = λ t. (read_faults t ≡ 0) × (t ≡ end.Turns → ⊥) in
+      let calm = subst Q (sym e_is) fault_quiet in
+      let W : Bool → Type 0 = λ t. Went 1 false t q q2 (exchange_text count x.exchange) in
+      let went = subst W (sym f_is) (went_from 1 q.waiting.failed q2.waiting.failed q q2 (exchange_text count x.exchange) b.sound x.puts.went) in
+      let all = put_all p q b.exchanges x.exchange count b.counted b.went ∙ ap (λ t. all_put p ++ t) (sym (append-nil (exchanges_text 0 xs))) in
+      let last : exchange_text count x.exchange ≡ last_text 0 xs = ap (λ n. exchange_text n x.exchange) k ∙ sym (last_text_push 0 b.exchanges x.exchange) in
+      let short = went.1 in
+      let size = ap length last in (
+        subst P (sym e_is) (at_request b.exchanges x.exchange (b.more ++ x.more) (held2 ++ []) count k b.on (wants_memory x.exchange.reply) (closes_after count x.exchange.asked) refl),
+        calm.0,
+        calm.1,
+        (
+          went.0,
+          record { failed_at = sym all ∙ went.2.failed_at },
+          inr (refl, omega (arith, short, size)),
+          went.3 ∙ ap (λ n. n + 1) b.well,
+          e_is,
+        ),
+      )
     where
-      by : Exchanges answers count now (held ++ more) held2 all new (Ok (Some e)) ⊎ (Stops ended (held ++ more) all (Ok (Some e)) × (new ≡ now))
-          → Ran answers given reads old ended first after (b.more ++ more) start taken2 left2 new (Ok e)
-      by (inl x) =
-          let xs = b.exchanges ++ x.exchange ∷ [] in
-          let k : count ≡ 0 + length b.exchanges = omega (arith, b.counted) in
-          let is : end_after (0 + length b.exchanges) x.exchange ≡ Some e = ap (λ u. end_after u x.exchange) (sym k) ∙ sym x.ends in (
-            exchanges_text 0 xs,
-            record {
-              exchanges = xs;
-              rest = held2 ++ [];
-              closing = [];
-              stand = stand_here b.exchanges x.exchange b.more more held held2 b.stand x.begins;
-              answered = answered_push answers old b.exchanges now x.exchange new b.answered x.makes;
-              ends = ends_last xs ended (b.more ++ more) (held2 ++ []) e (wants_memory x.exchange.reply) (closes_after count x.exchange.asked) x.ends
-                  (last_push 0 b.exchanges x.exchange e b.on is);
-              written = all_written e (exchanges_text 0 xs ++ []) (exchanges_text 0 xs) (sym (append-nil (exchanges_text 0 xs)));
-            },
-            put_push b.exchanges x.exchange count start taken2 left2 all b.counted x.all_is (p.sent start (exchanges_text 0 b.exchanges) b.went),
-            never_write_by (wants_memory x.exchange.reply) (closes_after count x.exchange.asked) e x.ends,
-            reads_at given reads first before after b.exchanges count x.exchange held more held2 e b.awaited t.awaits
-                (begins_now held more held2 x.exchange.asked x.begins) b.counted b.few
-                (never_turns_by (wants_memory x.exchange.reply) (closes_after count x.exchange.asked) e x.ends),
-          )
-      by (inr s) =
-          let P : S → Type 0 = λ u. Answered answers old b.exchanges u in (
-            exchanges_text 0 b.exchanges ++ all,
-            record {
-              exchanges = b.exchanges;
-              rest = held ++ more;
-              closing = all;
-              stand = b.stand more;
-              answered = subst P (sym s.1) b.answered;
-              ends = ends_stopped b.exchanges ended (b.more ++ more) (held ++ more) all e b.on s.0;
-              written = all_written e (exchanges_text 0 b.exchanges ++ all) (exchanges_text 0 b.exchanges ++ all) refl;
-            },
-            p.sent start (exchanges_text 0 b.exchanges) b.went,
-            never_write ended (held ++ more) all e s.0,
-            reads_then given reads first before after b.exchanges count held more e b.awaited t.awaits b.counted b.few many,
-          )
+      some_same : {a b : Ended} → Some a ≡ Some b → a ≡ b
+      some_same e = cc
 
-  pub begun_fails : (count : ℕ) (ended : Bool) (old now new : S) (first before after : R) (held held2 start taken taken2 left left2 more all : List ℕ) (n n2 : ℕ) (f g : Failed)
-      → Begun count old now first before held start taken left
-      → Turned answers given reads count now ended before after held held2 more all new (Err f)
-      → Puts {B = Option Ended} (record { taken = taken; held = left; failures = n }) (record { taken = taken2; held = left2; failures = n2 }) all started (Err f)
-      → (text : List ℕ) × (given after ≡ given first ++ text) × Ran answers given reads old ended first after text start taken2 left2 new (Err g)
-  begun_fails count ended old now new first before after held held2 start taken taken2 left left2 more all n n2 f g b t p = (
-    b.more ++ more,
-    t.awaits.came_is ∙ ap (λ u. u ++ more) b.came ∙ append_assoc (given first) b.more more,
-    by t.turn,
-  )
+  -- or before one
+  stops_at : (count : ℕ) (old now : S) (first before after : Given) (held : List ℕ) (p q q2 : Place) (e : Ended)
+      → (b : Begun count old now first before held p q) (s : Stopped before after held q q2 (Some e))
+      → (f : Bool) → f ≡ q2.waiting.failed → Some e ≡ or_fault f (Some s.e)
+      → EndsOr b.exchanges s.ended (b.more ++ s.more) (held ++ s.more) s.all e × Reads first after b.exchanges s.ended e × WentAll f p q2 b.exchanges s.all e
+  stops_at count old now first before after held p q q2 e b s false f_is is =
+      let same : e ≡ s.e = (or_is false e s.e is).0 refl in
+      let went = went_well 0 q.waiting.failed q2.waiting.failed q q2 s.all b.sound (sym f_is) s.puts.went in
+      let how = ends_stopped q2.waiting b.exchanges s.ended (b.more ++ s.more) (held ++ s.more) s.all s.e b.on s.stops in
+      let other = no_write q2.waiting s.ended (held ++ s.more) s.all s.e (sym f_is) s.stops in
+      let P : Ended → Type 0 = λ t. EndsOr b.exchanges s.ended (b.more ++ s.more) (held ++ s.more) s.all t in
+      let Q : Ended → Type 0 = λ t. Reads first after b.exchanges s.ended t in
+      let N : Ended → Type 0 = λ t. t ≡ end.WriteFault → ⊥ in
+      let I : Ended → Type 0 = λ t. t ≡ end.ReadFault → q2.waiting.bytes ≡ [] in (
+        subst P (sym same) (how.2 other),
+        subst Q (sym same) (reads_then first before after b.exchanges count b.calls held s.more s.ended s.e b.awaited s.awaits b.counted b.took b.few s.turns),
+        (
+          went.0 ∙ ap (λ t. t ++ s.all) b.went ∙ append_assoc (all_put p) (exchanges_text 0 b.exchanges) s.all,
+          went.1 ∙ b.well,
+          subst N (sym same) other,
+          subst I (sym same) (idle q2.waiting s.ended (held ++ s.more) s.all s.e s.stops),
+        ),
+      )
     where
-      by : Exchanges answers count now (held ++ more) held2 all new (Err f) ⊎ (Stops ended (held ++ more) all (Err f) × (new ≡ now))
-          → Ran answers given reads old ended first after (b.more ++ more) start taken2 left2 new (Err g)
-      by (inl x) =
-          let xs = b.exchanges ++ x.exchange ∷ [] in
-          let s = p.sent start (exchanges_text 0 b.exchanges) b.went in (
-            exchanges_text 0 xs,
-            record {
-              exchanges = xs;
-              rest = held2 ++ [];
-              closing = [];
-              stand = stand_here b.exchanges x.exchange b.more more held held2 b.stand x.begins;
-              answered = answered_push answers old b.exchanges now x.exchange new b.answered x.makes;
-              ends = inl (at_request b.exchanges x.exchange b.on (end_after (0 + length b.exchanges) x.exchange) refl, refl);
-              written = all_written end.WriteFault (exchanges_text 0 xs ++ []) (exchanges_text 0 xs) (sym (append-nil (exchanges_text 0 xs)));
-            },
-            (s.0, put_push b.exchanges x.exchange count start taken2 s.0 all b.counted x.all_is s.1),
-            reads_at given reads first before after b.exchanges count x.exchange held more held2 end.WriteFault b.awaited t.awaits
-                (begins_now held more held2 x.exchange.asked x.begins) b.counted b.few (λ same. cc),
-          )
-      by (inr s) =
-          let P : S → Type 0 = λ u. Answered answers old b.exchanges u in (
-            exchanges_text 0 b.exchanges ++ all,
-            record {
-              exchanges = b.exchanges;
-              rest = held ++ more;
-              closing = all;
-              stand = b.stand more;
-              answered = subst P (sym s.1) b.answered;
-              ends = fails_stopped b.exchanges ended (b.more ++ more) (held ++ more) all f b.on s.0;
-              written = all_written end.WriteFault (exchanges_text 0 b.exchanges ++ all) (exchanges_text 0 b.exchanges ++ all) refl;
-            },
-            p.sent start (exchanges_text 0 b.exchanges) b.went,
-            reads_then given reads first before after b.exchanges count held more end.WriteFault b.awaited t.awaits b.counted b.few (λ same. cc),
-          )
+      no_write : (w : Waiting) (ended : Bool) (text all : List ℕ) (e : Ended) → w.failed ≡ false → Stops w ended text all e → e ≡ end.WriteFault → ⊥
+      no_write w ended text all end.WriteFault sound s is = let no : true ≡ false = sym s.2 ∙ sound in cc
+      no_write w ended text all end.Closed sound s is = cc
+      no_write w ended text all end.ReadFault sound s is = cc
+      no_write w ended text all end.Turns sound s is = cc
+      no_write w ended text all (end.Refused status) sound s is = cc
+      no_write w ended text all end.NoMemory sound s is = cc
 
-  -- a run without memory to begin with reads nothing
-  pub turned_away : (ended : Bool) (old : S) (r : R) (e : Ended) (out : List ℕ) → IsMemoryText e out → (e ≡ end.Turns → ⊥)
-      → (run : Run answers old ended [] e out old) × Reads given reads r r run.exchanges e
-  unfolding no_memory
-  turned_away ended old r e out is other = (no_memory answers ended old e out is, reads_none given reads r e other)
+      idle : (w : Waiting) (ended : Bool) (text all : List ℕ) (e : Ended) → Stops w ended text all e → e ≡ end.ReadFault → w.bytes ≡ []
+      idle w ended text all end.ReadFault s is = s.3
+      idle w ended text all end.WriteFault s is = cc
+      idle w ended text all end.Closed s is = cc
+      idle w ended text all end.Turns s is = cc
+      idle w ended text all (end.Refused status) s is = cc
+      idle w ended text all end.NoMemory s is = cc
+  stops_at count old now first before after held p q q2 e b s true f_is is =
+      let same : e ≡ end.WriteFault = (or_is true e s.e is).1 refl in
+      let how = ends_stopped q2.waiting b.exchanges s.ended (b.more ++ s.more) (held ++ s.more) s.all s.e b.on s.stops in
+      let W : Bool → Type 0 = λ t. Went 0 false t q q2 s.all in
+      let went = subst W (sym f_is) (went_from 0 q.waiting.failed q2.waiting.failed q q2 s.all b.sound s.puts.went) in
+      let all : all_put q ++ s.all ≡ all_put p ++ (exchanges_text 0 b.exchanges ++ s.all) = ap (λ t. t ++ s.all) b.went ∙ append_assoc (all_put p) (exchanges_text 0 b.exchanges) s.all in
+      let P : Ended → Type 0 = λ t. EndsOr b.exchanges s.ended (b.more ++ s.more) (held ++ s.more) s.all t in
+      let Q : Ended → Type 0 = λ t. Reads first after b.exchanges s.ended t in
+      let read = reads_then first before after b.exchanges count b.calls held s.more s.ended s.e b.awaited s.awaits b.counted b.took b.few s.turns in
+      let short = went.1 in (
+        subst P (sym same) (how.0, how.1),
+        subst Q (sym same) (reads_anyway first after b.exchanges s.ended s.e (no_read q2.waiting s.ended (held ++ s.more) s.all s.e (sym f_is) s.stops) read),
+        (
+          went.0,
+          record { failed_at = sym all ∙ went.2.failed_at },
+          inl (omega (arith, short)),
+          went.3 ∙ ap (λ n. n + 1) b.well,
+          same,
+        ),
+      )
+    where
+      no_read : (w : Waiting) (ended : Bool) (text all : List ℕ) (e : Ended) → w.failed ≡ true → Stops w ended text all e → read_faults e ≡ 0
+      no_read w ended text all end.ReadFault bad s = let no : true ≡ false = sym bad ∙ s.4 in cc
+      no_read w ended text all end.WriteFault bad s = refl
+      no_read w ended text all end.Closed bad s = refl
+      no_read w ended text all end.Turns bad s = refl
+      no_read w ended text all (end.Refused status) bad s = refl
+      no_read w ended text all end.NoMemory bad s = refl
+
+  pub begun_ends : (count : ℕ) (old now new : S) (first before after : Given) (held held2 : List ℕ) (p q q2 : Place) (e : Ended)
+      → count < 1000 → Begun count old now first before held p q → Turned answers count now before after held held2 q q2 new (Some e)
+      → Ran answers old first after p q2 new e
+  begun_ends count old now new first before after held held2 p q q2 e low b (inl x) =
+      let how = ends_at count old now new first before after held held2 p q q2 e b x low q2.waiting.failed refl x.outcome_is in
+      let read = reads_at first before after b.exchanges count b.calls x.exchange held x.more held2 e b.awaited x.awaits
+      (begins_now held x.more held2 x.exchange.asked x.begins) b.counted b.took b.few how.1 how.2 in
+      let n = x.awaits.few in
+      let m = b.few in
+      let r = x.awaits.took.reads_are in
+      let r2 = b.took.reads_are in
+      record {
+        exchanges = b.exchanges ++ x.exchange ∷ [];
+        text = b.more ++ x.more;
+        rest = held2 ++ [];
+        closing = [];
+        ended = false;
+        came = x.awaits.came_is ∙ ap (λ u. u ++ x.more) b.came ∙ append_assoc first.bytes b.more x.more;
+        stand = stand_here b.exchanges x.exchange b.more x.more held held2 b.stand x.begins;
+        answered = answered_push old b.exchanges now x.exchange new b.answered x.makes;
+        ends = how.0;
+        reads = read;
+        few = omega (arith, n, m, r, r2, low);
+        grew = grew_also b.grew x.puts.grew;
+        went = how.3;
+      }
+  begun_ends count old now new first before after held held2 p q q2 e low b (inr (s, kept)) =
+      let how = stops_at count old now first before after held p q q2 e b s q2.waiting.failed refl s.outcome_is in
+      let P : S → Type 0 = λ u. Answered answers old b.exchanges u in
+      let n = s.awaits.few in
+      let m = b.few in
+      let r = s.awaits.took.reads_are in
+      let r2 = b.took.reads_are in
+      record {
+        exchanges = b.exchanges;
+        text = b.more ++ s.more;
+        rest = held ++ s.more;
+        closing = s.all;
+        ended = s.ended;
+        came = s.awaits.came_is ∙ ap (λ u. u ++ s.more) b.came ∙ append_assoc first.bytes b.more s.more;
+        stand = b.stand s.more;
+        answered = subst P (sym kept) b.answered;
+        ends = how.0;
+        reads = how.1;
+        few = omega (arith, n, m, r, r2, low);
+        grew = grew_also b.grew s.puts.grew;
+        went = how.2;
+      }
+
+  -- the whole text was written
+  all_written : (xs : List Exchange) (closing : List ℕ) (w : Taken) (out : List ℕ) (e : Ended) → (e ≡ end.WriteFault → ⊥) → out ≡ exchanges_text 0 xs ++ closing
+      → IsWritten e xs closing w out × (write_faults e ≡ 0)
+  all_written xs closing w out end.Closed other same = (same, refl)
+  all_written xs closing w out end.ReadFault other same = (same, refl)
+  all_written xs closing w out (end.Refused status) other same = (same, refl)
+  all_written xs closing w out end.Turns other same = (same, refl)
+  all_written xs closing w out end.NoMemory other same = (same, refl)
+  all_written xs closing w out end.WriteFault other same = absurd (other refl)
+
+  -- where none waits, what was put from a start on is what was taken
+  taken_all : (p r : Place) (out text : List ℕ) → p.waiting.bytes ≡ [] → r.waiting.bytes ≡ [] → all_put r ≡ all_put p ++ text → r.sink.bytes ≡ p.sink.bytes ++ out → out ≡ text
+  taken_all p r out text none left all took =
+      append_cancel_left p.sink.bytes out text (
+      sym took
+      ∙ sym (append-nil r.sink.bytes)
+      ∙ ap (λ t. r.sink.bytes ++ t) (sym left)
+      ∙ all
+      ∙ ap (λ t. (p.sink.bytes ++ t) ++ text) none
+      ∙ ap (λ t. t ++ text) (append-nil p.sink.bytes))
+
+  -- or was given to a write that failed
+  given_all : (p : Place) (r : Taken) (out text left : List ℕ) → p.waiting.bytes ≡ [] → Broke r (all_put p ++ text) left → r.bytes ≡ p.sink.bytes ++ out
+      → text ≡ out ++ (r.refused ++ left)
+  given_all p r out text left none broke took =
+      append_cancel_left p.sink.bytes text (out ++ (r.refused ++ left)) (
+      ap (λ t. t ++ text) (sym (append-nil p.sink.bytes))
+      ∙ ap (λ t. (p.sink.bytes ++ t) ++ text) (sym none)
+      ∙ broke.failed_at
+      ∙ ap (λ t. t ++ (r.refused ++ left)) took
+      ∙ append_assoc p.sink.bytes out (r.refused ++ left))
 
   -- a whole run, when all that waits has been written
-  pub ran_whole : {B : Type 0} (old : S) (ended : Bool) (first after : R) (text start taken taken2 held held2 : List ℕ) (n n2 : ℕ) (new : S) (e : Ended) (y : B)
-      → Ran answers given reads old ended first after text start taken held new (Ok e) → held2 ≡ []
-      → Puts (record { taken = taken; held = held; failures = n }) (record { taken = taken2; held = held2; failures = n2 }) [] started (Ok y)
-      → (out : List ℕ) × (taken2 ≡ start ++ out) × (run : Run answers old ended text e out new) × Reads given reads first after run.exchanges e
-  ran_whole old ended first after text start taken taken2 held held2 n n2 new e y (all, run, sent, other, read) none p =
-      let s = p.sent start all sent in
-      let same : all ≡ s.front = sym (append-nil all) ∙ s.text_is ∙ ap (λ h. s.front ++ h) none ∙ append-nil s.front in
-      let W : List ℕ → Type 0 = λ t. IsWritten e (exchanges_text 0 run.exchanges ++ run.closing) t in (
-        s.front,
-        s.taken_is,
-        record {
-          exchanges = run.exchanges;
-          rest = run.rest;
-          closing = run.closing;
-          stand = run.stand;
-          answered = run.answered;
-          ends = run.ends;
-          written = subst W same run.written;
-        },
-        read,
-      )
+  pub connects_fine : (old : S) (before after : Given) (p q r : Place) (new : S) (e : Ended) → Ran answers old before after p q new e
+      → p.waiting.bytes ≡ [] → Puts 0 q r [] → r.waiting.failed ≡ false → r.waiting.bytes ≡ []
+      → Connects answers before after p.sink r.sink old new e
+  connects_fine old before after p q r new e ran none x sound left = by q.waiting.failed r.waiting.failed sound ran.went x.went
+    where
+      by : (f g : Bool) → g ≡ false → WentAll f p q ran.exchanges ran.closing e → Went 0 f g q r [] → Connects answers before after p.sink r.sink old new e
+      by f true well w v = cc
+      by true false well w v = absurd v
+      by false false well w v =
+          let grew = grew_also ran.grew x.grew in
+          let text = exchanges_text 0 ran.exchanges ++ ran.closing in
+          let same = taken_all p r grew.more text none left (v.0 ∙ append-nil (all_put q) ∙ w.0) grew.bytes_are in
+          let written = all_written ran.exchanges ran.closing r.sink grew.more e w.2 same in
+          let fine = v.1 in
+          let fine2 = w.1 in
+          let zero = written.1 in
+          record {
+            text = ran.text;
+            out = grew.more;
+            ended = ran.ended;
+            came = ran.came;
+            went = grew.bytes_are;
+            held = grew.added;
+            run = record {
+              exchanges = ran.exchanges;
+              rest = ran.rest;
+              closing = ran.closing;
+              stand = ran.stand;
+              answered = ran.answered;
+              ends = ran.ends;
+              written = written.0;
+            };
+            reads = ran.reads;
+            few = ran.few;
+            faults = omega (arith, fine, fine2, zero);
+          }
 
-  -- or when writing it fails
-  pub ran_short : (old : S) (ended : Bool) (first after : R) (text start taken taken2 held held2 : List ℕ) (n n2 : ℕ) (new : S) (e : Ended) (f : Failed)
-      → Ran answers given reads old ended first after text start taken held new (Ok e)
-      → Puts {B = Unit {0}} (record { taken = taken; held = held; failures = n }) (record { taken = taken2; held = held2; failures = n2 }) [] started (Err f)
-      → (out : List ℕ) × (taken2 ≡ start ++ out) × (run : Run answers old ended text end.WriteFault out new) × Reads given reads first after run.exchanges end.WriteFault
-  unfolding run_cut
-  ran_short old ended first after text start taken taken2 held held2 n n2 new e f (all, run, sent, other, read) p =
-      let s = p.sent start all sent in (
-        s.1.front,
-        s.1.taken_is,
-        run_cut answers old ended text e all s.1.front s.0 new run (sym (append-nil all) ∙ s.1.text_is),
-        reads_anyway given reads first after run.exchanges e read,
-      )
+  -- or when a write has failed, then or before
+  pub connects_fault : (old : S) (before after : Given) (p q r : Place) (new : S) (e : Ended) → Ran answers old before after p q new e
+      → p.waiting.bytes ≡ [] → Puts 0 q r [] → r.waiting.failed ≡ true → (q.waiting.failed ≡ false → q.waiting.bytes ≡ [] → r.waiting.failed ≡ false)
+      → Connects answers before after p.sink r.sink old new end.WriteFault
+  connects_fault old before after p q r new e ran none x bad idle = by q.waiting.failed r.waiting.failed refl bad ran.went x.went
+    where
+      no_read : (e : Ended) → (e ≡ end.ReadFault → ⊥) → read_faults e ≡ 0
+      no_read end.ReadFault other = absurd (other refl)
+      no_read end.WriteFault other = refl
+      no_read end.Closed other = refl
+      no_read end.Turns other = refl
+      no_read (end.Refused status) other = refl
+      no_read end.NoMemory other = refl
 
-  pub ran_failed : (old : S) (ended : Bool) (first after : R) (text start taken held : List ℕ) (new : S) (f : Failed)
-      → Ran answers given reads old ended first after text start taken held new (Err f)
-      → (out : List ℕ) × (taken ≡ start ++ out) × (run : Run answers old ended text end.WriteFault out new) × Reads given reads first after run.exchanges end.WriteFault
-  unfolding run_cut
-  ran_failed old ended first after text start taken held new f (all, run, (left, s), read) =
-      (s.front, s.taken_is, run_cut answers old ended text end.WriteFault all s.front left new run s.text_is, read)
+      by : (f g : Bool) → q.waiting.failed ≡ f → g ≡ true → WentAll f p q ran.exchanges ran.closing e → Went 0 f g q r [] → Connects answers before after p.sink r.sink old new end.WriteFault
+      by f false was well w v = cc
+      by true true was well w v =
+          let grew = grew_also ran.grew x.grew in
+          let text = exchanges_text 0 ran.exchanges ++ ran.closing in
+          let B : Taken → Type 0 = λ t. Broke t (all_put p ++ text) w.0 in
+          let broke = subst B (sym v) w.1 in
+          let P : Ended → Type 0 = λ t. EndsOr ran.exchanges ran.ended ran.text ran.rest ran.closing t in
+          let Q : Ended → Type 0 = λ t. Reads before after ran.exchanges ran.ended t in
+          record {
+            text = ran.text;
+            out = grew.more;
+            ended = ran.ended;
+            came = ran.came;
+            went = grew.bytes_are;
+            held = grew.added;
+            run = record {
+              exchanges = ran.exchanges;
+              rest = ran.rest;
+              closing = ran.closing;
+              stand = ran.stand;
+              answered = ran.answered;
+              ends = subst P w.4 ran.ends;
+              written = (w.0, given_all p r.sink grew.more text w.0 none broke grew.bytes_are, w.2);
+            };
+            reads = subst Q w.4 ran.reads;
+            few = ran.few;
+            faults = ap (λ (t : Taken). t.failures) v ∙ w.3;
+          }
+      by false true was well w v =
+          let grew = grew_also ran.grew x.grew in
+          let text = exchanges_text 0 ran.exchanges ++ ran.closing in
+          let all : all_put p ++ text ≡ all_put q ++ [] = sym w.0 ∙ sym (append-nil (all_put q)) in
+          let broke : Broke r.sink (all_put p ++ text) v.0 = record { failed_at = all ∙ v.2.failed_at } in
+          let calm = no_read e (λ same. let no : true ≡ false = sym bad ∙ idle was (w.3 same) in cc) in
+          let short = v.1 in
+          record {
+            text = ran.text;
+            out = grew.more;
+            ended = ran.ended;
+            came = ran.came;
+            went = grew.bytes_are;
+            held = grew.added;
+            run = record {
+              exchanges = ran.exchanges;
+              rest = ran.rest;
+              closing = ran.closing;
+              stand = ran.stand;
+              answered = ran.answered;
+              ends = or_ends ran.exchanges ran.ended ran.text ran.rest ran.closing e ran.ends;
+              written = (v.0, given_all p r.sink grew.more text v.0 none broke grew.bytes_are, inl (omega (arith, short)));
+            };
+            reads = reads_anyway before after ran.exchanges ran.ended e calm ran.reads;
+            few = ran.few;
+            faults = v.3 ∙ ap (λ n. n + 1) w.1;
+          }
 
--- a failed read of the last turn is one of the run
-pub count_run : (e : Ended) (a b c : ℕ) → b ≡ a → CountsRead (Ok (Some e)) b c → CountsReadFault e a c
-count_run end.ReadFault a b c p q = omega (arith, p, q)
-count_run end.Closed a b c p q = q ∙ p
-count_run (end.Refused status) a b c p q = q ∙ p
-count_run end.Turns a b c p q = q ∙ p
-count_run end.NoMemory a b c p q = q ∙ p
-count_run end.WriteFault a b c p q = absurd q
-
-abbrev fine : {A : Type 0} → A → Result A Failed
-fine x = Ok x
-
-pub fine_is : {a b : Ended} → a ≡ b → fine a ≡ fine b
-fine_is e = ap fine e
-
-pub faults_of : (o : Option Ended) (e : Ended) → o ≡ Some e → fine e ≡ fine end.ReadFault → fine o ≡ fine (Some end.ReadFault)
-faults_of o e p q = ap fine (p ∙ ap Some (fine_same e end.ReadFault q))
-  where
-    fine_same : (a b : Ended) → fine a ≡ fine b → a ≡ b
-    fine_same a b p = cc
-
-pub turns_of : (o : Option Ended) (e : Ended) → o ≡ Some e → fine e ≡ fine end.Turns → fine o ≡ fine (Some end.Turns)
-turns_of o e p q = ap fine (p ∙ ap Some (fine_same e end.Turns q))
-  where
-    fine_same : (a b : Ended) → fine a ≡ fine b → a ≡ b
-    fine_same a b p = cc
-
--- a run that ends well counts no failed write
-pub counts_write : (e : Ended) (a b : ℕ) → (e ≡ end.WriteFault → ⊥) → b ≡ a → CountsWriteFault e a b
-counts_write end.ReadFault a b other p = p
-counts_write end.Closed a b other p = p
-counts_write (end.Refused status) a b other p = p
-counts_write end.Turns a b other p = p
-counts_write end.NoMemory a b other p = p
-counts_write end.WriteFault a b other p = absurd (other refl)
-
--- a run whose last write fails had no failed read: after one nothing waits to be written
-pub read_fine : (e : Ended) (a b : ℕ) → (e ≡ end.ReadFault → false ≡ true) → CountsReadFault e a b → b ≡ a
-read_fine end.ReadFault a b other p = let no : false ≡ true = other refl in cc
-read_fine end.Closed a b other p = p
-read_fine (end.Refused status) a b other p = p
-read_fine end.Turns a b other p = p
-read_fine end.NoMemory a b other p = p
-read_fine end.WriteFault a b other p = p
+  -- a run without memory to begin with reads nothing
+  pub turned_away : (old : S) (r : Given) (a b : Taken) (e : Ended) → IsMemoryText a b e → Connects answers r r a b old old e
+  turned_away old r a b end.NoMemory (grew, wrote) =
+      let out : grew.more ≡ memory_text = append_cancel_left a.bytes grew.more memory_text (sym grew.bytes_are ∙ wrote.0) in
+      let fine = wrote.1 in
+      record {
+        text = [];
+        out = grew.more;
+        ended = false;
+        came = sym (append-nil r.bytes);
+        went = grew.bytes_are;
+        held = grew.added;
+        run = record { exchanges = []; rest = []; closing = memory_text; stand = refl; answered = refl; ends = (inl (refl, refl, refl), refl); written = out };
+        reads = reads_none r end.NoMemory refl (λ e. cc);
+        few = omega arith;
+        faults = omega (arith, fine);
+      }
+  turned_away old r a b end.WriteFault (grew, wrote) =
+      let out : memory_text ≡ grew.more ++ (b.refused ++ []) =
+      append_cancel_left a.bytes memory_text (grew.more ++ (b.refused ++ [])) (
+      wrote.0 ∙ ap (λ t. t ++ b.refused) grew.bytes_are ∙ append_assoc a.bytes grew.more b.refused ∙ ap (λ t. a.bytes ++ (grew.more ++ t)) (sym (append-nil b.refused))) in
+      record {
+        text = [];
+        out = grew.more;
+        ended = false;
+        came = sym (append-nil r.bytes);
+        went = grew.bytes_are;
+        held = grew.added;
+        run = record {
+          exchanges = [];
+          rest = [];
+          closing = memory_text;
+          stand = refl;
+          answered = refl;
+          ends = (end.NoMemory, (inl (refl, refl, refl), refl));
+          written = ([], out, inl (omega arith));
+        };
+        reads = reads_none r end.WriteFault refl (λ e. cc);
+        few = omega arith;
+        faults = wrote.1;
+      }
+  turned_away old r a b end.Closed is = absurd is
+  turned_away old r a b end.ReadFault is = absurd is
+  turned_away old r a b end.Turns is = absurd is
+  turned_away old r a b (end.Refused status) is = absurd is

@@ -1,110 +1,128 @@
 -- Texts that are put, one after another.
-use Rattle.std.proofs.Common.{◌≡◌, ◌<◌, ℕ, List, [], ◌++◌, sym, ap, ◌∙◌, subst}
-use Rattle.std.specs.Prelude.{Result, Ok, Err}
-use Rattle.std.proofs.lemmas.List.{append-nil, append_assoc}
-use Rattle.af_http.specs.declared.stream.Failed.{Failed}
-use Rattle.af_http.specs.Sending.{Sent, Sends, Counts, Writes, Place, Puts, started}
+use Rattle.std.proofs.Common.{◌≡◌, ◌≤◌, ◌<◌, ◌+◌, ℕ, Bool, true, false, List, [], ◌++◌, length, Option, Some, None, refl, sym, ap, ◌∙◌, subst, arith}
+use Rattle.std.specs.Io.KnownBytes.{Appends, prepend_known, Consumes}
+use Rattle.std.proofs.lemmas.List.{append-nil, append_assoc, length-append}
+use Rattle.af_http.specs.Streams.{Given, Taken, Waiting, Grew, Took, StaysKnown, IsWhole}
+use Rattle.af_http.specs.Sending.{Place, all_put, Broke, Went, Puts, Writes}
 
-abbrev Outcome : Type 0
-Outcome = Result (Unit {0}) Failed
+-- a writer that took nothing
+appends_none : (x : Option (List ℕ)) → Appends x x []
+appends_none None = tt
+appends_none (Some xs) = sym (append-nil xs)
 
-abbrev pub failed : Failed → Outcome
-failed f = Err f
+appends_also : (x y z : Option (List ℕ)) (a b : List ℕ) → Appends x y a → Appends y z b → Appends x z (a ++ b)
+appends_also None y z a b p q = tt
+appends_also (Some xs) None z a b p q = absurd p
+appends_also (Some xs) (Some ys) None a b p q = absurd q
+appends_also (Some xs) (Some ys) (Some zs) a b p q = q ∙ ap (λ t. t ++ b) p ∙ append_assoc xs a b
 
--- more text is left
-left_more : {start taken left text : List ℕ} (more : List ℕ) → Sent start taken left text → Sent start taken (left ++ more) (text ++ more)
-left_more {left = left} more s = record {
-  front = s.front;
-  taken_is = s.taken_is;
-  text_is = ap (λ t. t ++ more) s.text_is ∙ append_assoc s.front left more;
+pub grew_none : (t : Taken) → Grew t t
+grew_none t = record { more = []; bytes_are = sym (append-nil t.bytes); added = appends_none t.contents }
+
+pub grew_also : {a b c : Taken} → Grew a b → Grew b c → Grew a c
+grew_also {a} {b} {c} x y = record {
+  more = x.more ++ y.more;
+  bytes_are = y.bytes_are ∙ ap (λ t. t ++ y.more) x.bytes_are ∙ append_assoc a.bytes x.more y.more;
+  added = appends_also a.contents b.contents c.contents x.more y.more x.added y.added;
 }
 
--- a front of what was left is taken
-took : {start taken taken' left left' text : List ℕ} → Sent start taken left text → Sent taken taken' left' left → Sent start taken' left' text
-took {start} {left' = left'} s t = record {
-  front = s.front ++ t.front;
-  taken_is = t.taken_is ∙ ap (λ x. x ++ t.front) s.taken_is ∙ append_assoc start s.front t.front;
-  text_is = s.text_is ∙ ap (λ x. s.front ++ x) t.text_is ∙ sym (append_assoc s.front t.front left');
+-- one write more
+pub grew_by : (a b c : Taken) (more : List ℕ) → Grew a b → c.bytes ≡ b.bytes ++ more → Appends b.contents c.contents more → Grew a c
+grew_by a b c more x e k = grew_also x (record { more = more; bytes_are = e; added = k })
+
+broke_more : (p q : Place) (a b left : List ℕ) (n : Taken) → n ≡ q.sink → Broke q.sink (all_put p ++ a) left → Broke n (all_put p ++ (a ++ b)) (left ++ b)
+broke_more p q a b left n same k = record {
+  failed_at =
+      sym (append_assoc (all_put p) a b)
+      ∙ ap (λ t. t ++ b) k.failed_at
+      ∙ append_assoc q.sink.bytes (q.sink.refused ++ left) b
+      ∙ ap (λ t. q.sink.bytes ++ t) (append_assoc q.sink.refused left b)
+      ∙ ap (λ (t : Taken). t.bytes ++ (t.refused ++ (left ++ b))) (sym same);
 }
 
--- what Writes says, as Sent
-wrote : (old new bytes : List ℕ) → new ≡ old ++ bytes → Sent old new [] bytes
-wrote old new bytes e = record { front = bytes; taken_is = e; text_is = sym (append-nil bytes) }
+broke_after : (p q : Place) (a b left : List ℕ) (n : Taken) → all_put q ≡ all_put p ++ a → Broke n (all_put q ++ b) left → Broke n (all_put p ++ (a ++ b)) left
+broke_after p q a b left n e k = record { failed_at = sym (append_assoc (all_put p) a b) ∙ ap (λ t. t ++ b) (sym e) ∙ k.failed_at }
 
-pub flush_ok : (taken taken' held : List ℕ) (n n' : ℕ) → taken' ≡ taken ++ held → n' ≡ n
-    → Puts (record { taken = taken; held = held; failures = n }) (record { taken = taken'; held = []; failures = n' }) [] started started
-flush_ok taken taken' held n n' e k = record {
-  sent = λ start text s. let P : List ℕ → Type 0 = λ t. Sent start taken' [] t in subst P (sym (append-nil text)) (took s (wrote taken taken' held e));
-  counted = λ first h. k ∙ h;
-}
+went_also : (some : ℕ) (f g h : Bool) (p q r : Place) (a b : List ℕ) → some ≤ length a → Went some f g p q a → Went 0 g h q r b → Went some f h p r (a ++ b)
+went_also some false false false p q r a b enough x y = (y.0 ∙ ap (λ t. t ++ b) x.0 ∙ append_assoc (all_put p) a b, y.1 ∙ x.1)
+went_also some false false true p q r a b enough x (left, short, broke, n) = (
+  left,
+  omega (arith, short, enough, length-append a b),
+  broke_after p q a b left r.sink x.0 broke,
+  n ∙ ap (λ k. k + 1) x.1,
+)
+went_also some false true true p q r a b enough (left, short, broke, n) y = (
+  left ++ b,
+  omega (arith, short, length-append a b, length-append left b),
+  broke_more p q a b left r.sink y broke,
+  ap (λ (t : Taken). t.failures) y ∙ n,
+)
+went_also some false true false p q r a b enough x y = absurd y
+went_also some true true true p q r a b enough x y = y ∙ x
+went_also some true true false p q r a b enough x y = absurd y
+went_also some true false h p q r a b enough x y = absurd x
 
-pub flush_err : (taken taken' held held' : List ℕ) (n n' : ℕ) (f : Failed) → (left : List ℕ) × Sent taken taken' left held → n < n'
-    → Puts (record { taken = taken; held = held; failures = n }) (record { taken = taken'; held = held'; failures = n' }) [] started (failed f)
-flush_err taken taken' held held' n n' f (left, t) more = record {
-  sent = λ start text s. let P : List ℕ → Type 0 = λ u. Sent start taken' left u in (left, subst P (sym (append-nil text)) (took s t));
-  counted = λ first h. let P : ℕ → Type 0 = λ k. k < n' in subst P h more;
-}
-
--- bytes are held
-pub put_held : (taken held bytes : List ℕ) (n : ℕ)
-    → Puts (record { taken = taken; held = held; failures = n }) (record { taken = taken; held = held ++ bytes; failures = n }) bytes started started
-put_held taken held bytes n = record { sent = λ start text s. left_more bytes s; counted = λ first h. h }
-
--- a failure before
-pub put_failed : {p : Place} (more : List ℕ) (e f : Failed) → Puts p p more (failed e) (failed f)
-put_failed more e f = record { sent = λ start text s. (s.0 ++ more, left_more more s.1); counted = λ first h. h }
-
-pub put_also : {p q r : Place} {a b : List ℕ} {x y z : Outcome} → Puts p q a x y → Puts q r b y z → Puts p r (a ++ b) x z
-put_also {r = r} {a = a} {b = b} {z = z} s t = record {
-  sent = λ start text h.
-      let P : List ℕ → Type 0 = λ u. Sends start r.taken r.held u z in
-      subst P (append_assoc text a b) (t.sent start (text ++ a) (s.sent start text h));
-  counted = λ first h. t.counted first (s.counted first h);
-}
-
--- nothing more
-pub put_nothing : {p : Place} {x : Outcome} → Puts p p [] x x
-put_nothing {p = p} {x = x} = record {
-  sent = λ start text h. let P : List ℕ → Type 0 = λ u. Sends start p.taken p.held u x in subst P (sym (append-nil text)) h;
-  counted = λ first h. h;
+pub put_also : {some : ℕ} {p q r : Place} {a b : List ℕ} → Puts some p q a → Puts 0 q r b → Puts some p r (a ++ b)
+put_also {some} {p} {q} {r} {a} {b} x y = record {
+  enough = let k = x.enough in omega (arith, k, length-append a b);
+  grew = grew_also x.grew y.grew;
+  went = went_also some p.waiting.failed q.waiting.failed r.waiting.failed p q r a b x.enough x.went y.went;
 }
 
 -- the same text under another name
-pub put_as : {p q : Place} {a b : List ℕ} {x y : Outcome} → a ≡ b → Puts p q a x y → Puts p q b x y
-put_as {p = p} {q = q} {x = x} {y = y} e s = let P : List ℕ → Type 0 = λ u. Puts p q u x y in subst P e s
+pub put_as : {some : ℕ} {p q : Place} {a b : List ℕ} → a ≡ b → Puts some p q a → Puts some p q b
+put_as {some} {p} {q} e x = subst (λ t. Puts some p q t) e x
 
--- bytes are written at once, where none wait
-pub put_written : (taken taken' held bytes : List ℕ) (n n' : ℕ) (r : Outcome) → held ≡ [] → Writes taken taken' bytes r → Counts n n' r
-    → Puts (record { taken = taken; held = held; failures = n }) (record { taken = taken'; held = held; failures = n' }) bytes started r
-put_written taken taken' held bytes n n' (Ok u) none e k = record {
-  sent = λ start text s.
-      let P : List ℕ → Type 0 = λ h. Sent start taken' h (text ++ bytes) in
-      let Q : List ℕ → Type 0 = λ h. Sent start taken (h ++ bytes) (text ++ bytes) in
-      subst P (sym none) (took (subst Q none (left_more bytes s)) (wrote taken taken' bytes e));
-  counted = λ first h. k ∙ h;
-}
-put_written taken taken' held bytes n n' (Err f) none (left, t) more = record {
-  sent = λ start text s.
-      let Q : List ℕ → Type 0 = λ h. Sent start taken (h ++ bytes) (text ++ bytes) in
-      (left, took (subst Q none (left_more bytes s)) t);
-  counted = λ first h. let P : ℕ → Type 0 = λ k. k < n' in subst P h more;
-}
+-- nothing more
+went_none : (f : Bool) (p : Place) → Went 0 f f p p []
+went_none false p = (sym (append-nil (all_put p)), refl)
+went_none true p = refl
 
--- after a flush
-pub put_after : {p q r : Place} {a : List ℕ} {z : Outcome} → Puts p q [] started started → Puts q r a started z → Puts p r a started z
-put_after {r = r} {a = a} {z = z} s t = record {
-  sent = λ start text h.
-      let P : List ℕ → Type 0 = λ u. Sends start r.taken r.held (u ++ a) z in
-      subst P (append-nil text) (t.sent start (text ++ []) (s.sent start text h));
-  counted = λ first h. t.counted first (s.counted first h);
-}
+pub put_nothing : (p : Place) → Puts 0 p p []
+put_nothing p = record { enough = omega arith; grew = grew_none p.sink; went = went_none p.waiting.failed p }
 
--- a flush that fails
-pub put_not : {p q : Place} {a : List ℕ} {f : Failed} → Puts p q [] started (failed f) → Puts p q a started (failed f)
-put_not {q = q} {a = a} s = record {
-  sent = λ start text h.
-      let was = s.sent start text h in
-      let P : List ℕ → Type 0 = λ u. Sent start q.taken was.0 u in
-      (was.0 ++ a, left_more a (subst P (append-nil text) was.1));
-  counted = λ first h. s.counted first h;
-}
+-- after a failure nothing is put
+pub put_failed : (some : ℕ) (p : Place) (more : List ℕ) → some ≤ length more → p.waiting.failed ≡ true → Puts some p p more
+put_failed some p more enough e = record { enough = enough; grew = grew_none p.sink; went = by p.waiting.failed e }
+  where
+    by : (f : Bool) → f ≡ true → Went some f f p p more
+    by true e = refl
+    by false e = cc
+
+-- of which less may be left out than is asked
+fewer : (some : ℕ) (f g : Bool) (p q : Place) (a : List ℕ) → Went some f g p q a → Went 0 f g p q a
+fewer some false false p q a x = x
+fewer some false true p q a (left, short, broke, n) = (left, omega (arith, short), broke, n)
+fewer some true true p q a x = x
+fewer some true false p q a x = x
+
+pub put_any : {some : ℕ} {p q : Place} {a : List ℕ} → Puts some p q a → Puts 0 p q a
+put_any {some} {p} {q} {a} x = record { enough = omega arith; grew = x.grew; went = fewer some p.waiting.failed q.waiting.failed p q a x.went }
+
+-- bytes wait
+pub put_held : (some : ℕ) (p : Place) (w : Waiting) (a : List ℕ) → some ≤ length a → p.waiting.failed ≡ false → w.bytes ≡ p.waiting.bytes ++ a
+    → w.failed ≡ p.waiting.failed → Puts some p (record { sink = p.sink; waiting = w }) a
+put_held some p w a enough sound e same = record { enough = enough; grew = grew_none p.sink; went = by p.waiting.failed w.failed sound (same ∙ sound) }
+  where
+    by : (f g : Bool) → f ≡ false → g ≡ false → Went some f g p (record { sink = p.sink; waiting = w }) a
+    by false false x y = (ap (λ t. p.sink.bytes ++ t) e ∙ sym (append_assoc p.sink.bytes p.waiting.bytes a), refl)
+    by false true x y = cc
+    by true g x y = cc
+
+-- bytes wait as far as there is room, all are written, and the rest is put
+pub put_over : {some : ℕ} {p q r s : Place} (front rest bytes : List ℕ) → front ++ rest ≡ bytes → Puts some p q front → Puts 0 q r [] → Puts 0 r s rest → Puts some p s bytes
+put_over front rest bytes e x y z = put_as (ap (λ t. t ++ rest) (append-nil front) ∙ e) (put_also (put_also x y) z)
+
+-- where a first byte found room
+pub put_strict : (p q : Place) (a : List ℕ) (room : ℕ) → 0 < length a → (p.waiting.failed ≡ false → length p.waiting.bytes < room)
+    → (0 < length a → length p.waiting.bytes < room → Puts 1 p q a) → Puts 0 p q a → Puts 1 p q a
+put_strict p q a room some has first x = by p.waiting.failed refl
+  where
+    went_any : (f g : Bool) → f ≡ true → Went 0 f g p q a → Went 1 f g p q a
+    went_any true true e w = w
+    went_any true false e w = w
+    went_any false g e w = cc
+
+    by : (f : Bool) → p.waiting.failed ≡ f → Puts 1 p q a
+    by false e = first some (has e)
+    by true e = record { enough = omega (arith, some); grew = x.grew; went = went_any p.waiting.failed q.waiting.failed e x.went }

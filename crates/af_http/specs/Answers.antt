@@ -1,19 +1,21 @@
 -- The bytes of an answer (RFC 9112, section 4; RFC 9110, sections 8.3, 8.6, 10.2.1 and 11.6.1; RFC 9457; this product's own order of fields).
-use Rattle.std.specs.Prelude.{ℕ, Bool, true, false, cond, List, [], ◌++◌, length, Option, Some, None, codes, decimal}
+use Rattle.std.specs.Prelude.{ℕ, Bool, true, false, cond, List, [], ◌∷◌, ◌++◌, map, filter, length, Option, Some, None, codes, decimal}
 use Rattle.std.specs.Option.{option_copied}
 use Rattle.serde_json.specs.Written.{compact_text}
 use Rattle.af_ops.specs.Replies.{fault_data}
 use Rattle.af_ops.specs.Statuses.{code_of, reason_of, is_fault_status}
 use Rattle.af_ops.specs.declared.status.Status.{Status}
 use Rattle.af_ops.specs.declared.status.Status.TheVariants as status
-use Rattle.af_http.specs.declared.route_fault.Allow.{Allow}
-use Rattle.af_http.specs.declared.route_fault.Allow.TheVariants.{Get}
+use Rattle.af_ops.specs.declared.method.Method.{Method}
+use Rattle.af_ops.specs.declared.method.Method.TheVariants as method
+use Rattle.af_ops.specs.declared.methods.Methods.{Methods}
+use Rattle.af_ops.specs.Methods.{methods, method_name}
 use Rattle.af_http.specs.declared.answer.Answer.{Answer}
 
 -- an answer: its status, the methods of the path, the policy version and the number of entries, where it tells them, and its body
 pub record Told : Type 0 where
   pub status : Status
-  pub allow : Option Allow
+  pub allow : Option Methods
   pub version : Option ℕ
   pub seq : Option ℕ
   pub body : Option (List ℕ)
@@ -42,9 +44,22 @@ abbrev pub length_line : Option (List ℕ) → List ℕ
 length_line None = []
 length_line (Some body) = number_line (codes "Content-Length: ") (length body)
 
-abbrev pub allow_line : Option Allow → List ℕ
+abbrev pub has : Methods → Method → Bool
+has allow method.Get = allow.get
+has allow method.Post = allow.post
+has allow method.Patch = allow.patch
+has allow method.Delete = allow.delete
+
+-- these texts, with a comma and a space between them
+abbrev pub listed : List (List ℕ) → List ℕ
+listed [] = []
+listed (text ∷ []) = text
+listed (text ∷ more ∷ texts) = text ++ (codes ", " ++ listed (more ∷ texts))
+
+-- the methods of a path (RFC 9110, section 10.2.1)
+abbrev pub allow_line : Option Methods → List ℕ
 allow_line None = []
-allow_line (Some Get) = codes "Allow: GET\r\n"
+allow_line (Some allow) = codes "Allow: " ++ (listed (map method_name (filter (has allow) methods)) ++ codes "\r\n")
 
 -- only 401 asks for a token
 abbrev pub auth_line : Status → List ℕ
@@ -81,7 +96,7 @@ unfoldable pub problem_body : Status → List ℕ → List ℕ
 problem_body s detail = compact_text (fault_data s detail)
 
 -- a fault that was decided under no policy version
-abbrev pub problem : Status → Option Allow → List ℕ → Told
+abbrev pub problem : Status → Option Methods → List ℕ → Told
 problem s allow detail = record { status = s; allow = allow; version = None; seq = None; body = Some (problem_body s detail) }
 
 -- want of memory, with nothing done, and with the change done and no memory for its reply: fixed texts, after which the connection closes

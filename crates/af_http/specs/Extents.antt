@@ -1,6 +1,7 @@
 -- What the code finds at the front of the bytes that it holds.
 use Rattle.std.specs.Prelude.{◌+◌, cond, nat_lt, ◌≡◌, ◌≤◌, ℕ, List, [], ◌∷◌, ◌++◌, length, take, drop}
-use Rattle.af_http.specs.Fronts.{Front, nothing, part, large, whole, front_of, head_limit}
+use Rattle.af_http.specs.Fronts.{Front, nothing, part, large, whole, front_of}
+use Rattle.af_http.specs.Limits.{head_limit}
 use Rattle.af_http.specs.declared.extent.Extent.{Extent}
 use Rattle.af_http.specs.declared.extent.Extent.TheVariants.{Part, Large, Whole}
 

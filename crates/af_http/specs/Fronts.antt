@@ -1,12 +1,8 @@
 -- Where the head of a request ends in a text. The empty lines before it are no part of it (RFC 9112, section 2.2).
 use Rattle.std.specs.Prelude.{ℕ, ◌+◌, List, [], ◌∷◌, ◌++◌, length, cond, nat_lt, Option, Some, None}
 use Rattle.std.specs.Option.{option_map}
+use Rattle.af_http.specs.Limits.{head_limit}
 use Rattle.af_http.specs.Lines.{lines_of, text_of, is_blank, after_blanks}
-
--- The most bytes that may stand without an empty line (this product's own rule; the refusal is RFC 6585, section 5).
--- So a head is too large where its first 16,385 bytes hold no whole empty line, whatever follows.
-abbrev pub head_limit : ℕ
-head_limit = 16384
 
 -- lines in front of the two parts
 abbrev pub ahead : List (List ℕ) → List (List ℕ) × List (List ℕ) → List (List ℕ) × List (List ℕ)

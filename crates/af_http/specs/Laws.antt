@@ -1,7 +1,11 @@
 -- What the definitions come to: a text has one reading.
-use Rattle.std.specs.Prelude.{◌≡◌, ◌≢◌, ℕ, Bool, List, [], Option}
+use Rattle.std.specs.Prelude.{◌≡◌, ℕ, Bool, List, [], Option, Some}
 use Rattle.af_ops.specs.declared.op.Op.{Op}
 use Rattle.af_ops.specs.declared.served.Served.{Served}
+use Rattle.af_ops.specs.declared.served.Served.TheVariants as served
+use Rattle.af_ops.specs.declared.shown_answer.Shown.{Shown}
+use Rattle.af_ops.specs.Endpoints.{IsRead}
+use Rattle.af_http.specs.Streams.{Taken}
 use Rattle.af_http.specs.Requests.{Asked}
 use Rattle.af_http.specs.Reading.{Begins}
 use Rattle.af_http.specs.Run.{Run}
@@ -13,27 +17,28 @@ abbrev pub OneRequest : Type 0
 OneRequest =
     (text : List ℕ) (a b : Asked) (r q : List ℕ) → Begins text a r → Begins text b q → (a ≡ b) × (r ≡ q)
 
--- The connection ended for what stands in its text: neither reader nor writer failed, the reads were few enough, and
--- there was memory to open it.
-abbrev pub IsByText : List ℕ → Ended → Type 0
-IsByText text end.Closed = Unit {0}
-IsByText text (end.Refused status) = Unit {0}
-IsByText text end.NoMemory = text ≢ []
-IsByText text end.ReadFault = ⊥
-IsByText text end.WriteFault = ⊥
-IsByText text end.Turns = ⊥
+-- The connection ended for what stands in its text: neither reader nor writer failed, the reads were few enough, and no
+-- memory was wanted.
+abbrev pub IsByText : Ended → Type 0
+IsByText end.Closed = Unit {0}
+IsByText (end.Refused status) = Unit {0}
+IsByText end.NoMemory = ⊥
+IsByText end.ReadFault = ⊥
+IsByText end.WriteFault = ⊥
+IsByText end.Turns = ⊥
 
 module _ {S : Type 0} (answers : S → Option (List ℕ) → Op → Served → S → Type 0) where
-  -- the service answers in one way
+  -- the service answers in one way, where it has the memory to, also where there was none to read the body of an operation
   abbrev pub IsFunction : Type 0
   IsFunction =
-      (old : S) (token : Option (List ℕ)) (op : Op) (x y : Served) (a b : S)
-      → answers old token op x a → answers old token op y b → (x ≡ y) × (a ≡ b)
+      (old : S) (token : Option (List ℕ)) (wanted op other : Op) (x y : Shown) (a b : S)
+      → IsRead (Some wanted) (Some op) → IsRead (Some wanted) (Some other)
+      → answers old token op (served.Shown x) a → answers old token other (served.Shown y) b → (x ≡ y) × (a ≡ b)
 
-  -- Where the service answers in one way, the end of a run, what it writes, and how it leaves the service, are
-  -- determined by the text, by whether the input ended behind it, and by the service at its start.
+  -- Then the end of a run, what it writes, and how it leaves the service, are determined by the text, by whether the input
+  -- ended behind it, and by the service at its start, where no memory was wanted.
   abbrev pub OneReading : Type 0
   OneReading =
-      IsFunction → (old : S) (ended : Bool) (text : List ℕ) (e d : Ended) (out written : List ℕ) (a b : S)
-      → Run answers old ended text e out a → Run answers old ended text d written b → IsByText text e → IsByText text d
+      IsFunction → (old : S) (ended : Bool) (text : List ℕ) (e d : Ended) (out written : List ℕ) (w v : Taken) (a b : S)
+      → Run answers old ended text e out w a → Run answers old ended text d written v b → IsByText e → IsByText d
       → (e ≡ d) × (out ≡ written) × (a ≡ b)

@@ -3,6 +3,7 @@ use Rattle.std.specs.Prelude.{◌≡◌, ◌+◌, ◌==◌, ◌⊎◌, ◌||◌,
 use Rattle.httparse.specs.Grammar.{RequestHead, ReadsRequest}
 use Rattle.af_ops.specs.declared.status.Status.{Status}
 use Rattle.af_ops.specs.declared.status.Status.TheVariants as status
+use Rattle.af_http.specs.Limits.{request_limit}
 use Rattle.af_http.specs.Fronts.{nothing, part, large, whole, front_of}
 use Rattle.af_http.specs.Requests.{Asked, asked_by, fields_of, IsFew, is_taken, is_head}
 use Rattle.af_http.specs.Answers.{problem, answer_text}
@@ -35,24 +36,26 @@ IsBadHead head head_only =
     ((head_only ≡ false) × ((h : RequestHead) → Parses head h → ⊥))
     ⊎ ((h : RequestHead) × Parses head h × (is_taken h.minor (fields_of h) ≡ false) × (head_only ≡ is_head h.method))
 
--- Why no request stands at the front of the text. ended: no byte follows the text.
-abbrev pub IsRefused : Bool → List ℕ → Refusal → Type 0
-IsRefused ended text (BadHead head_only) =
+-- Why no request stands at the front of the text.
+abbrev pub IsRefused : List ℕ → Refusal → Type 0
+IsRefused text (BadHead head_only) =
     (head : List ℕ) × (rest : List ℕ) × (front_of text ≡ whole head rest) × IsBadHead head head_only
-IsRefused ended text Incomplete = (front_of text ≡ part) × (ended ≡ true)
-IsRefused ended text HeadTooLarge = front_of text ≡ large
+IsRefused text Incomplete = front_of text ≡ part
+IsRefused text HeadTooLarge = front_of text ≡ large
 
--- the input ended, and no request had begun
-abbrev pub IsOver : Bool → List ℕ → Type 0
-IsOver ended text = (front_of text ≡ nothing) × (ended ≡ true)
+-- it is refused only where no byte follows the text
+abbrev pub at_end : Refusal → Bool
+at_end (BadHead head_only) = false
+at_end Incomplete = true
+at_end HeadTooLarge = false
+
+-- no request has begun
+abbrev pub IsEmpty : List ℕ → Type 0
+IsEmpty text = front_of text ≡ nothing
 
 -- no request is whole yet, and none is refused
 abbrev pub IsOpen : List ℕ → Type 0
 IsOpen text = (front_of text ≡ nothing) ⊎ (front_of text ≡ part)
-
--- the most requests of a connection (this product's own rule)
-abbrev pub request_limit : ℕ
-request_limit = 1000
 
 -- the connection closes after this request, which so many went before
 abbrev pub closes_after : ℕ → Asked → Bool

@@ -1,40 +1,49 @@
 -- How often the reader is read for each request of a run.
-use Rattle.std.specs.Prelude.{◌≡◌, ◌≤◌, ◌+◌, ◌*◌, ◌⊎◌, ℕ, List, [], ◌∷◌, ◌++◌, length}
+use Rattle.std.specs.Prelude.{◌≡◌, ◌≤◌, ◌+◌, ◌*◌, ◌⊎◌, ℕ, Bool, List, [], ◌∷◌, ◌++◌, length}
+use Rattle.af_http.specs.Limits.{read_limit}
+use Rattle.af_http.specs.Streams.{Given, Took, one_if}
 use Rattle.af_http.specs.Requests.{Asked}
 use Rattle.af_http.specs.Reading.{Begins, IsOpen}
 use Rattle.af_http.specs.Run.{Exchange, asked_in}
 use Rattle.af_http.specs.declared.ended.Ended.{Ended}
 use Rattle.af_http.specs.declared.ended.Ended.TheVariants as end
 
--- the most reads for one request (this product's own rule)
-abbrev pub read_limit : ℕ
-read_limit = 65536
+-- From one moment of the reader to another these bytes came, behind those that were left: in no more reads than one
+-- request may take, and in none where what was left holds a whole request, or is refused. So many of the reads found the
+-- end, so many failed, and each other gave a byte.
+pub record Awaits (ends failures : ℕ) (before after : Given) (left came : List ℕ) : Type 0 where
+  pub count : ℕ
+  pub took : Took count ends failures before after
+  pub few : count ≤ read_limit
+  pub came_is : after.bytes ≡ before.bytes ++ came
+  pub needed : (count ≡ 0) ⊎ IsOpen left
 
--- A moment of a reader says which bytes it gave until then, and how often it was read.
-module _ {R : Type 0} (given : R → List ℕ) (reads : R → ℕ) where
-  -- From one moment to another these bytes came, behind those that were left: in no more reads than one request may
-  -- take, and in none where what was left holds a whole request, or is refused.
-  pub record Awaits (before after : R) (left came : List ℕ) : Type 0 where
-    pub came_is : given after ≡ given before ++ came
-    pub onward : reads before ≤ reads after
-    pub few : reads after ≤ reads before + read_limit
-    pub needed : (reads after ≡ reads before) ⊎ IsOpen left
+-- These requests were awaited one after another, each from the moment at which the one before it was whole: what was left
+-- then, with the bytes that came since, begins with it.
+abbrev pub Awaited : Given → List ℕ → List Asked → Given → List ℕ → Type 0
+Awaited start left [] now rest = (now ≡ start) × (rest ≡ left)
+Awaited start left (asked ∷ more) now rest =
+    (next : Given) × (came : List ℕ) × (after : List ℕ)
+    × Awaits 0 0 start next left came × Begins (left ++ came) asked after × Awaited next after more now rest
 
-  -- These requests were awaited one after another, each from the moment at which the one before it was whole: what was
-  -- left then, with the bytes that came since, begins with it.
-  abbrev pub Awaited : R → List ℕ → List Asked → R → List ℕ → Type 0
-  Awaited start left [] now rest = (now ≡ start) × (rest ≡ left)
-  Awaited start left (asked ∷ more) now rest =
-      (next : R) × (came : List ℕ) × (after : List ℕ)
-      × Awaits start next left came × Begins (left ++ came) asked after × Awaited next after more now rest
+-- a read failed where the run ended for that
+abbrev pub read_faults : Ended → ℕ
+read_faults end.ReadFault = 1
+read_faults end.Closed = 0
+read_faults end.WriteFault = 0
+read_faults (end.Refused status) = 0
+read_faults end.Turns = 0
+read_faults end.NoMemory = 0
 
-  -- The reads of a run: its requests were awaited one after another, and then its end. It ends for too many reads only
-  -- where there were as many, since the last request, as one may take.
-  pub record Reads (old new : R) (exchanges : List Exchange) (e : Ended) : Type 0 where
-    pub last : R
-    pub left : List ℕ
-    pub came : List ℕ
-    pub each : Awaited old [] (asked_in exchanges) last left
-    pub after : Awaits last new left came
-    pub all : reads new ≤ reads old + read_limit * (1 + length exchanges)
-    pub too_many : e ≡ end.Turns → reads new ≡ reads last + read_limit
+-- The reads of a run: its requests were awaited one after another, and then its end. Only the last read may have found
+-- the end, or failed. A run ends for too many reads only where there were as many, since the last request, as one may take.
+pub record Reads (old new : Given) (exchanges : List Exchange) (ended : Bool) (e : Ended) : Type 0 where
+  pub last : Given
+  pub left : List ℕ
+  pub came : List ℕ
+  pub each : Awaited old [] (asked_in exchanges) last left
+  pub after : Awaits (one_if ended) (read_faults e) last new left came
+  pub too_many : e ≡ end.Turns → new.reads ≡ last.reads + read_limit
+  pub count : ℕ
+  pub all : Took count (one_if ended) (read_faults e) old new
+  pub few : count ≤ read_limit * (1 + length exchanges)

@@ -1,50 +1,111 @@
--- Which operation a request names (Airflow 2, "Stable REST API"): the table of paths, and what each method asks for there.
-use Rattle.std.specs.Prelude.{ℕ, ◌==◌, List, [], ◌∷◌, Option, Some, None, Result, Ok, Err, cond, codes, bytes_eq}
+-- Which operation a request names (Airflow 2, "Stable REST API"): its path is one of the table's, its parts are names of their
+-- kinds, and its method is one that the path has.
+use Rattle.std.specs.Prelude.{ℕ, ◌≡◌, ◌==◌, ◌&&◌, Bool, true, false, not, List, [], ◌∷◌, Option, Some, None, option_map, option_and_then, ok_or, Result, Ok, Err, cond, if◌then◌else◌, bytes_eq, ⊤}
+use Rattle.std.specs.List.{find}
+use Rattle.std.specs.Str.{is_utf8}
+use Rattle.percent_encoding.specs.Percent.{percent_decode}
+use Rattle.af_ops.specs.declared.endpoint.Endpoint.{Endpoint}
 use Rattle.af_ops.specs.declared.op.Op.{Op}
-use Rattle.af_ops.specs.declared.op.Op.TheVariants as op
-use Rattle.af_http.specs.declared.place.Place.{Place}
-use Rattle.af_http.specs.declared.place.Place.TheVariants as place
-use Rattle.af_http.specs.declared.route_fault.Allow.{Allow}
-use Rattle.af_http.specs.declared.route_fault.Allow.TheVariants.{Get}
+use Rattle.af_ops.specs.declared.place.Place.{Place}
+use Rattle.af_ops.specs.Endpoints.{IsRead, are_names, op_of_row}
+use Rattle.af_ops.specs.Methods.{method_of}
+use Rattle.af_ops.specs.Table.{Segment, Text, Part, segments_of, places, endpoint_at, methods_at}
 use Rattle.af_http.specs.declared.route_fault.RouteFault.{RouteFault}
-use Rattle.af_http.specs.declared.route_fault.RouteFault.TheVariants.{NoPath, BadMethod}
+use Rattle.af_http.specs.declared.route_fault.RouteFault.TheVariants.{NoPath, BadMethod, OutOfMemory}
 
--- the table: each path, and the place that it names
-abbrev pub table : List (List ℕ × Place)
-table =
-    (codes "/api/v1/dags", place.Dags)
-    ∷ (codes "/api/v1/version", place.Version)
-    ∷ []
+-- what stands before the first of these bytes, and from it on
+abbrev pub before : ℕ → List ℕ → List ℕ
+before byte [] = []
+before byte (b ∷ text) = cond (b == byte) [] (b ∷ before byte text)
 
--- The place of a path: that of the row whose text it is, byte for byte. A row with a part in braces would stand for
--- each text without a slash that is not empty in the part's place; no row has one yet.
-abbrev pub place_in : List (List ℕ × Place) → List ℕ → Option Place
-place_in [] path = None
-place_in (row ∷ rows) path = cond (bytes_eq row.0 path) (Some row.1) (place_in rows path)
-
-abbrev pub place_of : List ℕ → Option Place
-place_of path = place_in table path
+abbrev pub onward : ℕ → List ℕ → List ℕ
+onward byte [] = []
+onward byte (b ∷ text) = cond (b == byte) (b ∷ text) (onward byte text)
 
 -- the path of a target: what stands before its first `?` (RFC 9112, section 3.2.1); the query is not read yet
 abbrev pub path_of : List ℕ → List ℕ
-path_of [] = []
-path_of (b ∷ target) = cond (b == 63) [] (b ∷ path_of target)
+path_of target = before 63 target
 
--- what GET asks for at a place
-abbrev pub got_at : Place → Op
-got_at place.Version = op.Version
-got_at place.Dags = op.ListDags
+-- ---- paths
 
--- the methods that a place has
-abbrev pub allowed_at : Place → Allow
-allowed_at place.Version = Get
-allowed_at place.Dags = Get
+abbrev pub is_empty : List ℕ → Bool
+is_empty [] = true
+is_empty (b ∷ text) = false
 
--- what a method asks for at a place; methods are case-sensitive (RFC 9110, section 9.1)
-abbrev pub op_at : Option Place → List ℕ → Result Op RouteFault
-op_at None method = Err NoPath
-op_at (Some p) method = cond (bytes_eq method (codes "GET")) (Ok (got_at p)) (Err (BadMethod (allowed_at p)))
+-- whether a segment stands for this text
+abbrev pub stands_for : Segment → List ℕ → Bool
+stands_for (Text text) piece = bytes_eq piece text
+stands_for (Part name) piece = not (is_empty piece)
 
--- The operation that a method and a target name, or why they name none. The body is not read yet.
-abbrev pub op_of : List ℕ → List ℕ → Result Op RouteFault
-op_of method target = op_at (place_of (path_of target)) method
+-- whether a path is these segments, a slash before each
+abbrev pub has_form : List Segment → List ℕ → Bool
+has_form [] path = is_empty path
+has_form (segment ∷ segments) [] = false
+has_form (segment ∷ segments) (b ∷ path) =
+    (b == 47) && (stands_for segment (before 47 path) && has_form segments (onward 47 path))
+
+-- the path of the table that this is
+abbrev pub place_of : List ℕ → Option Place
+place_of path = find (λ place. has_form (segments_of place) path) places
+
+-- ---- parts
+
+-- a part's text, without its percent-encoding (RFC 3986, section 2.1)
+abbrev pub decoded : List ℕ → Option (List ℕ)
+decoded part = if is_utf8 (percent_decode part) then Some (percent_decode part) else None
+
+abbrev pub with_first : Option (List ℕ) → Option (List (List ℕ)) → Option (List (List ℕ))
+with_first None parts = None
+with_first (Some part) parts = option_map (λ more. part ∷ more) parts
+
+-- the texts of a path's parts; none where one of them is no text
+abbrev pub parts_in : List Segment → List ℕ → Option (List (List ℕ))
+parts_in [] path = Some []
+parts_in (segment ∷ segments) [] = Some []
+parts_in (Text text ∷ segments) (b ∷ path) = parts_in segments (onward 47 path)
+parts_in (Part name ∷ segments) (b ∷ path) = with_first (decoded (before 47 path)) (parts_in segments (onward 47 path))
+
+-- ---- operations
+
+-- the operation of a method at a path; methods are case-sensitive (RFC 9110, section 9.1)
+abbrev pub endpoint_of : List ℕ → Place → Option Endpoint
+endpoint_of method place = option_and_then (λ it. endpoint_at it place) (method_of method)
+
+-- what an operation reads
+abbrev pub read : Endpoint → List (List ℕ) → List ℕ → Result Op RouteFault
+read endpoint parts body = ok_or (op_of_row endpoint parts body) NoPath
+
+-- at a path: what the operation of the method reads, if the path has that method
+abbrev pub by_endpoint : Place → List (List ℕ) → List ℕ → Option Endpoint → Result Op RouteFault
+by_endpoint place parts body None = Err (BadMethod (methods_at place))
+by_endpoint place parts body (Some endpoint) = read endpoint parts body
+
+abbrev pub by_method : List ℕ → Place → List (List ℕ) → List ℕ → Result Op RouteFault
+by_method method place parts body = by_endpoint place parts body (endpoint_of method place)
+
+abbrev pub named : List ℕ → List ℕ → Place → List (List ℕ) → Result Op RouteFault
+named method body place parts = if are_names place parts then by_method method place parts body else Err NoPath
+
+abbrev pub with_parts : List ℕ → List ℕ → Place → Option (List (List ℕ)) → Result Op RouteFault
+with_parts method body place None = Err NoPath
+with_parts method body place (Some parts) = named method body place parts
+
+abbrev pub at_place : List ℕ → List ℕ → List ℕ → Option Place → Result Op RouteFault
+at_place method path body None = Err NoPath
+at_place method path body (Some place) = with_parts method body place (parts_in (segments_of place) path)
+
+-- The operation that a method, a target and a body name, or why they name none: no such path, also where a part is no text or
+-- no name of its kind; then no such method.
+abbrev pub op_of : List ℕ → List ℕ → List ℕ → Result Op RouteFault
+op_of method target body = at_place method (path_of target) body (place_of (path_of target))
+
+abbrev pub IsAsked : Result Op RouteFault → Op → Type 0
+IsAsked (Ok wanted) op = IsRead (Some wanted) (Some op)
+IsAsked (Err fault) op = ⊥
+
+-- This was read, or there was no memory to read it with; of an operation, its body may be unread for that.
+abbrev pub IsRouted : Result Op RouteFault → Result Op RouteFault → Type 0
+IsRouted expected (Ok op) = IsAsked expected op
+IsRouted expected (Err NoPath) = expected ≡ Err NoPath
+IsRouted expected (Err (BadMethod methods)) = expected ≡ Err (BadMethod methods)
+IsRouted expected (Err OutOfMemory) = ⊤

@@ -1,39 +1,43 @@
--- What becomes of a text that is put: part of it is taken by the writer, and the rest is held for it.
-use Rattle.std.specs.Prelude.{◌≡◌, ◌<◌, ℕ, List, ◌++◌, Result, Ok, Err}
+-- What becomes of a text that is put: part of it is taken by the writer, and the rest waits for it.
+use Rattle.std.specs.Prelude.{◌≡◌, ◌+◌, ◌≤◌, ℕ, Bool, true, false, List, ◌++◌, length, Result, Ok, Err}
+use Rattle.af_http.specs.Streams.{Taken, Waiting, Grew}
 use Rattle.af_http.specs.declared.stream.Failed.{Failed}
 
--- Of the text that was put since the start, when the writer had taken start, a front was taken, and this is left.
-pub record Sent (start taken left text : List ℕ) : Type 0 where
-  pub front : List ℕ
-  pub taken_is : taken ≡ start ++ front
-  pub text_is : text ≡ front ++ left
-
--- what is left is held, or was given up at a failure
-abbrev pub Sends : {A : Type 0} → List ℕ → List ℕ → List ℕ → List ℕ → Result A Failed → Type 0
-Sends start taken held text (Ok _) = Sent start taken held text
-Sends start taken held text (Err _) = (left : List ℕ) × Sent start taken left text
-
--- failures are counted, and none where all went well
-abbrev pub Counts : {A : Type 0} → ℕ → ℕ → Result A Failed → Type 0
-Counts old new (Ok _) = new ≡ old
-Counts old new (Err _) = old < new
-
--- the writer took all of the bytes, or a front of them before a failure
-abbrev pub Writes : {A : Type 0} → List ℕ → List ℕ → List ℕ → Result A Failed → Type 0
-Writes old new bytes (Ok _) = new ≡ old ++ bytes
-Writes old new bytes (Err _) = (left : List ℕ) × Sent old new left bytes
-
--- where a text stands: what the writer has taken, what is held for it, and how many writes failed
+-- where a text stands: what the writer has taken, and what waits for it
 pub record Place : Type 0 where
-  pub taken : List ℕ
-  pub held : List ℕ
-  pub failures : ℕ
+  pub sink : Taken
+  pub waiting : Waiting
 
--- whatever text was put from a start on, more was put after it; and failures are counted
-pub record Puts {A B : Type 0} (old new : Place) (more : List ℕ) (before : Result A Failed) (after : Result B Failed) : Type 0 where
-  pub sent : (start text : List ℕ) → Sends start old.taken old.held text before → Sends start new.taken new.held (text ++ more) after
-  pub counted : (first : ℕ) → Counts first old.failures before → Counts first new.failures after
+-- all bytes that were put
+abbrev pub all_put : Place → List ℕ
+all_put p = p.sink.bytes ++ p.waiting.bytes
 
--- nothing has failed before
-abbrev pub started : Result (Unit {0}) Failed
-started = Ok tt
+-- A write failed: of all bytes that were put, the writer took some, the failed write was given the next, and these are left.
+pub record Broke (new : Taken) (all left : List ℕ) : Type 0 where
+  pub failed_at : all ≡ new.bytes ++ (new.refused ++ left)
+
+-- More was put, from one place to another: all of it was taken or waits; or a write failed, and of what was put all but
+-- these last bytes had been given to the writer. After a failure nothing more is written.
+abbrev pub Went : ℕ → Bool → Bool → Place → Place → List ℕ → Type 0
+Went some false false old new more = (all_put new ≡ all_put old ++ more) × (new.sink.failures ≡ old.sink.failures)
+Went some false true old new more =
+    (left : List ℕ) × (length left + some ≤ length more) × Broke new.sink (all_put old ++ more) left
+    × (new.sink.failures ≡ old.sink.failures + 1)
+Went some true true old new more = new.sink ≡ old.sink
+Went some true false old new more = ⊥
+
+-- the same, where a failure leaves out so many bytes of the text at most but for this number of them
+pub record Puts (some : ℕ) (old new : Place) (more : List ℕ) : Type 0 where
+  pub enough : some ≤ length more
+  pub grew : Grew old.sink new.sink
+  pub went : Went some old.waiting.failed new.waiting.failed old new more
+
+-- whether a write failed
+abbrev pub has_failed : Result (Unit {0}) Failed → Bool
+has_failed (Ok done) = false
+has_failed (Err failed) = true
+
+-- the writer took all of the bytes, or some of them before a failure, at which it was given all others
+abbrev pub Writes : Taken → Taken → List ℕ → Bool → Type 0
+Writes old new bytes false = (new.bytes ≡ old.bytes ++ bytes) × (new.failures ≡ old.failures)
+Writes old new bytes true = (old.bytes ++ bytes ≡ new.bytes ++ new.refused) × (new.failures ≡ old.failures + 1)

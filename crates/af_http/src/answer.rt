@@ -1,12 +1,11 @@
-use crate::route_fault::Allow;
-use af_ops::Status;
+use af_ops::{Methods, Status};
 
 /// An answer, wherever its body lies.
 #[derive(Clone, Copy)]
 pub struct Answer<'b> {
     pub status: Status,
     /// The methods of the path, with 405.
-    pub allow: Option<Allow>,
+    pub allow: Option<Methods>,
     /// The policy version.
     pub version: Option<u32>,
     /// The number of entries.

@@ -1,50 +1,38 @@
-ghost use Rattle.std.specs.Prelude.{◌≡◌, ◌++◌};
+ghost use Rattle.std.specs.Prelude.{◌≡◌, ◌<◌, ◌++◌, false, length};
 ghost use Rattle.af_http.specs.Answers.{number_line, number_line_of, type_line, length_line, head_text, body_text, answer_text, told};
 ghost use Rattle.std.specs.Option.{option_copied};
-ghost use Rattle.af_http.specs.Sending.{Puts, started};
+ghost use Rattle.af_http.specs.Limits.{outgoing_room};
+ghost use Rattle.af_http.specs.Sending.{Puts};
 
 use crate::answer::Answer;
-use crate::outgoing::{Outgoing, put};
-use crate::stream::{Failed, Sink};
+use crate::outgoing::Outgoing;
+use crate::stream::Sink;
 use crate::wording::{allow_line, auth_line, close_line, status_line, type_line};
 use af_ops::Status;
 use itoa::Buffer;
 
 /// Puts a field of this name with a number.
-fn put_number<W: Sink>(
-    writer: &mut W,
-    outgoing: &mut Outgoing,
-    before: Result<(), Failed>,
-    name: &[u8],
-    number: u64,
-) -> Result<(), Failed>
-    ensures { Puts
-        (record { taken = W.taken writer.old; held = outgoing.old; failures = W.failures writer.old })
-        (record { taken = W.taken writer.new; held = outgoing.new; failures = W.failures writer.new })
-        (number_line name.now number) before result }
+fn put_number<W: Sink>(writer: &mut W, outgoing: &mut Outgoing, name: &[u8], number: u64)
+    ensures { Puts 0
+        (record { sink = W.taken writer.old; waiting = outgoing.old })
+        (record { sink = W.taken writer.new; waiting = outgoing.new })
+        (number_line name.now number) }
 {
     let mut digits = Buffer::new();
-    let named = put(writer, outgoing, before, name);
-    let numbered = put(writer, outgoing, named, digits.format(number).as_bytes());
-    put(writer, outgoing, numbered, b"\r\n")
+    outgoing.put(writer, name);
+    outgoing.put(writer, digits.format(number).as_bytes());
+    outgoing.put(writer, b"\r\n");
 }
 
 /// Puts a field of this name with a number, if there is one.
-fn put_number_of<W: Sink>(
-    writer: &mut W,
-    outgoing: &mut Outgoing,
-    before: Result<(), Failed>,
-    name: &[u8],
-    number: Option<u32>,
-) -> Result<(), Failed>
-    ensures { Puts
-        (record { taken = W.taken writer.old; held = outgoing.old; failures = W.failures writer.old })
-        (record { taken = W.taken writer.new; held = outgoing.new; failures = W.failures writer.new })
-        (number_line_of name.now number) before result }
+fn put_number_of<W: Sink>(writer: &mut W, outgoing: &mut Outgoing, name: &[u8], number: Option<u32>)
+    ensures { Puts 0
+        (record { sink = W.taken writer.old; waiting = outgoing.old })
+        (record { sink = W.taken writer.new; waiting = outgoing.new })
+        (number_line_of name.now number) }
 {
-    match number {
-        None => before,
-        Some(number) => put_number(writer, outgoing, before, name, u64::from(number)),
+    if let Some(number) = number {
+        put_number(writer, outgoing, name, u64::from(number));
     }
 }
 
@@ -52,56 +40,36 @@ fn put_number_of<W: Sink>(
 fn put_body_fields<W: Sink>(
     writer: &mut W,
     outgoing: &mut Outgoing,
-    before: Result<(), Failed>,
     status: Status,
     body: Option<&[u8]>,
-) -> Result<(), Failed>
-    ensures { Puts
-        (record { taken = W.taken writer.old; held = outgoing.old; failures = W.failures writer.old })
-        (record { taken = W.taken writer.new; held = outgoing.new; failures = W.failures writer.new })
-        (type_line status (option_copied body.entry) ++ length_line (option_copied body.entry)) before result }
+)
+    ensures { Puts 0
+        (record { sink = W.taken writer.old; waiting = outgoing.old })
+        (record { sink = W.taken writer.new; waiting = outgoing.new })
+        (type_line status (option_copied body.entry) ++ length_line (option_copied body.entry)) }
 {
-    match body {
-        None => before,
-        Some(bytes) => {
-            let typed = put(writer, outgoing, before, type_line(status));
-            put_number(
-                writer,
-                outgoing,
-                typed,
-                b"Content-Length: ",
-                bytes.len() as u64,
-            )
-        }
+    if let Some(bytes) = body {
+        outgoing.put(writer, type_line(status));
+        put_number(writer, outgoing, b"Content-Length: ", bytes.len() as u64);
     }
 }
 
 /// Puts the status line, the fields and the empty line.
-fn put_head<W: Sink>(
-    writer: &mut W,
-    outgoing: &mut Outgoing,
-    answer: &Answer<'_>,
-    closes: bool,
-) -> Result<(), Failed>
-    ensures { Puts
-        (record { taken = W.taken writer.old; held = outgoing.old; failures = W.failures writer.old })
-        (record { taken = W.taken writer.new; held = outgoing.new; failures = W.failures writer.new })
-        (head_text (told answer.now) closes) started result }
+fn put_head<W: Sink>(writer: &mut W, outgoing: &mut Outgoing, answer: &Answer<'_>, closes: bool)
+    requires room { outgoing.old.failed ≡ false → length outgoing.old.bytes < outgoing_room }
+    ensures { Puts 1
+        (record { sink = W.taken writer.old; waiting = outgoing.old })
+        (record { sink = W.taken writer.new; waiting = outgoing.new })
+        (head_text (told answer.now) closes) }
 {
-    let status = put(writer, outgoing, Ok(()), status_line(answer.status));
-    let typed = put_body_fields(writer, outgoing, status, answer.status, answer.body);
-    let allowed = put(writer, outgoing, typed, allow_line(answer.allow));
-    let asked = put(writer, outgoing, allowed, auth_line(answer.status));
-    let versioned = put_number_of(
-        writer,
-        outgoing,
-        asked,
-        b"X-Policy-Version: ",
-        answer.version,
-    );
-    let counted = put_number_of(writer, outgoing, versioned, b"X-Plane-Seq: ", answer.seq);
-    let closed = put(writer, outgoing, counted, close_line(closes));
-    put(writer, outgoing, closed, b"\r\n")
+    outgoing.begin(writer, status_line(answer.status));
+    put_body_fields(writer, outgoing, answer.status, answer.body);
+    outgoing.put(writer, allow_line(answer.allow));
+    outgoing.put(writer, auth_line(answer.status));
+    put_number_of(writer, outgoing, b"X-Policy-Version: ", answer.version);
+    put_number_of(writer, outgoing, b"X-Plane-Seq: ", answer.seq);
+    outgoing.put(writer, close_line(closes));
+    outgoing.put(writer, b"\r\n");
 }
 
 /// The body, unless it is left out.
@@ -121,12 +89,13 @@ pub fn put_answer<W: Sink>(
     answer: &Answer<'_>,
     head_only: bool,
     closes: bool,
-) -> Result<(), Failed>
-    ensures { Puts
-        (record { taken = W.taken writer.old; held = outgoing.old; failures = W.failures writer.old })
-        (record { taken = W.taken writer.new; held = outgoing.new; failures = W.failures writer.new })
-        (answer_text (told answer.now) head_only closes) started result }
+)
+    requires room { outgoing.old.failed ≡ false → length outgoing.old.bytes < outgoing_room }
+    ensures { Puts 1
+        (record { sink = W.taken writer.old; waiting = outgoing.old })
+        (record { sink = W.taken writer.new; waiting = outgoing.new })
+        (answer_text (told answer.now) head_only closes) }
 {
-    let headed = put_head(writer, outgoing, answer, closes);
-    put(writer, outgoing, headed, body_part(answer, head_only))
+    put_head(writer, outgoing, answer, closes);
+    outgoing.put(writer, body_part(answer, head_only));
 }

@@ -1,5 +1,6 @@
-ghost use Rattle.std.specs.Prelude.{◌≡◌, ◌+◌, ◌++◌, [], false, length, take};
-ghost use Rattle.af_http.specs.Streams.{bytes_of};
+ghost use Rattle.std.specs.Prelude.{◌≡◌, ◌+◌, ◌++◌, ◌∷◌, [], false, length, take};
+ghost use Rattle.std.specs.Io.KnownBytes.{prepend_known};
+ghost use Rattle.af_http.specs.Streams.{bytes_of, one_if, is_end};
 
 use crate::stream::{Failed, Sink, Source};
 use http_server::Log;
@@ -7,29 +8,37 @@ use std::io::{Read, Write};
 
 /// Any reader as a source, and any writer as a sink.
 ///
-/// Beside it stands the history that contracts speak of: it takes no memory, and costs nothing at run time.
+/// Beside it stands the history that contracts speak of: it takes no memory, and costs nothing at run time. Where std
+/// says what a reader still holds, a read takes from that, and finds the end only where nothing is left; where std says
+/// what a writer holds, a write adds to that.
 #[derive(Drop)]
 pub struct Counted<T> {
     inner: T,
-    ended: bool,
     moved: Log<u8, u8>,
+    refused: Log<u8, u8>,
     calls: Log<u8, u8>,
+    fruitful: Log<u8, u8>,
+    ends: Log<u8, u8>,
     failures: Log<u8, u8>,
 }
 
 impl<T> Counted<T> {
     /// Nothing was read or written yet.
     pub fn new(inner: T) -> Counted<T>
-        ensures open { result.ended ≡ false }
+        ensures inner { result.inner ≡ inner }
         ensures moved { bytes_of result.moved.items ≡ [] }
         ensures calls { length result.calls.items ≡ 0 }
+        ensures fruitful { length result.fruitful.items ≡ 0 }
+        ensures ends { length result.ends.items ≡ 0 }
         ensures failures { length result.failures.items ≡ 0 }
     {
         Counted {
             inner,
-            ended: false,
             moved: Log::new(),
+            refused: Log::new(),
             calls: Log::new(),
+            fruitful: Log::new(),
+            ends: Log::new(),
             failures: Log::new(),
         }
     }
@@ -61,20 +70,39 @@ fn with_one(log: &Log<u8, u8>) -> Log<u8, u8>
     log.and(&0, &0)
 }
 
+/// The same, where this is so.
+fn with_one_if(log: Log<u8, u8>, so: bool) -> Log<u8, u8>
+    ensures { length result.items ≡ length log.items + one_if so }
+{
+    if so { with_one(&log) } else { log }
+}
+
+/// Whether a call moved no byte, though it could have.
+fn is_end(count: usize, bytes: &[u8]) -> bool
+    ensures { result ≡ is_end count (length bytes.now) }
+{
+    count == 0 && !bytes.is_empty()
+}
+
 impl<T: Read> Source for Counted<T> {
-    ghost given = { λ s. bytes_of s.moved.items };
+    ghost given = { λ s. record {
+      bytes = bytes_of s.moved.items;
+      reads = length s.calls.items;
+      fruitful = length s.fruitful.items;
+      ends = length s.ends.items;
+      failures = length s.failures.items;
+      whole = prepend_known (bytes_of s.moved.items) (T.remaining s.inner);
+    } };
 
-    ghost ended = { λ s. s.ended };
-
-    ghost reads = { λ s. length s.calls.items };
-
-    ghost failures = { λ s. length s.failures.items };
-
+    #[tactic(auto, using(crate::proofs::StreamLemmas::consumed, crate::proofs::StreamLemmas::kept, crate::proofs::StreamLemmas::at_end))]
     fn read(&mut self, buffer: &mut [u8]) -> Result<usize, Failed> {
         self.calls = with_one(&self.calls);
         match self.inner.read(buffer) {
             Ok(count) => {
-                self.ended |= count == 0 && !buffer.is_empty();
+                let log = std::mem::replace(&mut self.fruitful, Log::new());
+                self.fruitful = with_one_if(log, count != 0);
+                let log = std::mem::replace(&mut self.ends, Log::new());
+                self.ends = with_one_if(log, is_end(count, buffer));
                 let log = std::mem::replace(&mut self.moved, Log::new());
                 self.moved = with_bytes(log, &buffer[..count]);
                 Ok(count)
@@ -88,15 +116,19 @@ impl<T: Read> Source for Counted<T> {
 }
 
 impl<T: Write> Sink for Counted<T> {
-    ghost taken = { λ s. bytes_of s.moved.items };
-
-    ghost failures = { λ s. length s.failures.items };
+    ghost taken = { λ s. record {
+      bytes = bytes_of s.moved.items;
+      failures = length s.failures.items;
+      refused = bytes_of s.refused.items;
+      contents = T.contents s.inner;
+    } };
 
     fn write(&mut self, bytes: &[u8]) -> Result<usize, Failed> {
         match self.inner.write(bytes) {
             Ok(count) => {
-                if count == 0 && !bytes.is_empty() {
+                if is_end(count, bytes) {
                     self.failures = with_one(&self.failures);
+                    self.refused = with_bytes(Log::new(), bytes);
                 }
                 let log = std::mem::replace(&mut self.moved, Log::new());
                 self.moved = with_bytes(log, &bytes[..count]);
@@ -104,6 +136,7 @@ impl<T: Write> Sink for Counted<T> {
             }
             Err(_) => {
                 self.failures = with_one(&self.failures);
+                self.refused = with_bytes(Log::new(), bytes);
                 Err(Failed)
             }
         }

@@ -1,7 +1,9 @@
 ghost use Rattle.std.specs.Prelude.{◌≡◌, ℕ, ◌+◌, ◌≤◌, List, [], ◌++◌, length};
 ghost use Rattle.af_http.specs.Fronts.{front_of};
 ghost use Rattle.af_http.specs.Extents.{IsExtent, open_front};
-ghost use Rattle.af_http.specs.Gathering.{IsGathered, Holds, CountsFailure, CountsReads};
+ghost use Rattle.af_http.specs.Limits.{read_limit};
+ghost use Rattle.af_http.specs.Streams.{Took};
+ghost use Rattle.af_http.specs.Gathering.{IsGathered, Holds, ends_of, failures_of};
 
 use crate::extent::Extent;
 use crate::incoming::Incoming;
@@ -24,7 +26,7 @@ pub enum Gathered {
     /// The input ended within a head.
     Incomplete,
     /// A read failed.
-    Failed,
+    ReadFailed,
     /// There were too many reads.
     Turns,
 }
@@ -40,13 +42,14 @@ pub fn settle(incoming: &mut Incoming) -> Extent
 
 /// Reads until a head is held, or none can be. A read may wait for the client, so no byte may wait for the writer.
 pub fn gather<R: Source>(reader: &mut R, incoming: &mut Incoming, waiting: &Outgoing) -> Gathered
-    requires idle { waiting.now ≡ [] }
+    requires idle { waiting.now.bytes ≡ [] }
     requires open { front_of incoming.old ≡ open_front incoming.old }
     requires short { length incoming.old ≤ 16384 }
     ensures holds { (more : List ℕ) × Holds (R.given reader.old) (R.given reader.new) incoming.old incoming.new more }
-    ensures found { IsGathered incoming.new (R.ended reader.new) result }
-    ensures failed { CountsFailure result (R.failures reader.old) (R.failures reader.new) }
-    ensures reads { CountsReads result (R.reads reader.old) (R.reads reader.new) }
+    ensures found { IsGathered incoming.new result }
+    ensures took { (count : ℕ) × (count ≤ read_limit)
+        × Took count (ends_of result) (failures_of result) (R.given reader.old) (R.given reader.new) }
+    ensures turns { result ≡ Gathered.Turns → (R.given reader.new).reads ≡ (R.given reader.old).reads + read_limit }
 {
     for _ in 0..READ_LIMIT {
         match incoming.fill(reader, waiting) {
@@ -57,7 +60,7 @@ pub fn gather<R: Source>(reader: &mut R, incoming: &mut Incoming, waiting: &Outg
                 }
                 return Gathered::Incomplete;
             }
-            Err(_) => return Gathered::Failed,
+            Err(_) => return Gathered::ReadFailed,
         }
         match settle(incoming) {
             Extent::Whole(n) => return Gathered::Head(n),

@@ -1,5 +1,6 @@
-ghost use Rattle.std.specs.Prelude.{◌≡◌, ℕ, ◌+◌, ◌<◌, ◌≤◌, List, [], ◌++◌, length, take, drop, IfOk, OnOk, OnErr, true, false};
-ghost use Rattle.af_http.specs.Gathering.{Fills};
+ghost use Rattle.std.specs.Prelude.{◌≡◌, ◌≢◌, ◌==◌, ℕ, ◌+◌, ◌<◌, ◌≤◌, List, [], ◌++◌, length, take, drop, IfOk, OnErr, Ok, true};
+ghost use Rattle.af_http.specs.Streams.{Took, one_if};
+ghost use Rattle.af_http.specs.Gathering.{Fills, ends_in, failures_in};
 
 use crate::outgoing::Outgoing;
 use crate::stream::{Failed, Source};
@@ -65,14 +66,11 @@ impl Incoming {
     /// Reads once, and says whether bytes came. No other function reads, and a read may wait for the client: so none is
     /// made while a byte waits for the writer.
     pub fn fill<R: Source>(&mut self, reader: &mut R, _waiting: &Outgoing) -> Result<bool, Failed>
-        requires idle { _waiting.now ≡ [] }
+        requires idle { _waiting.now.bytes ≡ [] }
         requires few { length self.old ≤ 16384 }
-        ensures ok { IfOk result (λ some. (more : List ℕ) × Fills (R.given reader.old) (R.given reader.new) self.old self.new more
-            × (some ≡ false → (more ≡ []) × (R.ended reader.new ≡ true))) }
-        ensures fine { OnOk result (R.failures reader.new ≡ R.failures reader.old) }
-        ensures err { OnErr result ((R.given reader.new ≡ R.given reader.old) × (self.new ≡ self.old)
-            × (R.failures reader.new ≡ R.failures reader.old + 1)) }
-        ensures reads { R.reads reader.new ≡ R.reads reader.old + 1 }
+        ensures came { (more : List ℕ) × Fills (R.given reader.old) (R.given reader.new) self.old self.new more }
+        ensures took { Took 1 (ends_in result) (failures_in result) (R.given reader.old) (R.given reader.new) }
+        ensures none { result ≢ Ok true → self.new ≡ self.old }
     {
         let (start, end, read) = read_more(reader, self.bytes.as_mut_slice(), self.start, self.end);
         self.start = start;
@@ -94,14 +92,10 @@ fn read_more<R: Source>(
     requires within { end ≤ 32768 }
     requires few { end ≤ start + 16384 }
     ensures within { (result.0 ≤ result.1) × (result.1 ≤ 32768) }
-    ensures ok { IfOk result.2 (λ some. (more : List ℕ)
-        × Fills (R.given reader.old) (R.given reader.new) (drop start (take end bytes.old)) (drop result.0 (take result.1 bytes.new)) more
-        × (some ≡ false → (more ≡ []) × (R.ended reader.new ≡ true))) }
-    ensures fine { OnOk result.2 (R.failures reader.new ≡ R.failures reader.old) }
-    ensures err { OnErr result.2 ((R.given reader.new ≡ R.given reader.old)
-        × (drop result.0 (take result.1 bytes.new) ≡ drop start (take end bytes.old))
-        × (R.failures reader.new ≡ R.failures reader.old + 1)) }
-    ensures reads { R.reads reader.new ≡ R.reads reader.old + 1 }
+    ensures came { (more : List ℕ)
+        × Fills (R.given reader.old) (R.given reader.new) (drop start (take end bytes.old)) (drop result.0 (take result.1 bytes.new)) more }
+    ensures took { Took 1 (ends_in result.2) (failures_in result.2) (R.given reader.old) (R.given reader.new) }
+    ensures none { result.2 ≢ Ok true → drop result.0 (take result.1 bytes.new) ≡ drop start (take end bytes.old) }
 {
     let (start, end) = with_room(bytes, start, end);
     match read_behind(reader, bytes, end) {
@@ -133,11 +127,10 @@ fn read_behind<R: Source>(reader: &mut R, bytes: &mut [u8], end: usize) -> Resul
     requires { end < length bytes.old }
     ensures before { take end bytes.new ≡ take end bytes.old }
     ensures room { IfOk result (λ n. end + n ≤ length bytes.old) }
-    ensures came { IfOk result (λ n. R.given reader.new ≡ R.given reader.old ++ take n (drop end bytes.new)) }
-    ensures ended { IfOk result (λ n. n ≡ 0 → R.ended reader.new ≡ true) }
-    ensures fine { OnOk result (R.failures reader.new ≡ R.failures reader.old) }
-    ensures err { OnErr result ((R.given reader.new ≡ R.given reader.old) × (R.failures reader.new ≡ R.failures reader.old + 1)) }
-    ensures reads { R.reads reader.new ≡ R.reads reader.old + 1 }
+    ensures came { IfOk result (λ n. (R.given reader.new).bytes ≡ (R.given reader.old).bytes ++ take n (drop end bytes.new)) }
+    ensures kept { OnErr result ((R.given reader.new).bytes ≡ (R.given reader.old).bytes) }
+    ensures ok { IfOk result (λ n. Took 1 (one_if (n == 0)) 0 (R.given reader.old) (R.given reader.new)) }
+    ensures err { OnErr result (Took 1 0 1 (R.given reader.old) (R.given reader.new)) }
 {
     let (_, room) = bytes.split_at_mut(end);
     reader.read(room)

@@ -12,7 +12,6 @@ mod incoming;
 mod laws;
 mod lines;
 mod outgoing;
-mod place;
 mod problems;
 mod reading;
 mod refusal;
@@ -31,12 +30,12 @@ mod writing;
 pub use counted::Counted;
 pub use ended::Ended;
 pub use laws::{one_reading, one_request};
-pub use place::Place;
-pub use route_fault::{Allow, RouteFault};
+pub use route_fault::RouteFault;
 pub use routes::Routes;
 pub use service::Service;
 pub use serving::serve;
 pub use stream::{Failed, Sink, Source};
+pub use writing::write_all;
 
 #[cfg(test)]
 mod tests;

@@ -1,4 +1,4 @@
-ghost use Rattle.std.specs.Prelude.{◌≡◌, codes, Some};
+ghost use Rattle.std.specs.Prelude.{◌≡◌, ◌<◌, codes, Some, length};
 ghost use Rattle.af_ops.specs.declared.status.Status.TheVariants as status;
 ghost use Rattle.af_http.specs.Answers.{problem_body, memory_text, lost_text};
 ghost use Rattle.af_http.specs.Reading.{status_of, detail_of, leaves_out};
@@ -58,14 +58,16 @@ pub fn bad_method_body() -> &'static [u8]
 
 /// The whole text for want of memory, with nothing done.
 pub fn memory_text() -> &'static [u8]
-    ensures { result.now ≡ memory_text }
+    ensures text { result.now ≡ memory_text }
+    ensures some { 0 < length result.now }
 {
     b"HTTP/1.1 503 Service Unavailable\r\nContent-Type: application/problem+json\r\nContent-Length: 90\r\nConnection: close\r\n\r\n{\"detail\":\"out of memory\",\"status\":503,\"title\":\"Service Unavailable\",\"type\":\"about:blank\"}"
 }
 
 /// The whole text for want of memory, with the change done and its reply lost.
 pub fn lost_text() -> &'static [u8]
-    ensures { result.now ≡ lost_text }
+    ensures text { result.now ≡ lost_text }
+    ensures some { 0 < length result.now }
 {
     b"HTTP/1.1 500 Internal Server Error\r\nContent-Type: application/problem+json\r\nContent-Length: 95\r\nConnection: close\r\n\r\n{\"detail\":\"done, reply lost\",\"status\":500,\"title\":\"Internal Server Error\",\"type\":\"about:blank\"}"
 }

@@ -1,10 +1,11 @@
-ghost use Rattle.std.specs.Prelude.{◌≡◌, Option};
+ghost use Rattle.std.specs.Prelude.{◌≡◌, ◌<◌, Option, false, length};
+ghost use Rattle.af_http.specs.Limits.{outgoing_room};
 ghost use Rattle.std.specs.Option.{option_copied};
 ghost use Rattle.af_http.specs.Answers.{told};
 ghost use Rattle.af_http.specs.Replies.{reply_text, wants_memory, told_by};
 ghost use Rattle.af_http.specs.Reading.{refusal_text, status_of};
 ghost use Rattle.af_http.specs.Run.{end_by};
-ghost use Rattle.af_http.specs.Sending.{Puts, started};
+ghost use Rattle.af_http.specs.Sending.{Puts};
 
 use crate::answer::Answer;
 use crate::answering::put_answer;
@@ -13,12 +14,12 @@ use crate::outgoing::Outgoing;
 use crate::problems::{bad_method_body, lost_text, memory_text, no_path_body};
 use crate::refusal::Refusal;
 use crate::reply::Reply;
-use crate::route_fault::{Allow, RouteFault};
-use crate::stream::{Failed, Sink};
-use af_ops::{Body, Served, Shown, Status};
+use crate::route_fault::RouteFault;
+use crate::stream::Sink;
+use af_ops::{Body, Methods, Served, Shown, Status};
 
 /// A fault that was decided under no policy version.
-fn problem(status: Status, allow: Option<Allow>, body: &[u8]) -> Answer<'_>
+fn problem(status: Status, allow: Option<Methods>, body: &[u8]) -> Answer<'_>
     ensures { told result ≡ record { status = status; allow = allow; version = None; seq = None; body = Some body.now } }
 {
     Answer {
@@ -50,49 +51,42 @@ pub fn put_reply<W: Sink>(
     reply: &Reply,
     head_only: bool,
     closes: bool,
-) -> Result<(), Failed>
-    ensures { Puts
-        (record { taken = W.taken writer.old; held = outgoing.old; failures = W.failures writer.old })
-        (record { taken = W.taken writer.new; held = outgoing.new; failures = W.failures writer.new })
-        (reply_text reply.now head_only closes) started result }
+)
+    requires room { outgoing.old.failed ≡ false → length outgoing.old.bytes < outgoing_room }
+    ensures { Puts 1
+        (record { sink = W.taken writer.old; waiting = outgoing.old })
+        (record { sink = W.taken writer.new; waiting = outgoing.new })
+        (reply_text reply.now head_only closes) }
 {
     match reply {
         Reply::Fault(RouteFault::NoPath) => {
             let answer = problem(Status::NotFound, None, no_path_body());
-            put_answer(writer, outgoing, &answer, head_only, closes)
+            put_answer(writer, outgoing, &answer, head_only, closes);
         }
         Reply::Fault(RouteFault::BadMethod(allow)) => {
             let answer = problem(Status::MethodNotAllowed, Some(*allow), bad_method_body());
-            put_answer(writer, outgoing, &answer, head_only, closes)
+            put_answer(writer, outgoing, &answer, head_only, closes);
         }
-        Reply::Served(Served::Shown(shown)) => put_answer(
-            writer,
-            outgoing,
-            &told_by(shown),
-            head_only,
-            closes,
-        ),
-        Reply::Fault(RouteFault::OutOfMemory) | Reply::Served(Served::NothingDone) => outgoing.put(
-            writer,
-            memory_text(),
-        ),
-        Reply::Served(Served::ReplyLost) => outgoing.put(writer, lost_text()),
+        Reply::Served(Served::Shown(shown)) => {
+            put_answer(writer, outgoing, &told_by(shown), head_only, closes);
+        }
+        Reply::Fault(RouteFault::OutOfMemory) | Reply::Served(Served::NothingDone) => {
+            outgoing.begin(writer, memory_text());
+        }
+        Reply::Served(Served::ReplyLost) => outgoing.begin(writer, lost_text()),
     }
 }
 
 /// Puts the bytes of a refusal, after which the connection ends.
-pub fn refuse<W: Sink>(
-    writer: &mut W,
-    outgoing: &mut Outgoing,
-    refusal: Refusal,
-) -> Result<(), Failed>
-    ensures { Puts
-        (record { taken = W.taken writer.old; held = outgoing.old; failures = W.failures writer.old })
-        (record { taken = W.taken writer.new; held = outgoing.new; failures = W.failures writer.new })
-        (refusal_text refusal) started result }
+pub fn refuse<W: Sink>(writer: &mut W, outgoing: &mut Outgoing, refusal: Refusal)
+    requires room { outgoing.old.failed ≡ false → length outgoing.old.bytes < outgoing_room }
+    ensures { Puts 0
+        (record { sink = W.taken writer.old; waiting = outgoing.old })
+        (record { sink = W.taken writer.new; waiting = outgoing.new })
+        (refusal_text refusal) }
 {
     let answer = problem(refusal.status(), None, refusal.body());
-    put_answer(writer, outgoing, &answer, refusal.head_only(), true)
+    put_answer(writer, outgoing, &answer, refusal.head_only(), true);
 }
 
 /// Whether the reply tells a want of memory.

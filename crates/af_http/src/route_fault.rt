@@ -1,17 +1,12 @@
-/// The methods that a path has, in the order of the API: each set of methods is a variant.
-#[derive(Clone, Copy, Debug, PartialEq, Eq)]
-pub enum Allow {
-    /// GET alone.
-    Get,
-}
+use af_ops::Methods;
 
 /// Why a request names no operation: the first that applies.
 #[derive(Clone, Copy, Debug, PartialEq, Eq)]
 pub enum RouteFault {
-    /// Nothing has this path (404).
+    /// Nothing has this path (404): it is none of the table's, or a part of it is no text or no name of its kind.
     NoPath,
     /// The path has other methods, these (405).
-    BadMethod(Allow),
-    /// There was no memory to read the request with. Routes without parts never need any.
+    BadMethod(Methods),
+    /// There was no memory to read the request with.
     OutOfMemory,
 }

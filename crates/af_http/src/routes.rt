@@ -1,128 +1,220 @@
-ghost use Rattle.std.specs.Prelude.{◌≡◌, IfOk, IfSome, IfNone, MatchOption, Some, None, [], List, ℕ, Result};
-ghost use Rattle.matchit.specs.Seek.{first};
-ghost use Rattle.af_http.specs.Routes.{op_of, op_at, place_of, path_of, got_at, allowed_at};
-ghost use Rattle.af_http.specs.Table.{rows_after};
+ghost use Rattle.std.specs.Prelude.{◌≡◌, IfOk, option_map, map, string_bytes};
+ghost use Rattle.af_ops.specs.Segments.{seen};
+ghost use Rattle.af_http.specs.Parts.{with_all};
+ghost use Rattle.af_http.specs.Routes.{IsRouted, before, by_method, decoded, endpoint_of, has_form, named, onward, op_of, parts_in, path_of, place_of, read, stands_for, with_parts};
 
-use crate::place::Place;
-use crate::route_fault::{Allow, RouteFault};
-use af_ops::Op;
-use matchit::{InsertError, Router};
+use crate::route_fault::RouteFault;
+use af_ops::{
+    Endpoint, Method, Op, PLACES, Place, Segment, are_names, endpoint_at, methods_at, read_row,
+};
+use matchit::Router;
 use memchr::memchr;
+use percent_encoding::{DecodeError, percent_decode};
 use std::alloc::{AllocError, Global};
-use std::marker::Model;
 
-/// The paths, each with the place that it names.
-const PATHS: [(&str, Place); 2] = [
-    ("/api/v1/dags", Place::Dags),
-    ("/api/v1/version", Place::Version),
-];
-
-/// The table of paths. A contract sees nothing of it: every one holds the same rows.
+/// The table of paths. A router finds the likely one; that it has the path's form is tested, so what is found does not depend
+/// on the router.
 #[derive(Drop)]
 pub struct Routes {
+    alloc: Global,
     router: Router<Place>,
 }
 
-impl Model for Routes {
-    ghost use Rattle.std.specs.Prelude.{◌≡◌};
-    ghost use Rattle.af_http.specs.Table.{table_rows};
-
-    ghost Value = { Unit {0} };
-
-    ghost view = { λ _. tt };
-
-    ghost invariant = { λ r. r.router ≡ table_rows };
+/// What stands before the first of these bytes, and from it on.
+fn cut(byte: u8, text: &[u8]) -> (&[u8], &[u8])
+    ensures { (result.0.now ≡ before byte text.now) × (result.1.now ≡ onward byte text.now) }
+{
+    match memchr(byte, text) {
+        Some(at) => text.split_at(at),
+        None => (text, &[]),
+    }
 }
 
-/// A router with these paths.
-fn with_paths(alloc: Global, paths: &[(&str, Place)]) -> Result<Router<Place>, InsertError>
-    ensures { IfOk result (λ router. router ≡ rows_after paths.now []) }
+/// Whether a segment stands for this text.
+fn stands_for(segment: &Segment, piece: &[u8]) -> bool
+    ensures { result ≡ stands_for (seen segment.now) piece.now }
 {
-    let mut router = Router::new(alloc);
-    for (path, place) in paths {
-        router.insert(path, *place)?;
+    if segment.is_part {
+        !piece.is_empty()
+    } else {
+        piece == segment.text.as_bytes()
     }
-    Ok(router)
+}
+
+/// Whether a path is these segments, a slash before each.
+fn has_form(segments: &[Segment], path: &[u8]) -> bool
+    ensures { result ≡ has_form (map seen segments.now) path.now }
+{
+    let Some((segment, segments)) = segments.split_first() else {
+        return path.is_empty();
+    };
+    let Some((slash, path)) = path.split_first() else {
+        return false;
+    };
+    let (piece, rest) = cut(b'/', path);
+    *slash == b'/' && (stands_for(segment, piece) && has_form(segments, rest))
+}
+
+/// The text of a part.
+fn decoded(alloc: Global, part: &[u8]) -> Result<Option<String>, AllocError>
+    ensures { IfOk result (λ text. option_map string_bytes text ≡ decoded part.now) }
+{
+    match percent_decode(part).decode_utf8(alloc) {
+        Ok(text) => Ok(Some(text.into_owned(alloc)?)),
+        Err(DecodeError::OutOfMemory) => Err(AllocError),
+        Err(_) => Ok(None),
+    }
+}
+
+/// These texts, and then those of a path's parts, in order; none where one of these is no text.
+fn parts_from(
+    alloc: Global,
+    segments: &[Segment],
+    path: &[u8],
+    mut parts: Vec<String>,
+) -> Result<Option<Vec<String>>, AllocError>
+    ensures { IfOk result (λ all. option_map (λ list. map string_bytes list.items) all ≡ with_all (map string_bytes parts.items) (parts_in (map seen segments.now) path.now)) }
+{
+    let Some((segment, segments)) = segments.split_first() else {
+        return Ok(Some(parts));
+    };
+    let Some((_, path)) = path.split_first() else {
+        return Ok(Some(parts));
+    };
+    let (piece, rest) = cut(b'/', path);
+    if !segment.is_part {
+        return parts_from(alloc, segments, rest, parts);
+    }
+    match decoded(alloc, piece)? {
+        Some(text) => {
+            parts.push(text)?;
+            parts_from(alloc, segments, rest, parts)
+        }
+        None => Ok(None),
+    }
+}
+
+/// The operation of a method at a path.
+fn endpoint_of(method: &[u8], place: Place) -> Option<Endpoint>
+    ensures { result ≡ endpoint_of method.now place }
+{
+    match Method::named(method) {
+        Some(method) => endpoint_at(method, place),
+        None => None,
+    }
+}
+
+/// What an operation reads.
+fn read(alloc: Global, endpoint: Endpoint, parts: &[String], body: &[u8]) -> Result<Op, RouteFault>
+    ensures { IsRouted (read endpoint (map (λ part. string_bytes part) parts.now) body.now) result }
+{
+    match read_row(alloc, endpoint, parts, body) {
+        Ok(Some(op)) => Ok(op),
+        Ok(None) => Err(RouteFault::NoPath),
+        Err(_) => Err(RouteFault::OutOfMemory),
+    }
+}
+
+/// What a method and a body ask for at a path of this form, whose parts are names.
+fn by_method(
+    alloc: Global,
+    method: &[u8],
+    place: Place,
+    parts: &[String],
+    body: &[u8],
+) -> Result<Op, RouteFault>
+    ensures { IsRouted (by_method method.now place (map (λ part. string_bytes part) parts.now) body.now) result }
+{
+    match endpoint_of(method, place) {
+        Some(endpoint) => read(alloc, endpoint, parts, body),
+        None => Err(RouteFault::BadMethod(methods_at(place))),
+    }
+}
+
+/// The same, where the parts are not known to be names.
+fn named(
+    alloc: Global,
+    method: &[u8],
+    place: Place,
+    parts: &[String],
+    body: &[u8],
+) -> Result<Op, RouteFault>
+    ensures { IsRouted (named method.now body.now place (map (λ part. string_bytes part) parts.now)) result }
+{
+    if are_names(alloc, place, parts) {
+        by_method(alloc, method, place, parts, body)
+    } else {
+        Err(RouteFault::NoPath)
+    }
+}
+
+/// The same, where the parts are not known to be texts.
+fn with_parts(
+    alloc: Global,
+    method: &[u8],
+    place: Place,
+    parts: Option<Vec<String>>,
+    body: &[u8],
+) -> Result<Op, RouteFault>
+    ensures { IsRouted (with_parts method.now body.now place (option_map (λ list. map string_bytes list.items) parts)) result }
+{
+    match parts {
+        Some(parts) => named(alloc, method, place, parts.as_slice(), body),
+        None => Err(RouteFault::NoPath),
+    }
 }
 
 /// The path of a target: what stands before its first `?`.
 fn path_of(target: &[u8]) -> &[u8]
     ensures { result.now ≡ path_of target.now }
 {
-    match memchr(b'?', target) {
-        Some(query) => {
-            let (path, _) = target.split_at(query);
-            path
-        }
-        None => target,
-    }
-}
-
-/// What GET asks for at a place.
-fn got_at(place: Place) -> Op
-    ensures { result ≡ got_at place }
-{
-    match place {
-        Place::Version => Op::Version,
-        Place::Dags => Op::ListDags,
-    }
-}
-
-/// The methods that a place has.
-fn allowed_at(place: Place) -> Allow
-    ensures { result ≡ allowed_at place }
-{
-    match place {
-        Place::Version | Place::Dags => Allow::Get,
-    }
-}
-
-/// What a method asks for at a place.
-fn op_at(place: Option<Place>, method: &[u8]) -> Result<Op, RouteFault>
-    ensures { result ≡ op_at place method.now }
-{
-    match place {
-        None => Err(RouteFault::NoPath),
-        Some(place) if method == b"GET".as_slice() => Ok(got_at(place)),
-        Some(place) => Err(RouteFault::BadMethod(allowed_at(place))),
-    }
-}
-
-/// The place that a router finds for a path.
-fn find(router: &Router<Place>, path: &str) -> Option<Place>
-    ensures { MatchOption (first router.now path.now) (result ≡ None) (λ route. result ≡ Some route.value) }
-{
-    match router.at(path) {
-        Ok(found) => Some(*found.value),
-        Err(_) => None,
-    }
+    let (path, _) = cut(b'?', target);
+    path
 }
 
 impl Routes {
     /// The table. It is made once for a connection.
     pub fn new(alloc: Global) -> Result<Routes, AllocError> {
-        match with_paths(alloc, &PATHS) {
-            Ok(router) => Ok(Routes { router }),
-            Err(_) => Err(AllocError),
+        let mut router = Router::new(alloc);
+        for place in PLACES {
+            if router.insert(place.text(), place).is_err() {
+                return Err(AllocError);
+            }
         }
+        Ok(Routes { alloc, router })
     }
 
-    /// The place of a path.
+    /// The path of the table that the router takes this for.
+    fn likely(&self, path: &[u8]) -> Option<Place> {
+        let text = str::from_utf8(path).ok()?;
+        let found = self.router.at(text).ok()?;
+        Some(*found.value)
+    }
+
+    /// The path of the table that this is.
     fn place_of(&self, path: &[u8]) -> Option<Place>
         ensures { result ≡ place_of path.now }
     {
-        match str::from_utf8(path) {
-            Ok(text) => find(&self.router, text),
-            Err(_) => None,
+        match self.likely(path) {
+            Some(place) if has_form(place.segments(), path) => Some(place),
+            _ => PLACES
+                .iter()
+                .copied()
+                .find(|place| has_form(place.segments(), path)),
         }
     }
 
-    /// The operation that a method, a target and a body name, or why they name none.
-    ///
-    /// The query and the body are not read yet, and no part of a path is decoded, since no path of the table has one.
-    pub fn read_op(&self, method: &[u8], target: &[u8], _body: &[u8]) -> Result<Op, RouteFault>
-        ensures { result ≡ op_of method.now target.now }
+    /// The operation that a method, a target and a body name, or why they name none. The query is not read yet.
+    pub fn read_op(&self, method: &[u8], target: &[u8], body: &[u8]) -> Result<Op, RouteFault>
+        ensures { IsRouted (op_of method.now target.now body.now) result }
     {
-        op_at(self.place_of(path_of(target)), method)
+        let path = path_of(target);
+        let Some(place) = self.place_of(path) else {
+            return Err(RouteFault::NoPath);
+        };
+        match parts_from(self.alloc, place.segments(), path, Vec::new(self.alloc)) {
+            Ok(parts) => with_parts(self.alloc, method, place, parts, body),
+            Err(_) => Err(RouteFault::OutOfMemory),
+        }
     }
 }

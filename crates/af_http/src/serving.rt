@@ -1,8 +1,7 @@
-ghost use Rattle.std.specs.Prelude.{◌≢◌, ◌≡◌, ◌+◌, ◌≤◌, ◌*◌, ℕ, List, [], ◌++◌, Ok, IfOk};
-ghost use Rattle.af_http.specs.Run.{Run};
-ghost use Rattle.af_http.specs.Reads.{Reads};
-ghost use Rattle.af_http.specs.Turns.{Ran, CountsReadRun, CountsReadFault, CountsWriteFault, IsMemoryText};
-ghost use Rattle.af_http.specs.Sending.{Counts};
+ghost use Rattle.std.specs.Prelude.{◌≡◌, List, [], false, IfOk};
+ghost use Rattle.af_http.specs.Run.{IsMemoryText};
+ghost use Rattle.af_http.specs.Connections.{Connects};
+ghost use Rattle.af_http.specs.Turns.{Ran};
 
 use crate::ended::Ended;
 use crate::incoming::Incoming;
@@ -10,7 +9,7 @@ use crate::outgoing::Outgoing;
 use crate::problems::memory_text;
 use crate::routes::Routes;
 use crate::service::Service;
-use crate::stream::{Failed, Sink, Source};
+use crate::stream::{Sink, Source};
 use crate::turn::{REQUEST_LIMIT, serve_one};
 use crate::writing::write_all;
 use std::alloc::{AllocError, Global};
@@ -23,26 +22,23 @@ fn serve_each<R: Source, W: Sink, S: Service>(
     writer: &mut W,
     outgoing: &mut Outgoing,
     service: &mut S,
-) -> Result<Ended, Failed>
+) -> Ended
     requires fresh { incoming.old ≡ [] }
-    requires empty { outgoing.old ≡ [] }
-    ensures ran { (text : List ℕ) × (R.given reader.new ≡ R.given reader.old ++ text)
-        × Ran S.answers R.given R.reads service.old (R.ended reader.new) reader.old reader.new text (W.taken writer.old) (W.taken writer.new) outgoing.new service.new result }
-    ensures wrote { Counts (W.failures writer.old) (W.failures writer.new) result }
-    ensures read { CountsReadRun result (R.failures reader.old) (R.failures reader.new) }
-    ensures idle { result ≡ Ok Ended.ReadFault → outgoing.new ≡ [] }
-    ensures reads { R.reads reader.new ≤ R.reads reader.old + 65536 * 1000 }
-    ensures turns { result ≡ Ok Ended.Turns → R.reads reader.old + 65536 ≤ R.reads reader.new }
+    requires empty { outgoing.old.bytes ≡ [] }
+    requires sound { outgoing.old.failed ≡ false }
+    ensures { Ran S.answers service.old (R.given reader.old) (R.given reader.new)
+        (record { sink = W.taken writer.old; waiting = outgoing.old })
+        (record { sink = W.taken writer.new; waiting = outgoing.new })
+        service.new result }
 {
     for count in 0..REQUEST_LIMIT {
         match serve_one(count, routes, reader, incoming, writer, outgoing, service) {
-            Ok(None) => {}
-            Ok(Some(ended)) => return Ok(ended),
-            Err(failed) => return Err(failed),
+            Some(ended) => return ended,
+            None => {}
         }
     }
     // The last request closes, so the loop ends before.
-    Ok(Ended::Closed)
+    Ended::Closed
 }
 
 /// Serves requests until the connection ends, and writes what waits.
@@ -55,29 +51,22 @@ fn serve_all<R: Source, W: Sink, S: Service>(
     service: &mut S,
 ) -> Ended
     requires fresh { incoming.old ≡ [] }
-    requires empty { outgoing.old ≡ [] }
-    ensures run { (text : List ℕ) × (out : List ℕ)
-        × (R.given reader.new ≡ R.given reader.old ++ text)
-        × (W.taken writer.new ≡ W.taken writer.old ++ out)
-        × (run : Run S.answers service.old (R.ended reader.new) text result out service.new)
-        × Reads R.given R.reads reader.old reader.new run.exchanges result }
-    ensures write_fault { CountsWriteFault result (W.failures writer.old) (W.failures writer.new) }
-    ensures read_fault { CountsReadFault result (R.failures reader.old) (R.failures reader.new) }
-    ensures reads { R.reads reader.new ≤ R.reads reader.old + 65536 * 1000 }
-    ensures turns { result ≡ Ended.Turns → R.reads reader.old + 65536 ≤ R.reads reader.new }
+    requires empty { outgoing.old.bytes ≡ [] }
+    requires sound { outgoing.old.failed ≡ false }
+    ensures { Connects S.answers (R.given reader.old) (R.given reader.new) (W.taken writer.old) (W.taken writer.new)
+        service.old service.new result }
 {
-    match serve_each(routes, reader, incoming, writer, outgoing, service) {
-        Ok(ended) => match outgoing.flush(writer) {
-            Ok(()) => ended,
-            Err(_) => Ended::WriteFault,
-        },
-        Err(_) => Ended::WriteFault,
+    let ended = serve_each(routes, reader, incoming, writer, outgoing, service);
+    outgoing.flush(writer);
+    if outgoing.has_failed() {
+        return Ended::WriteFault;
     }
+    ended
 }
 
 /// What a connection keeps from its opening on.
 fn open(alloc: Global) -> Result<(Routes, Incoming, Outgoing), AllocError>
-    ensures { IfOk result (λ o. (o.1 ≡ []) × (o.2 ≡ [])) }
+    ensures { IfOk result (λ o. (o.1 ≡ []) × (o.2.bytes ≡ []) × (o.2.failed ≡ false)) }
 {
     Ok((
         Routes::new(alloc)?,
@@ -88,10 +77,7 @@ fn open(alloc: Global) -> Result<(Routes, Incoming, Outgoing), AllocError>
 
 /// There is no memory to begin with.
 fn turn_away<W: Sink>(writer: &mut W) -> Ended
-    ensures sent { (out : List ℕ) × (W.taken writer.new ≡ W.taken writer.old ++ out) × IsMemoryText result out }
-    ensures counted { CountsWriteFault result (W.failures writer.old) (W.failures writer.new) }
-    ensures read { (n : ℕ) → CountsReadFault result n n }
-    ensures turns { result ≢ Ended.Turns }
+    ensures { IsMemoryText (W.taken writer.old) (W.taken writer.new) result }
 {
     match write_all(writer, memory_text()) {
         Ok(()) => Ended::NoMemory,
@@ -109,19 +95,8 @@ pub fn serve<R: Source, W: Sink, S: Service>(
     writer: &mut W,
     service: &mut S,
 ) -> Ended
-    // The bytes that were read in it, those that were written, and how it ended, are those of a run. Each request of it
-    // was awaited in at most 65,536 reads, as was its end; and Turns comes only after as many since the last request.
-    ensures run { (text : List ℕ) × (out : List ℕ)
-        × (R.given reader.new ≡ R.given reader.old ++ text)
-        × (W.taken writer.new ≡ W.taken writer.old ++ out)
-        × (run : Run S.answers service.old (R.ended reader.new) text result out service.new)
-        × Reads R.given R.reads reader.old reader.new run.exchanges result }
-    // A fault of the writer or the reader is told only where it failed in this run, and the other did not.
-    ensures write_fault { CountsWriteFault result (W.failures writer.old) (W.failures writer.new) }
-    ensures read_fault { CountsReadFault result (R.failures reader.old) (R.failures reader.new) }
-    // There are at most 65,536 reads for each of 1,000 requests.
-    ensures reads { R.reads reader.new ≤ R.reads reader.old + 65536 * 1000 }
-    ensures turns { result ≡ Ended.Turns → R.reads reader.old + 65536 ≤ R.reads reader.new }
+    ensures { Connects S.answers (R.given reader.old) (R.given reader.new) (W.taken writer.old) (W.taken writer.new)
+        service.old service.new result }
 {
     match open(alloc) {
         Ok((routes, mut incoming, mut outgoing)) => serve_all(

@@ -1,5 +1,6 @@
-ghost use Rattle.std.specs.Prelude.{◌≡◌, ℕ, ◌+◌, ◌≤◌, ◌==◌, ◌&&◌, ◌||◌, Bool, List, ◌++◌, length, take, nat_lt, IfOk, OnErr, OnOk, if◌then◌else◌};
-ghost use Rattle.af_http.specs.Streams.{is_end};
+ghost use Rattle.std.specs.Prelude.{◌≡◌, ℕ, ◌+◌, ◌≤◌, ◌==◌, Bool, not, true, List, ◌++◌, length, take, IfOk, OnErr, MatchResult};
+ghost use Rattle.std.specs.Io.KnownBytes.{Keeps, WriteAppends};
+ghost use Rattle.af_http.specs.Streams.{Given, Taken, is_end, one_if, StaysKnown, IsWhole};
 
 /// A read or a write that failed. Why is for the one who knows the device.
 #[derive(Clone, Copy, Debug, PartialEq, Eq)]
@@ -7,39 +8,41 @@ pub struct Failed;
 
 /// Bytes that come in pieces of any size.
 pub trait Source {
-    /// All bytes that reads gave so far.
-    ghost given: { Self → List ℕ };
+    /// What reads have given so far.
+    ghost given: { Self → Given };
 
-    /// Whether a read with room gave no byte.
-    ghost ended: { Self → Bool };
-
-    /// How many reads there were, and how many of them failed.
-    ghost reads: { Self → ℕ };
-
-    ghost failures: { Self → ℕ };
-
+    /// One read. It gives no byte only where it has no room or the input has ended.
     fn read(&mut self, buffer: &mut [u8]) -> Result<usize, Failed>
         ensures room { IfOk result (λ n. n ≤ length buffer.new) }
-        ensures bytes { IfOk result (λ n. given self.new ≡ given self.old ++ take n buffer.new) }
-        ensures end { IfOk result (λ n. ended self.new ≡ (ended self.old || is_end n (length buffer.new))) }
-        ensures fine { OnOk result (failures self.new ≡ failures self.old) }
-        ensures failed { OnErr result (failures self.new ≡ failures self.old + 1) }
-        ensures kept { OnErr result ((given self.new ≡ given self.old) × (ended self.new ≡ ended self.old)) }
-        ensures counted { reads self.new ≡ reads self.old + 1 };
+        ensures bytes { IfOk result (λ n. (given self.new).bytes ≡ (given self.old).bytes ++ take n buffer.new) }
+        ensures reads { (given self.new).reads ≡ (given self.old).reads + 1 }
+        ensures fruitful { IfOk result (λ n. (given self.new).fruitful ≡ (given self.old).fruitful + one_if (not (n == 0))) }
+        ensures ends { IfOk result (λ n. (given self.new).ends ≡ (given self.old).ends + one_if (is_end n (length buffer.new))) }
+        ensures fine { IfOk result (λ n. (given self.new).failures ≡ (given self.old).failures) }
+        // What is known of all that comes stays known, and has come where the input has ended.
+        ensures known { StaysKnown (given self.old).whole (given self.new).whole }
+        ensures whole { IfOk result (λ n. is_end n (length buffer.new) ≡ true → IsWhole (given self.new)) }
+        // A read that fails gives nothing.
+        ensures failed { OnErr result ((given self.new).failures ≡ (given self.old).failures + 1) }
+        ensures kept { OnErr result ((given self.new).bytes ≡ (given self.old).bytes) }
+        ensures idle { OnErr result ((given self.new).fruitful ≡ (given self.old).fruitful) }
+        ensures open { OnErr result ((given self.new).ends ≡ (given self.old).ends) };
 }
 
 /// Where bytes go, in pieces of any size.
 pub trait Sink {
-    /// All bytes that were taken so far.
-    ghost taken: { Self → List ℕ };
+    /// What writes have taken so far.
+    ghost taken: { Self → Taken };
 
-    /// How many writes failed. One that takes no byte of some counts.
-    ghost failures: { Self → ℕ };
-
+    /// One write. One that takes no byte of some counts as failed.
     fn write(&mut self, bytes: &[u8]) -> Result<usize, Failed>
         ensures room { IfOk result (λ n. n ≤ length bytes.now) }
-        ensures bytes { IfOk result (λ n. taken self.new ≡ taken self.old ++ take n bytes.now) }
-        ensures fine { IfOk result (λ n. failures self.new ≡ failures self.old + (if is_end n (length bytes.now) then 1 else 0)) }
-        ensures failed { OnErr result (failures self.new ≡ failures self.old + 1) }
-        ensures kept { OnErr result (taken self.new ≡ taken self.old) };
+        ensures bytes { IfOk result (λ n. (taken self.new).bytes ≡ (taken self.old).bytes ++ take n bytes.now) }
+        ensures failures { IfOk result (λ n. (taken self.new).failures ≡ (taken self.old).failures + one_if (is_end n (length bytes.now))) }
+        ensures refused { IfOk result (λ n. is_end n (length bytes.now) ≡ true → (taken self.new).refused ≡ bytes.now) }
+        ensures held { WriteAppends (taken self.old).contents (taken self.new).contents result bytes.now }
+        // A write that fails takes nothing.
+        ensures failed { OnErr result ((taken self.new).failures ≡ (taken self.old).failures + 1) }
+        ensures kept { OnErr result ((taken self.new).bytes ≡ (taken self.old).bytes) }
+        ensures lost { OnErr result ((taken self.new).refused ≡ bytes.now) };
 }

@@ -1,12 +1,13 @@
-ghost use Rattle.std.specs.Prelude.{◌≡◌, ◌+◌, ◌<◌, ◌≤◌, ℕ, List, [], length, Option, None, Some, Ok, IfOk, OnErr, take, drop};
+ghost use Rattle.std.specs.Prelude.{◌≡◌, ◌+◌, ◌<◌, ◌≤◌, ℕ, Bool, List, [], length, Option, None, Some, IfSome, take, drop, true, false};
+ghost use Rattle.af_http.specs.Limits.{outgoing_room, read_limit};
+ghost use Rattle.af_http.specs.Streams.{Took};
 ghost use Rattle.af_http.specs.Requests.{seen};
 ghost use Rattle.af_http.specs.Reading.{closes_after, refusal_text, status_of};
-ghost use Rattle.af_http.specs.Gathering.{Holds, IsGathered, CountsFailure, CountsReads};
+ghost use Rattle.af_http.specs.Gathering.{Holds, IsGathered, ends_of, failures_of};
 ghost use Rattle.af_http.specs.declared.ended.Ended.TheVariants as end;
 ghost use Rattle.af_http.specs.Run.{Makes};
-ghost use Rattle.af_http.specs.Reads.{Awaits};
-ghost use Rattle.af_http.specs.Turns.{Answers, Heads, Turned, EndsSo, CountsRead};
-ghost use Rattle.af_http.specs.Sending.{Puts, started};
+ghost use Rattle.af_http.specs.Turns.{Answers, Heads, Turned, AwaitsHead, or_fault};
+ghost use Rattle.af_http.specs.Sending.{Puts};
 
 use crate::ended::Ended;
 use crate::extent::Extent;
@@ -20,13 +21,20 @@ use crate::replying::{end_by, put_reply, refuse, wants_memory};
 use crate::request::Request;
 use crate::routes::Routes;
 use crate::service::Service;
-use crate::stream::{Failed, Sink, Source};
+use crate::stream::{Sink, Source};
 
 /// The most requests of a connection.
 pub const REQUEST_LIMIT: u32 = 1000;
 
-/// What is made of a request.
-fn make<S: Service>(routes: &Routes, service: &mut S, request: &Request<'_>) -> Reply
+/// What is made of a request. No other function calls the service, and none is asked once a write has failed, since its
+/// answer would not leave: a change would be made unseen.
+fn make<S: Service>(
+    routes: &Routes,
+    service: &mut S,
+    request: &Request<'_>,
+    _outgoing: &Outgoing,
+) -> Reply
+    requires sound { _outgoing.now.failed ≡ false }
     ensures { Makes S.answers service.old (seen request.now) result service.new }
 {
     match routes.read_op(request.method, request.target, b"") {
@@ -43,6 +51,17 @@ fn closes_after(count: u32, request: &Request<'_>) -> bool
     request.closes || count + 1 == REQUEST_LIMIT
 }
 
+/// How a run goes on: a failed write ends it.
+fn or_fault(outgoing: &Outgoing, ended: Option<Ended>) -> Option<Ended>
+    ensures { result ≡ or_fault outgoing.now.failed ended }
+{
+    if outgoing.has_failed() {
+        Some(Ended::WriteFault)
+    } else {
+        ended
+    }
+}
+
 /// Answers a request, and says how the connection ends, if it does.
 fn answer_request<W: Sink, S: Service>(
     request: &Request<'_>,
@@ -51,21 +70,19 @@ fn answer_request<W: Sink, S: Service>(
     writer: &mut W,
     outgoing: &mut Outgoing,
     service: &mut S,
-) -> Result<Option<Ended>, Failed>
-    requires { count < 1000 }
-    ensures { (all : List ℕ) × Answers S.answers count service.old (seen request.now) all service.new result
-        × Puts
-        (record { taken = W.taken writer.old; held = outgoing.old; failures = W.failures writer.old })
-        (record { taken = W.taken writer.new; held = outgoing.new; failures = W.failures writer.new })
-        all started result }
+) -> Option<Ended>
+    requires few { count < 1000 }
+    requires sound { outgoing.old.failed ≡ false }
+    requires room { length outgoing.old.bytes < outgoing_room }
+    ensures { Answers S.answers count service.old (seen request.now)
+        (record { sink = W.taken writer.old; waiting = outgoing.old })
+        (record { sink = W.taken writer.new; waiting = outgoing.new })
+        service.new result }
 {
-    let reply = make(routes, service, request);
+    let reply = make(routes, service, request, outgoing);
     let closes = closes_after(count, request);
-    let put = put_reply(writer, outgoing, &reply, is_head(request.method), closes);
-    match put {
-        Ok(()) => Ok(end_by(wants_memory(&reply), closes)),
-        Err(failed) => Err(failed),
-    }
+    put_reply(writer, outgoing, &reply, is_head(request.method), closes);
+    or_fault(outgoing, end_by(wants_memory(&reply), closes))
 }
 
 /// Answers the request of a head, or refuses the head.
@@ -76,13 +93,14 @@ fn answer_head<W: Sink, S: Service>(
     writer: &mut W,
     outgoing: &mut Outgoing,
     service: &mut S,
-) -> Result<Option<Ended>, Failed>
-    requires { count < 1000 }
-    ensures { (all : List ℕ) × Heads S.answers count service.old head.now all service.new result
-        × Puts
-        (record { taken = W.taken writer.old; held = outgoing.old; failures = W.failures writer.old })
-        (record { taken = W.taken writer.new; held = outgoing.new; failures = W.failures writer.new })
-        all started result }
+) -> Option<Ended>
+    requires few { count < 1000 }
+    requires sound { outgoing.old.failed ≡ false }
+    requires room { length outgoing.old.bytes < outgoing_room }
+    ensures { Heads S.answers count service.old head.now
+        (record { sink = W.taken writer.old; waiting = outgoing.old })
+        (record { sink = W.taken writer.new; waiting = outgoing.new })
+        service.new result }
 {
     match read_head(head) {
         Ok(request) => answer_request(&request, count, routes, writer, outgoing, service),
@@ -91,21 +109,16 @@ fn answer_head<W: Sink, S: Service>(
 }
 
 /// Refuses what stands in a request's place, and ends.
-fn end_refused<W: Sink>(
-    writer: &mut W,
-    outgoing: &mut Outgoing,
-    refusal: Refusal,
-) -> Result<Option<Ended>, Failed>
-    ensures put { Puts
-        (record { taken = W.taken writer.old; held = outgoing.old; failures = W.failures writer.old })
-        (record { taken = W.taken writer.new; held = outgoing.new; failures = W.failures writer.new })
-        (refusal_text refusal) started result }
-    ensures ends { EndsSo (Some (end.Refused (status_of refusal))) result }
+fn end_refused<W: Sink>(writer: &mut W, outgoing: &mut Outgoing, refusal: Refusal) -> Option<Ended>
+    requires room { length outgoing.old.bytes < outgoing_room }
+    ensures put { Puts 0
+        (record { sink = W.taken writer.old; waiting = outgoing.old })
+        (record { sink = W.taken writer.new; waiting = outgoing.new })
+        (refusal_text refusal) }
+    ensures ends { result ≡ or_fault outgoing.new.failed (Some (end.Refused (status_of refusal))) }
 {
-    match refuse(writer, outgoing, refusal) {
-        Ok(()) => Ok(Some(Ended::Refused(refusal.status()))),
-        Err(failed) => Err(failed),
-    }
+    refuse(writer, outgoing, refusal);
+    or_fault(outgoing, Some(Ended::Refused(refusal.status())))
 }
 
 /// Answers the head at the front of what is held.
@@ -117,14 +130,15 @@ fn answer_held<W: Sink, S: Service>(
     writer: &mut W,
     outgoing: &mut Outgoing,
     service: &mut S,
-) -> Result<Option<Ended>, Failed>
+) -> Option<Ended>
     requires few { count < 1000 }
     requires within { size ≤ length incoming.old }
-    ensures turn { (all : List ℕ) × Heads S.answers count service.old (take size incoming.old) all service.new result
-        × Puts
-        (record { taken = W.taken writer.old; held = outgoing.old; failures = W.failures writer.old })
-        (record { taken = W.taken writer.new; held = outgoing.new; failures = W.failures writer.new })
-        all started result }
+    requires sound { outgoing.old.failed ≡ false }
+    requires room { length outgoing.old.bytes < outgoing_room }
+    ensures turn { Heads S.answers count service.old (take size incoming.old)
+        (record { sink = W.taken writer.old; waiting = outgoing.old })
+        (record { sink = W.taken writer.new; waiting = outgoing.new })
+        service.new result }
     ensures left { incoming.new ≡ drop size incoming.old }
 {
     let (head, _) = incoming.as_slice().split_at(size);
@@ -133,33 +147,54 @@ fn answer_held<W: Sink, S: Service>(
     ended
 }
 
+/// Goes on with what was found, unless a write fails; then a byte more finds room.
+fn go_on<W: Sink>(writer: &mut W, outgoing: &mut Outgoing, found: Gathered) -> Option<Gathered>
+    ensures put { Puts 0
+        (record { sink = W.taken writer.old; waiting = outgoing.old })
+        (record { sink = W.taken writer.new; waiting = outgoing.new })
+        [] }
+    ensures found { IfSome result (λ g. g ≡ found) }
+    ensures room { IfSome result (λ g. length outgoing.new.bytes < outgoing_room) }
+    ensures sound { IfSome result (λ g. outgoing.new.failed ≡ false) }
+    ensures failed { result ≡ None → outgoing.new.failed ≡ true }
+{
+    outgoing.make_room(writer);
+    if outgoing.has_failed() {
+        return None;
+    }
+    Some(found)
+}
+
 /// Finds the next head in what is held, or reads until it is whole, or none can be. What waits for the writer leaves
-/// before a read, which may wait for the client.
+/// before a read, which may wait for the client. None where a write fails.
 fn next_head<R: Source, W: Sink>(
     reader: &mut R,
     incoming: &mut Incoming,
     writer: &mut W,
     outgoing: &mut Outgoing,
-) -> Result<Gathered, Failed>
-    ensures holds { (more : List ℕ) × Holds (R.given reader.old) (R.given reader.new) incoming.old incoming.new more
-        × Awaits R.given R.reads reader.old reader.new incoming.old more }
-    ensures found { IfOk result (λ g. IsGathered incoming.new (R.ended reader.new) g) }
-    ensures flushed { Puts
-        (record { taken = W.taken writer.old; held = outgoing.old; failures = W.failures writer.old })
-        (record { taken = W.taken writer.new; held = outgoing.new; failures = W.failures writer.new })
-        [] started result }
-    ensures failed { IfOk result (λ g. CountsFailure g (R.failures reader.old) (R.failures reader.new)) }
-    ensures turns { result ≡ Ok Gathered.Turns → R.reads reader.new ≡ R.reads reader.old + 65536 }
-    ensures idle { result ≡ Ok Gathered.Failed → outgoing.new ≡ [] }
-    ensures err { OnErr result (R.failures reader.new ≡ R.failures reader.old) }
+) -> Option<Gathered>
+    ensures holds { AwaitsHead result (R.given reader.old) (R.given reader.new) incoming.old incoming.new }
+    ensures found { IfSome result (λ g. IsGathered incoming.new g) }
+    ensures flushed { Puts 0
+        (record { sink = W.taken writer.old; waiting = outgoing.old })
+        (record { sink = W.taken writer.new; waiting = outgoing.new })
+        [] }
+    ensures turns { result ≡ Some Gathered.Turns → (R.given reader.new).reads ≡ (R.given reader.old).reads + read_limit }
+    ensures idle { result ≡ Some Gathered.ReadFailed → outgoing.new.bytes ≡ [] }
+    ensures room { IfSome result (λ g. length outgoing.new.bytes < outgoing_room) }
+    ensures sound { IfSome result (λ g. outgoing.new.failed ≡ false) }
+    ensures failed { result ≡ None → outgoing.new.failed ≡ true }
 {
     match settle(incoming) {
-        Extent::Whole(size) => Ok(Gathered::Head(size)),
-        Extent::Large => Ok(Gathered::Large),
-        Extent::Part => match outgoing.flush(writer) {
-            Ok(()) => Ok(gather(reader, incoming, outgoing)),
-            Err(failed) => Err(failed),
-        },
+        Extent::Whole(size) => go_on(writer, outgoing, Gathered::Head(size)),
+        Extent::Large => go_on(writer, outgoing, Gathered::Large),
+        Extent::Part => {
+            outgoing.flush(writer);
+            if outgoing.has_failed() {
+                return None;
+            }
+            Some(gather(reader, incoming, outgoing))
+        }
     }
 }
 
@@ -172,27 +207,23 @@ pub fn serve_one<R: Source, W: Sink, S: Service>(
     writer: &mut W,
     outgoing: &mut Outgoing,
     service: &mut S,
-) -> Result<Option<Ended>, Failed>
-    requires { count < 1000 }
-    ensures turn { (more : List ℕ) × (all : List ℕ)
-        × Turned S.answers R.given R.reads count service.old (R.ended reader.new) reader.old reader.new incoming.old incoming.new more all service.new result
-        × Puts
-        (record { taken = W.taken writer.old; held = outgoing.old; failures = W.failures writer.old })
-        (record { taken = W.taken writer.new; held = outgoing.new; failures = W.failures writer.new })
-        all started result }
-    ensures failed { CountsRead result (R.failures reader.old) (R.failures reader.new) }
-    ensures idle { result ≡ Ok (Some Ended.ReadFault) → outgoing.new ≡ [] }
-    ensures turns { result ≡ Ok (Some Ended.Turns) → R.reads reader.new ≡ R.reads reader.old + 65536 }
+) -> Option<Ended>
+    requires few { count < 1000 }
+    requires sound { outgoing.old.failed ≡ false }
+    ensures { Turned S.answers count service.old (R.given reader.old) (R.given reader.new) incoming.old incoming.new
+        (record { sink = W.taken writer.old; waiting = outgoing.old })
+        (record { sink = W.taken writer.new; waiting = outgoing.new })
+        service.new result }
 {
     match next_head(reader, incoming, writer, outgoing) {
-        Ok(Gathered::Head(size)) => answer_held(
+        Some(Gathered::Head(size)) => answer_held(
             size, count, routes, incoming, writer, outgoing, service,
         ),
-        Ok(Gathered::Large) => end_refused(writer, outgoing, Refusal::HeadTooLarge),
-        Ok(Gathered::Incomplete) => end_refused(writer, outgoing, Refusal::Incomplete),
-        Ok(Gathered::Closed) => Ok(Some(Ended::Closed)),
-        Ok(Gathered::Failed) => Ok(Some(Ended::ReadFault)),
-        Ok(Gathered::Turns) => Ok(Some(Ended::Turns)),
-        Err(failed) => Err(failed),
+        Some(Gathered::Large) => end_refused(writer, outgoing, Refusal::HeadTooLarge),
+        Some(Gathered::Incomplete) => end_refused(writer, outgoing, Refusal::Incomplete),
+        Some(Gathered::Closed) => Some(Ended::Closed),
+        Some(Gathered::ReadFailed) => Some(Ended::ReadFault),
+        Some(Gathered::Turns) => Some(Ended::Turns),
+        None => Some(Ended::WriteFault),
     }
 }

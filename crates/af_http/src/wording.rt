@@ -1,12 +1,12 @@
-ghost use Rattle.std.specs.Prelude.{◌≡◌, ◌++◌, codes};
+ghost use Rattle.std.specs.Prelude.{◌≡◌, ◌<◌, ◌++◌, Some, codes, length};
 ghost use Rattle.af_http.specs.Answers.{status_line, type_line_of, allow_line, auth_line, close_line};
 
-use crate::route_fault::Allow;
-use af_ops::Status;
+use af_ops::{Methods, Status};
 
 /// The status line.
 pub fn status_line(status: Status) -> &'static [u8]
-    ensures { result.now ≡ status_line status }
+    ensures text { result.now ≡ status_line status }
+    ensures some { 0 < length result.now }
 {
     match status {
         Status::Ok => b"HTTP/1.1 200 OK\r\n",
@@ -38,12 +38,36 @@ pub fn type_line(status: Status) -> &'static [u8]
 }
 
 /// The methods of a path.
-pub fn allow_line(allow: Option<Allow>) -> &'static [u8]
+pub fn allow_line(allow: Option<Methods>) -> &'static [u8]
     ensures { result.now ≡ allow_line allow }
 {
     match allow {
         None => b"",
-        Some(Allow::Get) => b"Allow: GET\r\n",
+        Some(allow) => allowed(allow),
+    }
+}
+
+/// The field that tells these methods.
+fn allowed(allow: Methods) -> &'static [u8]
+    ensures { result.now ≡ allow_line (Some allow) }
+{
+    match (allow.get, allow.post, allow.patch, allow.delete) {
+        (true, true, true, true) => b"Allow: GET, POST, PATCH, DELETE\r\n",
+        (true, true, true, false) => b"Allow: GET, POST, PATCH\r\n",
+        (true, true, false, true) => b"Allow: GET, POST, DELETE\r\n",
+        (true, true, false, false) => b"Allow: GET, POST\r\n",
+        (true, false, true, true) => b"Allow: GET, PATCH, DELETE\r\n",
+        (true, false, true, false) => b"Allow: GET, PATCH\r\n",
+        (true, false, false, true) => b"Allow: GET, DELETE\r\n",
+        (true, false, false, false) => b"Allow: GET\r\n",
+        (false, true, true, true) => b"Allow: POST, PATCH, DELETE\r\n",
+        (false, true, true, false) => b"Allow: POST, PATCH\r\n",
+        (false, true, false, true) => b"Allow: POST, DELETE\r\n",
+        (false, true, false, false) => b"Allow: POST\r\n",
+        (false, false, true, true) => b"Allow: PATCH, DELETE\r\n",
+        (false, false, true, false) => b"Allow: PATCH\r\n",
+        (false, false, false, true) => b"Allow: DELETE\r\n",
+        (false, false, false, false) => b"Allow: \r\n",
     }
 }
 

@@ -1,13 +1,14 @@
 ghost use Rattle.std.specs.Prelude.{◌≡◌, [], IsOk};
-ghost use Rattle.af_http.specs.Sending.{Writes, Counts};
+ghost use Rattle.af_http.specs.Streams.{Grew};
+ghost use Rattle.af_http.specs.Sending.{Writes, has_failed};
 
 use crate::stream::{Failed, Sink};
 
 /// Writes all of the bytes. A write that takes none of them is a failure.
 pub fn write_all<W: Sink>(writer: &mut W, bytes: &[u8]) -> Result<(), Failed>
-    ensures sent { Writes (W.taken writer.old) (W.taken writer.new) bytes.now result }
+    ensures wrote { Writes (W.taken writer.old) (W.taken writer.new) bytes.now (has_failed result) }
+    ensures grew { Grew (W.taken writer.old) (W.taken writer.new) }
     ensures none { bytes.now ≡ [] → IsOk result }
-    ensures counted { Counts (W.failures writer.old) (W.failures writer.new) result }
 {
     let mut rest = bytes;
     while !rest.is_empty() {

@@ -1,6 +1,6 @@
-mod DagLemmas
-mod DagRowsLemmas
-mod LawLemmas
-mod ListingLemmas
+mod DecisionLemmas
+mod EditLemmas
+mod JsonLemmas
 mod PageLemmas
-mod TokenLemmas
+mod TellingLemmas
+mod TextLemmas

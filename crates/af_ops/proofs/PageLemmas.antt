@@ -1,33 +1,34 @@
--- The first page of a list that grows at its end.
-use Rattle.std.proofs.Common.{◌≡◌, ℕ, ◌+◌, ◌<◌, ◌≤◌, Bool, true, false, cond, List, [], ◌∷◌, ◌++◌, length, take, filter, get_or, sym, subst, ◌∙◌, ap, arith, length-append, append-nil}
-use Rattle.std.proofs.lemmas.List.{take-append-le, take_all}
-use Rattle.std.proofs.lemmas.List.Elements.{filter_more}
-use Rattle.std.proofs.lemmas.List.Sums.{length-filter, count_by-le-length}
-use Rattle.std.proofs.lemmas.List.{length-take-le}
+-- What is told of lent rows is told of the rows.
+use Rattle.std.proofs.Common.{◌≡◌, ℕ, zero, suc, List, [], ◌∷◌, refl, ap, ap₂, sym, ◌∙◌, map, take, drop, length}
+use Rattle.std.proofs.lemmas.List.{length-map}
+use Rattle.serde_json.specs.Data.{Data}
+use Rattle.serde_json.specs.Written.{compact_text}
+use Rattle.af_ops.specs.Fields.{Field, object_of, listing_of}
 
--- a page with room takes one more row
-pub page_takes : {X : Type 0} (n : ℕ) (shown old : List X) (x : X) → length shown < n → old ≡ take n shown → old ++ x ∷ [] ≡ take n (shown ++ x ∷ [])
-page_takes n shown old x room is =
-    let more : length (shown ++ x ∷ []) ≤ n = rw (length-append shown (x ∷ [])) (omega arith) in
-    ap (λ xs. xs ++ x ∷ []) (is ∙ take_all n shown (omega arith)) ∙ sym (take_all n (shown ++ x ∷ []) more)
+pub map_now : {X Y Z : Type 0} (now : X → Y) (f : Y → Z) (xs : List X) → map (λ x. f (now x)) xs ≡ map f (map now xs)
+map_now now f [] = refl
+map_now now f (x ∷ xs) = ap (λ ys. f (now x) ∷ ys) (map_now now f xs)
 
--- a full page stays
-pub page_is_full : {X : Type 0} (n : ℕ) (shown old : List X) (x : X) → n ≤ length shown → old ≡ take n shown → old ≡ take n (shown ++ x ∷ [])
-page_is_full n shown old x full is = is ∙ sym (take-append-le n shown (x ∷ []) full)
+map_take : {X Y : Type 0} (f : X → Y) (n : ℕ) (xs : List X) → map f (take n xs) ≡ take n (map f xs)
+map_take f zero xs = refl
+map_take f (suc n) [] = refl
+map_take f (suc n) (x ∷ xs) = ap (λ ys. f x ∷ ys) (map_take f n xs)
 
--- one more row of the list is shown
-pub shown_more : {X : Type 0} (p : X → Bool) (xs : List X) (i : ℕ) (x : X) → i < length xs → get_or xs i x ≡ x → p x ≡ true → filter p (take (i + 1) xs) ≡ filter p (take i xs) ++ x ∷ []
-shown_more p xs i x within is passes =
-    filter_more p xs i x within ∙ ap (λ ys. filter p (take i xs) ++ ys) (ap (λ y. cond (p y) (y ∷ []) []) is ∙ ap (λ b. cond b (x ∷ []) []) passes)
+map_drop : {X Y : Type 0} (f : X → Y) (n : ℕ) (xs : List X) → map f (drop n xs) ≡ drop n (map f xs)
+map_drop f zero xs = refl
+map_drop f (suc n) [] = refl
+map_drop f (suc n) (x ∷ xs) = map_drop f n xs
 
--- one more row of the list is not shown
-pub hidden_more : {X : Type 0} (p : X → Bool) (xs : List X) (i : ℕ) (x : X) → i < length xs → get_or xs i x ≡ x → p x ≡ false → filter p (take (i + 1) xs) ≡ filter p (take i xs)
-hidden_more p xs i x within is hidden =
-    filter_more p xs i x within ∙ ap (λ ys. filter p (take i xs) ++ ys) (ap (λ y. cond (p y) (y ∷ []) []) is ∙ ap (λ b. cond b (x ∷ []) []) hidden)
-    ∙ append-nil (filter p (take i xs))
+-- a page of lent rows
+pub page_now : {X Y Z : Type 0} (now : X → Y) (f : Y → Z) (limit offset : ℕ) (xs : List X) (ys : List Y) → map now xs ≡ ys → map (λ x. f (now x)) (take limit (drop offset xs)) ≡ map f (take limit (drop offset ys))
+page_now now f limit offset xs ys is =
+    map_now now f (take limit (drop offset xs))
+    ∙ ap (map f) (map_take now limit (drop offset xs) ∙ ap (take limit) (map_drop now offset xs ∙ ap (drop offset) is))
 
--- no more rows are shown than there are
-pub shown_few : {X : Type 0} (p : X → Bool) (xs : List X) (i : ℕ) → i ≤ length xs → length (filter p (take i xs)) ≤ i
-shown_few p xs i within =
-    let few : length (filter p (take i xs)) ≤ length (take i xs) = rw (length-filter p (take i xs)) (count_by-le-length p (take i xs)) in
-    subst (λ n. length (filter p (take i xs)) ≤ n) (length-take-le i xs within) few
+-- a listing of a page of lent rows
+pub listing_now : {X Y : Type 0} (name : List ℕ) (now : X → Y) (f : Y → List Field) (limit offset : ℕ) (shown xs : List X) (ys : List Y) (total : ℕ) → shown ≡ take limit (drop offset xs) → map now xs ≡ ys → total ≡ length xs
+    → compact_text (listing_of name (map (λ x. object_of (f (now x))) shown) total) ≡ compact_text (listing_of name (map (λ y. object_of (f y)) (take limit (drop offset ys))) (length ys))
+listing_now name now f limit offset shown xs ys total page is count =
+    ap₂ (λ (rows : List Data) (n : ℕ). compact_text (listing_of name rows n))
+    (ap (map (λ x. object_of (f (now x)))) page ∙ page_now now (λ y. object_of (f y)) limit offset xs ys is)
+    (count ∙ sym (length-map xs now) ∙ ap length is)

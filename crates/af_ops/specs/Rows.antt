@@ -1,45 +1,47 @@
--- The lists of rows that the operations speak of.
-use Rattle.std.specs.Prelude.{ℕ, ◌≤◌, List, ◌∷◌, ◌++◌, length, map, filter, nat_eq, Bool}
-use Rattle.std.specs.List.{list_any}
-use Rattle.std.specs.List.Sorted.{IsStrictlySortedBy}
-use Rattle.std.specs.Ordering.{is_lt, nat_cmp}
-use Rattle.std.specs.Cmp.Lexicographic.{pointwise, slice_cmp}
-use Rattle.af_ops.specs.declared.dag_row.DagRow.{DagRow}
+-- The rows that are told (Airflow 2, "Stable REST API"; RFC 9457: faults), each as its members in byte order of their names.
+use Rattle.std.specs.Prelude.{ℕ, List, [], ◌∷◌, Option, codes}
+use Rattle.std.specs.Option.{option_map_or}
+use Rattle.serde_json.specs.Data.{Data, null, boolean, number, unsigned, string}
+use Rattle.af_names.specs.Presets.{preset_text}
+use Rattle.af_graph.specs.declared.schedule.Schedule.{Schedule}
+use Rattle.af_graph.specs.declared.schedule.Points.{Points}
+use Rattle.af_graph.specs.declared.schedule.Points.TheVariants as points
+use Rattle.af_sched.specs.declared.dag_row.DagRow.{DagRow}
+use Rattle.af_ops.specs.declared.status.Status.{Status}
+use Rattle.af_ops.specs.Fields.{Field, instant_data}
+use Rattle.af_ops.specs.Statuses.{code_of, reason_of}
 
--- the scheduler's state: its DAGs, in byte order of their ids
-pub record StateRows : Type 0 where
-  pub dags : List DagRow
+abbrev pub points_data : Points → Data
+points_data (points.Preset preset) = string (preset_text preset)
+points_data (points.Seconds seconds) = number (unsigned seconds)
 
-abbrev pub id_of : DagRow → List ℕ
-id_of row = row.dag_id
+-- a preset's text, a number of seconds, or null for none
+abbrev pub schedule_data : Option Schedule → Data
+schedule_data schedule = option_map_or (λ it. points_data it.points) schedule null
 
--- rows in byte order of their ids, no two of one id
-abbrev pub GoById : List DagRow → Type 0
-GoById rows = IsStrictlySortedBy (slice_cmp nat_cmp) (map id_of rows)
+-- a DAG; its next run is that of its cursor
+abbrev pub dag_fields : DagRow → List Field
+dag_fields row =
+    (codes "dag_id", string row.dag.dag_id)
+    ∷ (codes "is_paused", boolean row.is_paused)
+    ∷ (codes "max_active_runs", number (unsigned row.dag.max_active_runs))
+    ∷ (codes "next_dagrun", instant_data row.cursor)
+    ∷ (codes "schedule_interval", schedule_data row.dag.schedule)
+    ∷ []
 
--- what holds of a state's DAGs at all times
-pub record AreDags (rows : List DagRow) : Type 0 where
-  pub in_order : GoById rows
-  pub few : length rows ≤ 1_024
+-- what the server is
+abbrev pub version_fields : List Field
+version_fields = (codes "git_version", null) ∷ (codes "version", string (codes "afplane 1")) ∷ []
 
--- the ids of the state's DAGs
-abbrev pub dag_ids : StateRows → List (List ℕ)
-dag_ids state = map id_of state.dags
+-- a fault: its status, and what it is about (RFC 9457, section 3)
+pub record Problem : Type 0 where
+  pub status : Status
+  pub detail : List ℕ
 
--- whether the row is that of the DAG of that id
-abbrev pub has_id : List ℕ → DagRow → Bool
-has_id id row = pointwise nat_eq row.dag_id id
-
--- some DAG of the list has that id
-abbrev pub has_dag : List ℕ → List DagRow → Bool
-has_dag id rows = list_any (has_id id) rows
-
--- whether one id stands before another in byte order
-abbrev pub comes_before : List ℕ → List ℕ → Bool
-comes_before id other = is_lt (slice_cmp nat_cmp id other)
-
--- the list with one more row, in its place by id
-abbrev pub with_dag : DagRow → List DagRow → List DagRow
-with_dag row rows =
-    filter (λ other. comes_before other.dag_id row.dag_id) rows
-    ++ row ∷ filter (λ other. comes_before row.dag_id other.dag_id) rows
+abbrev pub problem_fields : Problem → List Field
+problem_fields problem =
+    (codes "detail", string problem.detail)
+    ∷ (codes "status", number (unsigned (code_of problem.status)))
+    ∷ (codes "title", string (reason_of problem.status))
+    ∷ (codes "type", string (codes "about:blank"))
+    ∷ []

@@ -1,49 +1,71 @@
--- The verdict on an operation, under one policy and on one state (this product's own rule, after Airflow 2, "Access
--- Control"): who asks is the user of the token; the first requirement that this user lacks denies; else the operation is
--- done, and it tells the rows that this user reads.
-use Rattle.std.specs.Prelude.{ℕ, List, Bool, Option, Some, None, Result, Ok, Err, length}
+-- The verdict on an operation, under one policy and on one state, at a moment (this product's own rule, after Airflow 2,
+-- "Access Control"): who asks is the user of the token; the first requirement that this user lacks denies; else the operation
+-- is done, or refused. All that is told, and the state that is left, are read off the verdict.
+use Rattle.std.specs.Prelude.{ℕ, List, Bool, nat_lt, map, false, Option, Some, None, Result, Ok, Err, if◌then◌else◌}
+use Rattle.af_role.specs.Pairs.{PairRow}
+use Rattle.af_role.specs.declared.need.Need.{Need}
 use Rattle.af_policy.specs.Rows.{PolicyRows}
 use Rattle.af_policy.specs.Identity.{bearer_of}
-use Rattle.af_policy.specs.Grants.{missing, reads}
-use Rattle.af_role.specs.declared.need.Need.{Need}
-use Rattle.af_ops.specs.declared.op.Op.{Op}
-use Rattle.af_ops.specs.declared.op.Op.TheVariants as op
-use Rattle.af_ops.specs.declared.reply.Reply.{Reply}
-use Rattle.af_ops.specs.declared.reply.Reply.TheVariants as reply
+use Rattle.af_policy.specs.Grants.{first_unmet, grants, reads_dag}
+use Rattle.af_sched.specs.State.{StateRows}
+use Rattle.af_ops.specs.declared.answer.OpFault.{OpFault}
+use Rattle.af_ops.specs.declared.answer.OpFault.TheVariants.{HistoryFull}
 use Rattle.af_ops.specs.declared.answer.Under.{Under}
-use Rattle.af_ops.specs.declared.answer.Answer.{Answer}
-use Rattle.af_ops.specs.declared.answer.CallFault.{CallFault}
-use Rattle.af_ops.specs.declared.answer.CallFault.TheVariants.{Unauthenticated, Denied}
-use Rattle.af_ops.specs.Endpoints.{endpoint_of, dag_of}
-use Rattle.af_ops.specs.Requirements.{needs_of}
-use Rattle.af_ops.specs.Rows.{StateRows, dag_ids}
-use Rattle.af_ops.specs.Pages.{ListedDags}
-use Rattle.af_ops.specs.Listings.{shown_dags, page, default_limit}
+use Rattle.af_ops.specs.declared.op.Op.{Op}
+use Rattle.af_ops.specs.Effects.{Effect, effect_of}
+use Rattle.af_ops.specs.Endpoints.{dag_of, endpoint_of}
+use Rattle.af_ops.specs.Standings.{StandingRows, history_limit}
+use Rattle.af_ops.specs.Table.{is_open, needs_of}
 
--- the DAGs that a user who reads these is told of: the first page, and how many there are
-abbrev pub listed_dags : (List ℕ → Bool) → StateRows → ListedDags
-listed_dags reads state = record {
-  rows = page default_limit 0 (shown_dags reads state.dags);
-  total = length (shown_dags reads state.dags);
-}
+pub data Verdict : Type 0 where
+  -- told to anybody, under no policy
+  Open : (reply : List ℕ) → Verdict
+  -- no user has the token
+  Stranger : Verdict
+  -- the user lacks this requirement, the first one lacked
+  Lacks : (need : Need) → Verdict
+  -- the operation is permitted, and refused
+  Refuses : (why : OpFault) → Verdict
+  -- it leaves the state as it is
+  Tells : (reply : List ℕ) → Verdict
+  -- it changes the state, and adds an entry
+  Changes : (reply : List ℕ) (next : StateRows) → Verdict
 
--- what a permitted operation replies
-abbrev pub reply_to : (List ℕ → Bool) → StateRows → Op → Reply
-reply_to reads state op.Version = reply.Version
-reply_to reads state op.ListDags = reply.Dags (listed_dags reads state)
+-- the ids of the state's DAGs
+abbrev pub dag_ids : StateRows → List (List ℕ)
+dag_ids state = map (λ row. row.dag.dag_id) state.dags
 
--- the verdict on what a user asks, where a requirement is lacked, or none
-abbrev pub decided : PolicyRows → List ℕ → StateRows → Op → Under → Option Need → Result Answer CallFault
-decided policy user state asked under (Some need) = Err (Denied need under)
-decided policy user state asked under None =
-    Ok (record { reply = reply_to (reads policy user) state asked; under = under })
+-- a change adds an entry, and is refused where there is no room for one
+abbrev pub recorded : Under → List ℕ → Option StateRows → Verdict
+recorded under reply None = Tells reply
+recorded under reply (Some next) = if nat_lt under.seq history_limit then Changes reply next else Refuses HistoryFull
+
+-- the verdict by what a permitted operation does
+abbrev pub done : Under → Result Effect OpFault → Verdict
+done under (Ok effect) = recorded under effect.reply effect.next
+done under (Err why) = Refuses why
+
+-- the verdict on what a user asks who is granted this, where a requirement is lacked, or none
+abbrev pub permitted : (PairRow → Bool) → StandingRows → Op → ℕ → Option Need → Verdict
+permitted granted standing asked now (Some need) = Lacks need
+permitted granted standing asked now None = done standing.under (effect_of (reads_dag granted) standing.state asked now)
+
+abbrev pub granted_verdict : (PairRow → Bool) → StandingRows → Op → ℕ → Verdict
+granted_verdict granted standing asked now =
+    permitted granted standing asked now
+    (first_unmet granted (dag_of asked) (dag_ids standing.state) (needs_of (endpoint_of asked)))
 
 -- the verdict on what the user behind a token asks, if there is one
-abbrev pub judged : PolicyRows → StateRows → Op → Under → Option (List ℕ) → Result Answer CallFault
-judged policy state asked under None = Err (Unauthenticated under)
-judged policy state asked under (Some user) =
-    decided policy user state asked under (missing policy user (needs_of (endpoint_of asked)) (dag_of asked) (dag_ids state))
+abbrev pub judged : PolicyRows → StandingRows → Op → ℕ → Option (List ℕ) → Verdict
+judged policy standing asked now None = Stranger
+judged policy standing asked now (Some user) = granted_verdict (grants policy user) standing asked now
 
--- the verdict on an operation under a token; what the server is, is told without one
-abbrev pub verdict : PolicyRows → Under → StateRows → Option (List ℕ) → Op → Result Answer CallFault
-verdict policy under state token asked = judged policy state asked under (bearer_of policy token)
+-- what an open operation tells
+abbrev pub opened : Result Effect OpFault → Verdict
+opened (Ok effect) = Open effect.reply
+opened (Err why) = Refuses why
+
+abbrev pub verdict : PolicyRows → StandingRows → Option (List ℕ) → Op → ℕ → Verdict
+verdict policy standing token asked now =
+    if is_open (endpoint_of asked) then opened (effect_of (λ dag. false) standing.state asked now)
+    else judged policy standing asked now (bearer_of policy token)

@@ -1,34 +1,58 @@
-use crate::reply::Reply;
+use crate::body_fault::Member;
 use af_role::Need;
+use std::alloc::AllocError;
 
-/// What an operation was decided under: the policy version, and how many entries the audit then has.
+/// What an operation is decided under: the policy version, and how many entries the audit has.
 #[derive(Clone, Copy, Debug, PartialEq, Eq)]
 pub struct Under {
     pub version: u32,
     pub seq: u32,
 }
 
-/// A permitted operation's reply, with what it was decided under.
-#[derive(Drop)]
-pub struct Answer {
-    pub reply: Reply,
-    pub under: Under,
-}
-
 /// Why a permitted operation is not done, in the order in which the reasons are told.
 #[derive(Clone, Copy, Debug, PartialEq, Eq)]
 pub enum OpFault {
+    /// Its body is no JSON object.
+    BadBody,
+    /// This member of its body is absent though it has to be there, or of a wrong kind or value.
+    BadMember(Member),
+    /// The DAG that it names is not there.
+    NoSuchDag,
+    /// It would change the state, and there is no room for one more entry.
+    HistoryFull,
     /// A growth was refused, and nothing was done.
     OutOfMemory,
 }
 
-/// Why an operation is not answered, in the order in which the reasons are told, with what it was decided under.
+impl From<AllocError> for OpFault {
+    ghost use Rattle.std.specs.Prelude.{◌≡◌};
+    ghost use Rattle.af_ops.specs.declared.answer.OpFault.TheVariants.{OutOfMemory};
+
+    ghost from_gives = { λ _ fault. fault ≡ OutOfMemory };
+
+    fn from(_error: AllocError) -> OpFault {
+        OpFault::OutOfMemory
+    }
+}
+
+/// Why an operation is not done, in the order in which the reasons are told.
 #[derive(Clone, Copy, Debug)]
 pub enum CallFault {
     /// No user has the token.
-    Unauthenticated(Under),
+    Unauthenticated,
     /// The user lacks this requirement, the first one lacked.
-    Denied(Need, Under),
+    Denied(Need),
     /// The operation is permitted, and refused.
-    Op(OpFault, Under),
+    Op(OpFault),
+}
+
+impl From<OpFault> for CallFault {
+    ghost use Rattle.std.specs.Prelude.{◌≡◌};
+    ghost use Rattle.af_ops.specs.declared.answer.CallFault.TheVariants.{Op};
+
+    ghost from_gives = { λ fault why. why ≡ Op fault };
+
+    fn from(fault: OpFault) -> CallFault {
+        CallFault::Op(fault)
+    }
 }

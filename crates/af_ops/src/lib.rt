@@ -1,39 +1,61 @@
-//! The operations: what each needs, what it does to the state, and what it answers.
+//! The operations: which there are, what each needs, what it does to the state, and what it answers.
 #![tactic(auto)]
 
 mod answer;
+mod answering;
+mod bodies;
 mod body;
-mod dag_row;
-mod dag_rows;
-pub mod laws;
-mod listing;
-mod needs_of;
+mod body_fault;
+mod dag_text;
+mod deciding;
+mod edit;
+mod endpoint;
+mod fields;
+mod member_name;
+mod method;
+mod methods;
+mod nobody;
 mod op;
+mod operations;
+mod place;
 mod prepared;
-mod reply;
+mod preparing;
+mod problem;
+mod product;
+mod reading;
+mod route;
+mod row;
+mod segment;
 mod served;
 mod shown_answer;
-mod state;
+mod standing;
 mod status;
+mod table;
 mod telling;
-#[cfg(test)]
-mod tests;
-mod worked;
-mod writing;
+mod text;
 
-pub use answer::{Answer, CallFault, OpFault, Under};
+pub use answer::{CallFault, OpFault, Under};
+pub use bodies::read_pause;
 pub use body::Body;
-pub use dag_row::DagRow;
-pub use dag_rows::DagRows;
-pub use needs_of::needs;
-pub use op::{Endpoint, Op};
-pub use prepared::{Prepared, commit, prepare};
-pub use reply::{DagPage, Reply};
+pub use body_fault::{BodyFault, Member};
+pub use deciding::decide;
+pub use edit::Edit;
+pub use endpoint::Endpoint;
+pub use member_name::name_of;
+pub use method::Method;
+pub use methods::Methods;
+pub use op::Op;
+pub use place::Place;
+pub use prepared::{Prepared, commit};
+pub use preparing::prepare;
+pub use reading::{are_names, read_row};
+pub use route::Route;
+pub use row::{Row, listing_text, row_text};
+pub use segment::Segment;
 pub use served::Served;
 pub use shown_answer::Shown;
-pub use state::{State, StateFault};
+pub use standing::Standing;
 pub use status::Status;
-pub use telling::{shown, shown_version};
-pub use worked::{
-    additions_by_the_rule, faults_by_the_rule, messages_by_the_rule, verdicts_by_the_rule,
-};
+pub use table::{ENDPOINTS, PLACES, endpoint_at, methods_at, needs, route_of};
+pub use telling::shown_fault;
+pub use text::Text;

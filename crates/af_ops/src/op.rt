@@ -2,24 +2,21 @@ ghost use Rattle.std.specs.Prelude.{◌≡◌};
 ghost use Rattle.std.specs.Option.{option_copied};
 ghost use Rattle.af_ops.specs.Endpoints.{endpoint_of, dag_of};
 
+use crate::body_fault::BodyFault;
+use crate::endpoint::Endpoint;
 use af_names::DagId;
 
-/// Which operation of the API, with nothing of its input (Airflow 2, "Stable REST API").
-#[derive(Clone, Copy, Debug, PartialEq, Eq)]
-pub enum Endpoint {
-    /// `GET /version`
-    Version,
-    /// `GET /dags`
-    ListDags,
-}
-
-/// An operation that a request asks for, with the input that was read.
-#[derive(Clone, Copy, Debug, PartialEq, Eq)]
+/// An operation that a request asks for: the names of its path, and what was read of its body, where it reads one.
+#[derive(Drop)]
 pub enum Op {
     /// What the server is.
     Version,
     /// The DAGs that the user reads.
     ListDags,
+    /// One DAG.
+    GetDag(DagId),
+    /// A DAG is paused, or not.
+    PauseDag(DagId, Result<bool, BodyFault>),
 }
 
 impl Op {
@@ -30,6 +27,8 @@ impl Op {
         match self {
             Op::Version => Endpoint::Version,
             Op::ListDags => Endpoint::ListDags,
+            Op::GetDag(_) => Endpoint::GetDag,
+            Op::PauseDag(_, _) => Endpoint::PauseDag,
         }
     }
 
@@ -39,6 +38,7 @@ impl Op {
     {
         match self {
             Op::Version | Op::ListDags => None,
+            Op::GetDag(dag_id) | Op::PauseDag(dag_id, _) => Some(dag_id),
         }
     }
 }

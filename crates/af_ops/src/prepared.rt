@@ -1,108 +1,75 @@
-ghost use Rattle.std.specs.Prelude.{◌≡◌, None, IfOk, length};
-ghost use Rattle.af_ops.specs.Effects.{effect_of, is_change, after};
-ghost use Rattle.af_ops.specs.Listings.{shown_dags, page, default_limit};
-ghost use Rattle.af_ops.specs.Steps.{TakesRow};
+ghost use Rattle.std.specs.Prelude.{◌≡◌};
+ghost use Rattle.af_ops.specs.Edits.{edited, is_edit};
+ghost use Rattle.af_ops.specs.Prepared.{CanDo};
 
-use crate::answer::OpFault;
-use crate::dag_row::DagRow;
-use crate::dag_rows::DagRows;
-use crate::op::Op;
-use crate::reply::{DagPage, Reply};
-use crate::state::State;
-use af_names::Instant;
-use af_policy::Reader;
-use std::alloc::{AllocError, Global};
+use crate::body::Body;
+use crate::edit::Edit;
+use af_sched::State;
 use std::marker::Model;
 
-/// How many rows a listing tells where no limit is given.
-const LIMIT: usize = 100;
-
-/// An operation that can be committed without memory. Contracts see its effect: the reply that it will give, and the state
-/// that it will leave, or none where it leaves the state as it is.
+/// An operation that can be committed without memory. Contracts see the body of its reply, and its edit.
 #[derive(Drop)]
 pub struct Prepared {
-    reply: Reply,
-    next: Option<State>,
+    body: Body,
+    edit: Edit,
 }
 
 impl Model for Prepared {
-    ghost use Rattle.af_ops.specs.Effects.{Effect};
+    ghost use Rattle.af_ops.specs.Prepared.{Preparation};
 
-    ghost Value = { Effect };
+    ghost Value = { Preparation };
 
-    ghost view = { λ p. record { reply = p.reply; next = p.next } };
+    ghost view = { λ p. record { body = p.body; edit = p.edit } };
 }
 
 impl Prepared {
-    /// What gives this reply and leaves the state as it is.
-    fn reading(reply: Reply) -> Prepared
-        ensures { result ≡ record { reply = reply; next = None } }
+    /// What gives a reply of these bytes and does this edit.
+    pub(crate) fn of(body: Vec<u8>, edit: Edit) -> Prepared
+        ensures { result ≡ record { body = body.items; edit = edit } }
     {
-        Prepared { reply, next: None }
+        Prepared {
+            body: Body::of(body),
+            edit,
+        }
+    }
+
+    /// The body of its reply.
+    pub(crate) fn into_body(self) -> Body
+        ensures { result ≡ self.body }
+    {
+        let Prepared { body, edit: _ } = self;
+        body
     }
 
     /// Whether it will change the state.
     pub fn changes(&self) -> bool
-        ensures { result ≡ is_change self.now }
+        ensures { result ≡ is_edit self.now.edit }
     {
-        self.next.is_some()
-    }
-}
-
-/// Works out what a permitted operation does for a reader, at a moment, and takes all the memory for it. It changes nothing.
-/// `OutOfMemory` only where a growth was refused.
-pub fn prepare<R: Reader>(
-    alloc: Global,
-    state: &mut State,
-    op: &Op,
-    reader: &R,
-    _now: Instant,
-) -> Result<Prepared, OpFault>
-    ensures ok { IfOk result (λ prepared. prepared ≡ effect_of (R.reads reader.now) state.old op.now) }
-    ensures same { state.new ≡ state.old }
-{
-    match op {
-        Op::Version => Ok(Prepared::reading(Reply::Version)),
-        Op::ListDags => match list_dags(alloc, state.dags(), reader) {
-            Ok(page) => Ok(Prepared::reading(Reply::Dags(page))),
-            Err(_) => Err(OpFault::OutOfMemory),
-        },
-    }
-}
-
-/// Does a prepared operation, on the state that it was prepared on, and gives its reply. It takes no memory.
-pub fn commit(state: &mut State, prepared: Prepared) -> Reply
-    ensures reply { result ≡ prepared.reply }
-    ensures next { state.new ≡ after prepared state.old }
-{
-    let Prepared { reply, next } = prepared;
-    if let Some(next) = next {
-        *state = next;
-    }
-    reply
-}
-
-fn list_dags<R: Reader>(alloc: Global, dags: &[DagRow], reader: &R) -> Result<DagPage, AllocError>
-    ensures rows { IfOk result (λ told. told.rows ≡ page default_limit 0 (shown_dags (R.reads reader.now) dags.now)) }
-    ensures total { IfOk result (λ told. told.total ≡ length (shown_dags (R.reads reader.now) dags.now)) }
-{
-    let mut rows = DagRows::with_room(alloc, LIMIT.min(dags.len()))?;
-    let mut total = 0usize;
-    for row in dags {
-        if reader.readable(&row.dag_id) {
-            rows = with_told(rows, total, row)?;
-            total += 1;
+        match &self.edit {
+            Edit::Nothing => false,
+            Edit::DagPaused(_, _) => true,
         }
     }
-    Ok(DagPage::of(rows, total))
 }
 
-/// The page with a row at its end, if so many rows before it left room.
-fn with_told(rows: DagRows, before: usize, row: &DagRow) -> Result<DagRows, AllocError>
-    ensures { IfOk result (TakesRow before row.now rows) }
+/// Does a prepared operation, on the state that it was prepared on, and gives the body of its reply. It takes no memory.
+pub fn commit(state: &mut State, prepared: Prepared) -> Body
+    requires { CanDo state.old prepared.edit }
+    ensures reply { result ≡ prepared.body }
+    ensures next { state.new.rows ≡ edited prepared.edit state.old.rows }
 {
-    if before < LIMIT {
-        return Ok(rows.with(row)?);
+    let Prepared { body, edit } = prepared;
+    do_edit(state, edit);
+    body
+}
+
+/// Does an edit for which there is room. It takes no memory.
+fn do_edit(state: &mut State, edit: Edit)
+    requires { CanDo state.old edit }
+    ensures { state.new.rows ≡ edited edit state.old.rows }
+{
+    match edit {
+        Edit::Nothing => {}
+        Edit::DagPaused(dag_id, is_paused) => state.set_paused(&dag_id, is_paused),
     }
-    Ok(rows)
 }

@@ -1,85 +1,64 @@
-ghost use Rattle.std.specs.Prelude.{◌≡◌, Some, IfOk, ◌++◌, codes, string_bytes};
+ghost use Rattle.std.specs.Prelude.{◌≡◌, ◌++◌, [], Some, IfOk, codes, string_bytes, unwrap_or};
 ghost use Rattle.std.specs.Option.{option_copied};
-ghost use Rattle.serde_json.specs.Written.{compact_text};
 ghost use Rattle.af_role.specs.Needs.{need_text};
-ghost use Rattle.af_ops.specs.Replies.{fault_data};
-ghost use Rattle.af_ops.specs.Tellings.{outcome_told, version_told, reply_data, told_under, fault_told};
-ghost use Rattle.af_ops.specs.Endpoints.{dag_of};
+ghost use Rattle.af_ops.specs.Served.{fault_told, problem_told, told_under};
 
-use crate::answer::{Answer, CallFault, OpFault, Under};
+use crate::answer::{CallFault, OpFault, Under};
 use crate::body::Body;
-use crate::listing::dags_body;
+use crate::member_name::name_of;
 use crate::op::Op;
-use crate::reply::Reply;
+use crate::problem::ProblemRow;
+use crate::row::row_text;
 use crate::shown_answer::Shown;
 use crate::status::Status;
-use crate::writing::{fault_body, version_body};
 use af_names::DagId;
 use af_role::Need;
 use std::alloc::{AllocError, Global};
 
-/// What is told of an operation's outcome. `AllocError` where the outcome is want of memory, of which nothing is told, and
-/// else only where a growth was refused.
-pub fn shown(
+/// What is told of a fault that was decided under a policy. `AllocError` where the fault is want of memory, of which nothing is
+/// told, and else only where a growth was refused.
+pub fn shown_fault(
     alloc: Global,
     op: &Op,
-    outcome: &Result<Answer, CallFault>,
+    fault: CallFault,
+    under: Under,
 ) -> Result<Shown, AllocError>
-    ensures { IfOk result (λ shown. outcome_told (dag_of op.now) outcome.now ≡ Some shown) }
-{
-    match outcome {
-        Ok(answer) => shown_answer(alloc, answer),
-        Err(fault) => shown_fault(alloc, op.dag(), *fault),
-    }
-}
-
-/// What the server is, which is decided under no policy. `AllocError` only where a growth was refused.
-pub fn shown_version(alloc: Global) -> Result<Shown, AllocError>
-    ensures { IfOk result (λ shown. shown ≡ version_told) }
-{
-    let body = version_body(alloc)?;
-    Ok(Shown {
-        status: Status::Ok,
-        version: None,
-        seq: None,
-        body: Some(body),
-    })
-}
-
-fn reply_body(alloc: Global, reply: &Reply) -> Result<Body, AllocError>
-    ensures { IfOk result (λ body. body ≡ compact_text (reply_data reply.now)) }
-{
-    match reply {
-        Reply::Version => version_body(alloc),
-        Reply::Dags(page) => dags_body(alloc, page),
-    }
-}
-
-fn shown_answer(alloc: Global, answer: &Answer) -> Result<Shown, AllocError>
-    ensures { IfOk result
-        (λ shown. shown ≡ told_under answer.now.under Status.Ok (reply_data answer.now.reply)) }
-{
-    let body = reply_body(alloc, &answer.reply)?;
-    Ok(shown_under(answer.under, Status::Ok, body))
-}
-
-fn shown_fault(alloc: Global, dag: Option<&DagId>, fault: CallFault) -> Result<Shown, AllocError>
-    ensures { IfOk result (λ shown. fault_told (option_copied dag.entry) fault ≡ Some shown) }
+    ensures { IfOk result (λ shown. fault_told op.now under fault ≡ Some shown) }
 {
     match fault {
-        CallFault::Unauthenticated(under) => {
-            shown_detail(
+        CallFault::Unauthenticated => {
+            shown_problem(
                 alloc,
                 under,
                 Status::Unauthorized,
                 "authentication required",
             )
         }
-        CallFault::Denied(need, under) => {
-            let detail = denial(alloc, need, dag)?;
-            shown_detail(alloc, under, Status::Forbidden, detail.as_str())
+        CallFault::Denied(need) => {
+            let detail = denial(alloc, need, op.dag())?;
+            shown_problem(alloc, under, Status::Forbidden, detail.as_str())
         }
-        CallFault::Op(OpFault::OutOfMemory, _) => Err(AllocError),
+        CallFault::Op(fault) => shown_op_fault(alloc, op, fault, under),
+    }
+}
+
+fn shown_op_fault(alloc: Global, op: &Op, fault: OpFault, under: Under) -> Result<Shown, AllocError>
+    ensures { IfOk result (λ shown. fault_told op.now under (CallFault.Op fault) ≡ Some shown) }
+{
+    match fault {
+        OpFault::BadBody => shown_problem(alloc, under, Status::BadRequest, "bad body"),
+        OpFault::BadMember(it) => {
+            let detail = joined(alloc, "bad member: ", name_of(it))?;
+            shown_problem(alloc, under, Status::BadRequest, detail.as_str())
+        }
+        OpFault::NoSuchDag => {
+            let detail = joined(alloc, "no such dag: ", id_text(op.dag()))?;
+            shown_problem(alloc, under, Status::NotFound, detail.as_str())
+        }
+        OpFault::HistoryFull => {
+            shown_problem(alloc, under, Status::InsufficientStorage, "history full")
+        }
+        OpFault::OutOfMemory => Err(AllocError),
     }
 }
 
@@ -92,23 +71,39 @@ fn denial(alloc: Global, need: Need, dag: Option<&DagId>) -> Result<String, Allo
     Ok(detail)
 }
 
-fn shown_detail(
+fn joined(alloc: Global, first: &str, second: &str) -> Result<String, AllocError>
+    ensures { IfOk result (λ text. string_bytes text ≡ first.now ++ second.now) }
+{
+    let mut detail = String::from_str(alloc, first)?;
+    detail.push_str(second)?;
+    Ok(detail)
+}
+
+/// The text of an id, empty where there is none.
+fn id_text(dag: Option<&DagId>) -> &str
+    ensures { result.now ≡ unwrap_or (option_copied dag.entry) [] }
+{
+    match dag {
+        Some(dag_id) => dag_id.as_str(),
+        None => "",
+    }
+}
+
+fn shown_problem(
     alloc: Global,
     under: Under,
     status: Status,
     detail: &str,
 ) -> Result<Shown, AllocError>
-    ensures { IfOk result (λ shown. shown ≡ told_under under status (fault_data status detail.now)) }
+    ensures { IfOk result (λ shown. shown ≡ problem_told under (record { status = status; detail = detail.now })) }
 {
-    let body = fault_body(alloc, status, detail)?;
-    Ok(shown_under(under, status, body))
+    let body = row_text(alloc, &ProblemRow { status, detail })?;
+    Ok(shown_under(under, status, Body::of(body)))
 }
 
-fn shown_under(under: Under, status: Status, body: Body) -> Shown
-    ensures status { result.status ≡ status }
-    ensures version { result.version ≡ Some under.version }
-    ensures seq { result.seq ≡ Some under.seq }
-    ensures body { result.body ≡ Some body }
+/// What is told under a policy version.
+pub(crate) fn shown_under(under: Under, status: Status, body: Body) -> Shown
+    ensures { result ≡ told_under under status body }
 {
     Shown {
         status,

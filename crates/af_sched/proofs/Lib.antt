@@ -4,6 +4,7 @@ mod ChoosingLemmas
 mod ClaimLemmas
 mod CreateLemmas
 mod DueLemmas
+mod EditingLemmas
 mod EndedLemmas
 mod FillLemmas
 mod FittingLemmas

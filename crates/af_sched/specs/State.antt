@@ -79,6 +79,10 @@ with_dag dags row =
     filter (λ other. comes_before other.dag.dag_id row.dag.dag_id) dags
     ++ row ∷ filter (λ other. comes_before row.dag.dag_id other.dag.dag_id) dags
 
+-- the DAGs, that of this id paused or not; without such a DAG they are the same
+abbrev pub with_paused : List DagRow → List ℕ → Bool → List DagRow
+with_paused dags dag_id is_paused = map (λ row. if is_of_id dag_id row then record row { is_paused = is_paused } else row) dags
+
 -- no row is that of the DAG of this id; those of lower ids stand before the place, and those of higher ones from it on
 pub record FitsAt (dags : List DagRow) (dag_id : List ℕ) (place : ℕ) : Type 0 where
   pub within : place ≤ length dags

@@ -3,7 +3,7 @@ ghost use Rattle.std.specs.Option.{option_map_or};
 ghost use Rattle.af_sched.specs.Due.{first_cursor};
 
 use af_graph::Dag;
-use af_names::Instant;
+use af_names::{DagId, Instant, NamesDag};
 
 /// A DAG as the scheduler keeps it.
 #[derive(Drop)]
@@ -30,5 +30,13 @@ impl DagRow {
             is_paused,
             cursor,
         }
+    }
+}
+
+impl NamesDag for DagRow {
+    ghost dag = { λ row. row.dag.dag_id };
+
+    fn dag_id(&self) -> &DagId {
+        self.dag.dag_id()
     }
 }

@@ -13,6 +13,7 @@ use std::marker::Model;
 
 mod adding;
 mod claiming;
+mod editing;
 mod reporting;
 mod ticking;
 

@@ -4,5 +4,5 @@ use Rattle.af_http.proofs.answering.put_number.Goals as goal
 
 pub returns : goal.returns
 returns g c =
-    let digits = put_as (c.as_bytes.ensures.value ∙ c.format.ensures.text) c.put-numbered.ensures in
-    put_also c.put-named.ensures (put_also digits c.put.ensures)
+    let digits = put_as (c.as_bytes.ensures.value ∙ c.format.ensures.text) c.put-2.ensures.all in
+    put_also c.put.ensures.all (put_also digits c.put-3.ensures.all)

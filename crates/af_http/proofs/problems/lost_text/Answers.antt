@@ -4,6 +4,6 @@ use Rattle.json.specs.Print.{escape_byte}
 use Rattle.af_http.specs.Answers.{problem_body, lost_text}
 use Rattle.af_http.proofs.problems.lost_text.Goals as goal
 
-pub returns : goal.returns
+pub returns-clause-text : goal.returns-clause-text
 unfolding digits escape_byte problem_body lost_text
-returns c = refl
+returns-clause-text c = refl

@@ -1,10 +1,14 @@
+use Rattle.std.proofs.Common.{refl}
 use Rattle.af_http.proofs.TurnLemmas.{not_gathered, gathered_more}
 use Rattle.af_http.proofs.turn.next_head.Goals as goal
 
 pub returns-in-Whole-clause-holds : goal.returns-in-Whole-clause-holds
-returns-in-Whole-clause-holds g c = not_gathered g.R.Source.given g.R.Source.reads c.args.reader.now _ _ c.in-Whole.ensures.same
+returns-in-Whole-clause-holds g c = not_gathered _ _ _ _ _ c.go_on.ensures.found refl refl c.in-Whole.ensures.same
 
-pub returns-in-Ok-clause-holds : goal.returns-in-Ok-clause-holds
-returns-in-Ok-clause-holds g c =
-    gathered_more g.R.Source.given g.R.Source.reads c.args.reader.now c.gather.new.reader c.args.incoming.now c.settle.new.incoming c.gather.new.incoming
-    c.gather.result c.in-Part.ensures.same c.in-Part.ensures.extent c.gather.ensures.holds c.gather.ensures.reads
+pub returns-in-Large-clause-holds : goal.returns-in-Large-clause-holds
+returns-in-Large-clause-holds g c = not_gathered _ _ _ _ _ c.go_on-in-Large.ensures.found refl refl c.in-Large.ensures.same
+
+pub returns-else-has_failed-clause-holds : goal.returns-else-has_failed-clause-holds
+returns-else-has_failed-clause-holds g c =
+    gathered_more _ _ c.args.incoming.now c.settle.new.incoming c.gather.new.incoming c.gather.result
+    c.in-Part.ensures.same c.in-Part.ensures.extent c.gather.ensures.holds c.gather.ensures.took

@@ -3,58 +3,58 @@ use Rattle.std.specs.Fmt.{digits}
 use Rattle.af_http.specs.Answers.{status_line}
 use Rattle.af_http.proofs.wording.status_line.Goals as goal
 
-pub returns-in-Ok : goal.returns-in-Ok
+pub returns-in-Ok-clause-text : goal.returns-in-Ok-clause-text
 unfolding digits
-returns-in-Ok c = sym (ap status_line c.in-Ok.is)
+returns-in-Ok-clause-text c = sym (ap status_line c.in-Ok.is)
 
-pub returns-in-NoContent : goal.returns-in-NoContent
+pub returns-in-NoContent-clause-text : goal.returns-in-NoContent-clause-text
 unfolding digits
-returns-in-NoContent c = sym (ap status_line c.in-NoContent.is)
+returns-in-NoContent-clause-text c = sym (ap status_line c.in-NoContent.is)
 
-pub returns-in-BadRequest : goal.returns-in-BadRequest
+pub returns-in-BadRequest-clause-text : goal.returns-in-BadRequest-clause-text
 unfolding digits
-returns-in-BadRequest c = sym (ap status_line c.in-BadRequest.is)
+returns-in-BadRequest-clause-text c = sym (ap status_line c.in-BadRequest.is)
 
-pub returns-in-Unauthorized : goal.returns-in-Unauthorized
+pub returns-in-Unauthorized-clause-text : goal.returns-in-Unauthorized-clause-text
 unfolding digits
-returns-in-Unauthorized c = sym (ap status_line c.in-Unauthorized.is)
+returns-in-Unauthorized-clause-text c = sym (ap status_line c.in-Unauthorized.is)
 
-pub returns-in-Forbidden : goal.returns-in-Forbidden
+pub returns-in-Forbidden-clause-text : goal.returns-in-Forbidden-clause-text
 unfolding digits
-returns-in-Forbidden c = sym (ap status_line c.in-Forbidden.is)
+returns-in-Forbidden-clause-text c = sym (ap status_line c.in-Forbidden.is)
 
-pub returns-in-NotFound : goal.returns-in-NotFound
+pub returns-in-NotFound-clause-text : goal.returns-in-NotFound-clause-text
 unfolding digits
-returns-in-NotFound c = sym (ap status_line c.in-NotFound.is)
+returns-in-NotFound-clause-text c = sym (ap status_line c.in-NotFound.is)
 
-pub returns-in-MethodNotAllowed : goal.returns-in-MethodNotAllowed
+pub returns-in-MethodNotAllowed-clause-text : goal.returns-in-MethodNotAllowed-clause-text
 unfolding digits
-returns-in-MethodNotAllowed c = sym (ap status_line c.in-MethodNotAllowed.is)
+returns-in-MethodNotAllowed-clause-text c = sym (ap status_line c.in-MethodNotAllowed.is)
 
-pub returns-in-Conflict : goal.returns-in-Conflict
+pub returns-in-Conflict-clause-text : goal.returns-in-Conflict-clause-text
 unfolding digits
-returns-in-Conflict c = sym (ap status_line c.in-Conflict.is)
+returns-in-Conflict-clause-text c = sym (ap status_line c.in-Conflict.is)
 
-pub returns-in-ContentTooLarge : goal.returns-in-ContentTooLarge
+pub returns-in-ContentTooLarge-clause-text : goal.returns-in-ContentTooLarge-clause-text
 unfolding digits
-returns-in-ContentTooLarge c = sym (ap status_line c.in-ContentTooLarge.is)
+returns-in-ContentTooLarge-clause-text c = sym (ap status_line c.in-ContentTooLarge.is)
 
-pub returns-in-HeadTooLarge : goal.returns-in-HeadTooLarge
+pub returns-in-HeadTooLarge-clause-text : goal.returns-in-HeadTooLarge-clause-text
 unfolding digits
-returns-in-HeadTooLarge c = sym (ap status_line c.in-HeadTooLarge.is)
+returns-in-HeadTooLarge-clause-text c = sym (ap status_line c.in-HeadTooLarge.is)
 
-pub returns-in-InternalError : goal.returns-in-InternalError
+pub returns-in-InternalError-clause-text : goal.returns-in-InternalError-clause-text
 unfolding digits
-returns-in-InternalError c = sym (ap status_line c.in-InternalError.is)
+returns-in-InternalError-clause-text c = sym (ap status_line c.in-InternalError.is)
 
-pub returns-in-NotImplemented : goal.returns-in-NotImplemented
+pub returns-in-NotImplemented-clause-text : goal.returns-in-NotImplemented-clause-text
 unfolding digits
-returns-in-NotImplemented c = sym (ap status_line c.in-NotImplemented.is)
+returns-in-NotImplemented-clause-text c = sym (ap status_line c.in-NotImplemented.is)
 
-pub returns-in-Unavailable : goal.returns-in-Unavailable
+pub returns-in-Unavailable-clause-text : goal.returns-in-Unavailable-clause-text
 unfolding digits
-returns-in-Unavailable c = sym (ap status_line c.in-Unavailable.is)
+returns-in-Unavailable-clause-text c = sym (ap status_line c.in-Unavailable.is)
 
-pub returns-in-InsufficientStorage : goal.returns-in-InsufficientStorage
+pub returns-in-InsufficientStorage-clause-text : goal.returns-in-InsufficientStorage-clause-text
 unfolding digits
-returns-in-InsufficientStorage c = sym (ap status_line c.in-InsufficientStorage.is)
+returns-in-InsufficientStorage-clause-text c = sym (ap status_line c.in-InsufficientStorage.is)

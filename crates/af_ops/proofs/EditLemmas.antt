@@ -1,0 +1,40 @@
+-- An edit changes the state exactly where something differs.
+use Rattle.std.proofs.Common.{◌≡◌, ◌≢◌, ℕ, Bool, true, false, cond, List, [], ◌∷◌, refl, sym, ◌∙◌, ap, not}
+use Rattle.std.specs.Prelude.{Option, Some, None, if◌then◌else◌}
+use Rattle.af_sched.specs.State.{StateRows, dag_of, is_of_id, with_paused}
+use Rattle.af_sched.specs.declared.dag_row.DagRow.{DagRow}
+use Rattle.af_ops.specs.declared.edit.Edit.{Edit}
+use Rattle.af_ops.specs.declared.edit.Edit.TheVariants as edit
+use Rattle.af_ops.specs.Edits.{edited, next_by}
+use Rattle.af_ops.specs.Effects.{differs}
+use Rattle.af_ops.specs.Prepared.{IsExact}
+
+row_apart : (is_paused stands : Bool) (row : DagRow) → row.is_paused ≡ stands → (if is_paused then not stands else stands) ≡ true → record row { is_paused = is_paused } ≡ row → ⊥
+row_apart true true row is differ same = cc
+row_apart true false row is differ same = let now = ap (λ (r : DagRow). r.is_paused) same in cc
+row_apart false true row is differ same = let now = ap (λ (r : DagRow). r.is_paused) same in cc
+row_apart false false row is differ same = cc
+
+apart_by : (is : Bool) (dag_id : List ℕ) (is_paused : Bool) (first row : DagRow) (dags : List DagRow) → cond is (Some first) (dag_of dags dag_id) ≡ Some row → differs row is_paused ≡ true → (dag_of dags dag_id ≡ Some row → with_paused dags dag_id is_paused ≢ dags) → cond is (record first { is_paused = is_paused }) first ∷ with_paused dags dag_id is_paused ≡ first ∷ dags → ⊥
+apart_by true dag_id is_paused first row dags found differ rest same =
+    let is_row : first ≡ row = cc in
+    row_apart is_paused first.is_paused first refl (ap (λ (r : DagRow). differs r is_paused) is_row ∙ differ) (cc)
+apart_by false dag_id is_paused first row dags found differ rest same = rest found (cc)
+
+-- a DAG that stands otherwise is not what it was once it is paused, or not
+pub paused_apart : (dag_id : List ℕ) (is_paused : Bool) (dags : List DagRow) (row : DagRow) → dag_of dags dag_id ≡ Some row → differs row is_paused ≡ true → with_paused dags dag_id is_paused ≢ dags
+paused_apart dag_id is_paused [] row found differ same = cc
+paused_apart dag_id is_paused (first ∷ dags) row found differ same =
+    apart_by (is_of_id dag_id first) dag_id is_paused first row dags found differ (λ later. paused_apart dag_id is_paused dags row later differ) same
+
+exact_by : (b : Bool) (state : StateRows) (dag_id id : List ℕ) (is_paused paused : Bool) (row : DagRow) → differs row is_paused ≡ b → dag_of state.dags dag_id ≡ Some row → next_by (edit.DagPaused id paused) state ≡ (if b then Some (record state { dags = with_paused state.dags dag_id is_paused }) else None) → edited (edit.DagPaused id paused) state ≡ state → ⊥
+exact_by false state dag_id id is_paused paused row differ found next same = cc
+exact_by true state dag_id id is_paused paused row differ found next same =
+    let made : with_paused state.dags id paused ≡ with_paused state.dags dag_id is_paused = ap (λ (o : Option StateRows). (Rattle.std.specs.Prelude.unwrap_or o state).dags) next in
+    paused_apart dag_id is_paused state.dags row found differ (sym made ∙ ap (λ (s : StateRows). s.dags) same)
+
+-- the edit of a DAG that is paused, or not
+pub pause_exact : (state : StateRows) (dag_id : List ℕ) (is_paused : Bool) (row : DagRow) (it : Edit) → dag_of state.dags dag_id ≡ Some row → next_by it state ≡ (if differs row is_paused then Some (record state { dags = with_paused state.dags dag_id is_paused }) else None) → IsExact state it
+pause_exact state dag_id is_paused row edit.Nothing found next = ((λ no. refl), (λ same. refl))
+pause_exact state dag_id is_paused row (edit.DagPaused id paused) found next =
+    ((λ no. cc), (λ same. absurd (exact_by (differs row is_paused) state dag_id id is_paused paused row refl found next same)))

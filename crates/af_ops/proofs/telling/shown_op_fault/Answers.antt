@@ -1,0 +1,18 @@
+use Rattle.std.proofs.Common.{ap, refl}
+use Rattle.af_ops.specs.declared.answer.CallFault.TheVariants as why
+use Rattle.af_ops.specs.declared.answer.OpFault.{OpFault}
+use Rattle.af_ops.specs.Faults.{problem_of}
+use Rattle.af_ops.proofs.TellingLemmas.{told_is}
+use Rattle.af_ops.proofs.telling.shown_op_fault.Goals as goal
+
+pub returns-in_ok-detail-in-NoSuchDag : goal.returns-in_ok-detail-in-NoSuchDag
+returns-in_ok-detail-in-NoSuchDag c =
+    told_is c.args.op.now c.args.under (why.Op c.args.fault) _ c.shown_problem-in-NoSuchDag.result
+    (rw (c.in-NoSuchDag.is, c.as_str-in-NoSuchDag.ensures.value, c.in_ok-detail-in-NoSuchDag.ensures, c.id_text.ensures, c.dag.ensures) refl)
+    c.shown_problem-in-NoSuchDag.ensures
+
+pub returns-in-HistoryFull : goal.returns-in-HistoryFull
+returns-in-HistoryFull c =
+    told_is c.args.op.now c.args.under (why.Op c.args.fault) _ c.shown_problem-in-HistoryFull.result
+    (ap (λ (f : OpFault). problem_of c.args.op.now (why.Op f)) c.in-HistoryFull.is)
+    c.shown_problem-in-HistoryFull.ensures

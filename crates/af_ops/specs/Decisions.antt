@@ -1,0 +1,36 @@
+-- A verdict whose operation is worked out and not yet done.
+use Rattle.std.specs.Prelude.{◌≡◌, ◌⊎◌, List, ℕ, Option, Some, None, Result, Ok, Err, ⊤}
+use Rattle.af_sched.specs.State.{StateRows}
+use Rattle.af_ops.specs.declared.answer.CallFault.{CallFault}
+use Rattle.af_ops.specs.declared.answer.CallFault.TheVariants as why
+use Rattle.af_ops.specs.declared.answer.OpFault.TheVariants.{HistoryFull, OutOfMemory}
+use Rattle.af_ops.specs.Edits.{next_by}
+use Rattle.af_ops.specs.Prepared.{Preparation}
+use Rattle.af_ops.specs.Verdicts.{Verdict, Open, Stranger, Lacks, Refuses, Tells, Changes}
+
+-- the verdict of a reply and a next state, if there is one
+abbrev pub verdict_by : List ℕ → Option StateRows → Verdict
+verdict_by reply None = Tells reply
+verdict_by reply (Some next) = Changes reply next
+
+abbrev pub prepared_verdict : StateRows → Preparation → Verdict
+prepared_verdict state prepared = verdict_by prepared.body (next_by prepared.edit state)
+
+abbrev pub fault_verdict : CallFault → Verdict
+fault_verdict why.Unauthenticated = Stranger
+fault_verdict (why.Denied need) = Lacks need
+fault_verdict (why.Op fault) = Refuses fault
+
+-- an operation that is permitted and not refused: only there memory may be wanted
+abbrev pub IsDoing : Verdict → Type 0
+IsDoing (Open reply) = ⊤
+IsDoing Stranger = ⊥
+IsDoing (Lacks need) = ⊥
+IsDoing (Refuses fault) = fault ≡ HistoryFull
+IsDoing (Tells reply) = ⊤
+IsDoing (Changes reply next) = ⊤
+
+-- the verdict was worked out, or there was no memory to do what it permits
+abbrev pub IsDecided : StateRows → Verdict → Result Preparation CallFault → Type 0
+IsDecided state it (Ok prepared) = it ≡ prepared_verdict state prepared
+IsDecided state it (Err fault) = (it ≡ fault_verdict fault) ⊎ (IsDoing it × (fault ≡ why.Op OutOfMemory))

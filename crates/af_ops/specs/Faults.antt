@@ -1,0 +1,25 @@
+-- What is told of a fault: its status and its detail.
+use Rattle.std.specs.Prelude.{ℕ, List, [], ◌++◌, Option, Some, None, unwrap_or, codes}
+use Rattle.af_role.specs.Needs.{need_text}
+use Rattle.af_ops.specs.declared.answer.CallFault.{CallFault}
+use Rattle.af_ops.specs.declared.answer.CallFault.TheVariants as why
+use Rattle.af_ops.specs.declared.answer.OpFault.TheVariants as fault
+use Rattle.af_ops.specs.declared.op.Op.{Op}
+use Rattle.af_ops.specs.declared.status.Status.{Status}
+use Rattle.af_ops.specs.declared.status.Status.TheVariants as status
+use Rattle.af_ops.specs.Bodies.{name_of}
+use Rattle.af_ops.specs.Endpoints.{dag_of}
+use Rattle.af_ops.specs.Rows.{Problem}
+
+abbrev pub fault_of : Status → List ℕ → Option Problem
+fault_of status detail = Some record { status = status; detail = detail }
+
+-- the fault of an operation; of want of memory nothing is told here, for the connection then ends with a fixed text
+abbrev pub problem_of : Op → CallFault → Option Problem
+problem_of asked why.Unauthenticated = fault_of status.Unauthorized (codes "authentication required")
+problem_of asked (why.Denied need) = fault_of status.Forbidden (codes "missing permission " ++ need_text need (dag_of asked))
+problem_of asked (why.Op fault.BadBody) = fault_of status.BadRequest (codes "bad body")
+problem_of asked (why.Op (fault.BadMember it)) = fault_of status.BadRequest (codes "bad member: " ++ name_of it)
+problem_of asked (why.Op fault.NoSuchDag) = fault_of status.NotFound (codes "no such dag: " ++ unwrap_or (dag_of asked) [])
+problem_of asked (why.Op fault.HistoryFull) = fault_of status.InsufficientStorage (codes "history full")
+problem_of asked (why.Op fault.OutOfMemory) = None

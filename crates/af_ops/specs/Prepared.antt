@@ -1,0 +1,30 @@
+-- An operation that is worked out and not yet done.
+use Rattle.std.specs.Prelude.{◌≡◌, ◌↔◌, ◌⊎◌, ℕ, List, false, Result, Ok, Err, IsOk, ⊤}
+use Rattle.af_sched.specs.State.{StateRows, StateWithRoom}
+use Rattle.af_ops.specs.declared.edit.Edit.{Edit}
+use Rattle.af_ops.specs.declared.edit.Edit.TheVariants as edit
+use Rattle.af_ops.specs.Edits.{edited, is_edit, next_by}
+use Rattle.af_ops.specs.Effects.{Effect}
+
+-- the body of its reply, and its edit
+pub record Preparation : Type 0 where
+  pub body : List ℕ
+  pub edit : Edit
+
+-- its effect on a state
+abbrev pub done_on : StateRows → Preparation → Effect
+done_on state prepared = record { reply = prepared.body; next = next_by prepared.edit state }
+
+-- the edit takes no memory
+abbrev pub CanDo : StateWithRoom → Edit → Type 0
+CanDo state edit.Nothing = ⊤
+CanDo state (edit.DagPaused dag_id is_paused) = ⊤
+
+-- the edit changes the state exactly where there is one
+abbrev pub IsExact : StateRows → Edit → Type 0
+IsExact state it = (is_edit it ≡ false) ↔ (edited it state ≡ state)
+
+-- what is done where memory suffices, or want of memory in place of what would be done, never of another fault
+abbrev pub MemoryLast : {X E : Type 0} → E → Result X E → Result X E → Type 0
+MemoryLast memory expected (Ok x) = expected ≡ Ok x
+MemoryLast memory expected (Err fault) = (expected ≡ Err fault) ⊎ (IsOk expected × (fault ≡ memory))

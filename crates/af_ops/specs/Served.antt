@@ -1,0 +1,65 @@
+-- What is served of a verdict: what is told, and how the server stands after it.
+use Rattle.std.specs.Prelude.{◌≡◌, ℕ, List, Option, Some, None, option_map, ⊤}
+use Rattle.serde_json.specs.Written.{compact_text}
+use Rattle.af_ops.specs.declared.answer.CallFault.{CallFault}
+use Rattle.af_ops.specs.declared.answer.CallFault.TheVariants as why
+use Rattle.af_ops.specs.declared.answer.Under.{Under}
+use Rattle.af_ops.specs.declared.op.Op.{Op}
+use Rattle.af_ops.specs.declared.served.Served.{Served}
+use Rattle.af_ops.specs.declared.served.Served.TheVariants as served
+use Rattle.af_ops.specs.declared.shown_answer.Shown.{Shown}
+use Rattle.af_ops.specs.declared.status.Status.{Status}
+use Rattle.af_ops.specs.declared.status.Status.TheVariants as status
+use Rattle.af_ops.specs.Faults.{problem_of}
+use Rattle.af_ops.specs.Fields.{object_of}
+use Rattle.af_ops.specs.Rows.{Problem, problem_fields}
+use Rattle.af_ops.specs.Standings.{StandingRows, with_entry}
+use Rattle.af_ops.specs.Verdicts.{Verdict, Open, Stranger, Lacks, Refuses, Tells, Changes}
+
+-- what was decided under a policy version names it, and how many entries there are
+abbrev pub told_under : Under → Status → List ℕ → Shown
+told_under under status body = record { status = status; version = Some under.version; seq = Some under.seq; body = Some body }
+
+-- what is decided under no policy
+abbrev pub told_openly : List ℕ → Shown
+told_openly body = record { status = status.Ok; version = None; seq = None; body = Some body }
+
+abbrev pub problem_told : Under → Problem → Shown
+problem_told under problem = told_under under problem.status (compact_text (object_of (problem_fields problem)))
+
+-- what is told of a fault
+abbrev pub fault_told : Op → Under → CallFault → Option Shown
+fault_told asked under fault = option_map (problem_told under) (problem_of asked fault)
+
+-- what is told of a verdict; the answer to a change counts its own entry
+abbrev pub answer_of : Op → Under → Verdict → Option Shown
+answer_of asked under (Open reply) = Some (told_openly reply)
+answer_of asked under Stranger = fault_told asked under why.Unauthenticated
+answer_of asked under (Lacks need) = fault_told asked under (why.Denied need)
+answer_of asked under (Refuses fault) = fault_told asked under (why.Op fault)
+answer_of asked under (Tells reply) = Some (told_under under status.Ok reply)
+answer_of asked under (Changes reply next) = Some (told_under (with_entry under) status.Ok reply)
+
+-- how the server stands after a verdict
+abbrev pub left_by : Verdict → StandingRows → StandingRows
+left_by (Open reply) standing = standing
+left_by Stranger standing = standing
+left_by (Lacks need) standing = standing
+left_by (Refuses fault) standing = standing
+left_by (Tells reply) standing = standing
+left_by (Changes reply next) standing = record { under = with_entry standing.under; state = next }
+
+abbrev pub IsChange : Verdict → Type 0
+IsChange (Open reply) = ⊥
+IsChange Stranger = ⊥
+IsChange (Lacks need) = ⊥
+IsChange (Refuses fault) = ⊥
+IsChange (Tells reply) = ⊥
+IsChange (Changes reply next) = ⊤
+
+-- The verdict was served: told, and all that it changes is done; or there was no memory, and nothing is done; or a change is
+-- done, and there was no memory for its reply.
+abbrev pub IsServed : Op → Verdict → StandingRows → Served → StandingRows → Type 0
+IsServed asked it old (served.Shown shown) new = (answer_of asked old.under it ≡ Some shown) × (new ≡ left_by it old)
+IsServed asked it old served.NothingDone new = new ≡ old
+IsServed asked it old served.ReplyLost new = IsChange it × (new ≡ left_by it old)

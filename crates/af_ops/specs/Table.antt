@@ -1,0 +1,111 @@
+-- The table of operations (Airflow 2, "Stable REST API" and "Access Control": the permissions of each endpoint): for each
+-- operation its method, its path, and what it requires of its user, in the order in which it is tested.
+use Rattle.std.specs.Prelude.{ℕ, List, [], ◌∷◌, ◌++◌, Bool, true, false, ◌&&◌, Option, is_some, nat_eq, codes}
+use Rattle.std.specs.List.{find}
+use Rattle.std.specs.Ordering.{on}
+use Rattle.af_role.specs.declared.action.Action.{Action}
+use Rattle.af_role.specs.declared.action.Action.TheVariants.{Read, Edit}
+use Rattle.af_role.specs.declared.resource.ResourceKind.TheVariants.{Dags}
+use Rattle.af_role.specs.declared.need.Need.{Need}
+use Rattle.af_ops.specs.declared.method.Method.{Method}
+use Rattle.af_ops.specs.declared.method.Method.TheVariants.{Get, Post, Patch, Delete}
+use Rattle.af_ops.specs.declared.methods.Methods.{Methods}
+use Rattle.af_ops.specs.declared.place.Place.{Place}
+use Rattle.af_ops.specs.declared.place.Place.TheVariants as place
+use Rattle.af_ops.specs.declared.endpoint.Endpoint.{Endpoint}
+use Rattle.af_ops.specs.declared.endpoint.Endpoint.TheVariants as endpoint
+use Rattle.af_ops.specs.Methods.{same_method}
+
+-- ---- paths
+
+-- what stands between two slashes of a path: this text, or any text that is not empty, a part with this name
+pub data Segment : Type 0 where
+  Text : (text : List ℕ) → Segment
+  Part : (name : List ℕ) → Segment
+
+abbrev pub api : List Segment → List Segment
+api rest = Text (codes "api") ∷ Text (codes "v1") ∷ rest
+
+abbrev pub segments_of : Place → List Segment
+segments_of place.Version = api (Text (codes "version") ∷ [])
+segments_of place.Dags = api (Text (codes "dags") ∷ [])
+segments_of place.Dag = api (Text (codes "dags") ∷ Part (codes "dag_id") ∷ [])
+
+-- how a path is spelled, with its parts in braces
+abbrev pub spelled : List Segment → List ℕ
+spelled [] = []
+spelled (Text text ∷ rest) = 47 ∷ (text ++ spelled rest)
+spelled (Part name ∷ rest) = 47 ∷ 123 ∷ (name ++ 125 ∷ spelled rest)
+
+abbrev pub places : List Place
+places = place.Version ∷ place.Dags ∷ place.Dag ∷ []
+
+abbrev pub place_rank : Place → ℕ
+place_rank place.Version = 0
+place_rank place.Dags = 1
+place_rank place.Dag = 2
+
+abbrev pub same_place : Place → Place → Bool
+same_place = on place_rank nat_eq
+
+-- ---- requirements
+
+-- an action on `DAGs` at the DAG that the path names
+abbrev pub at_dag : Action → Need
+at_dag action = record { action = action; kind = Dags; at_dag = true }
+
+-- an action on `DAGs`, or on at least one DAG that is there
+abbrev pub at_some_dag : Action → Need
+at_some_dag action = record { action = action; kind = Dags; at_dag = false }
+
+-- ---- the table
+
+-- an open operation asks for no token and is decided under no policy
+pub record RouteRow : Type 0 where
+  pub method : Method
+  pub place : Place
+  pub needs : List Need
+  pub is_open : Bool
+
+abbrev pub opened : Method → Place → RouteRow
+opened method place = record { method = method; place = place; needs = []; is_open = true }
+
+abbrev pub needing : Method → Place → List Need → RouteRow
+needing method place needs = record { method = method; place = place; needs = needs; is_open = false }
+
+abbrev pub route_of : Endpoint → RouteRow
+route_of endpoint.Version = opened Get place.Version
+route_of endpoint.ListDags = needing Get place.Dags (at_some_dag Read ∷ [])
+route_of endpoint.GetDag = needing Get place.Dag (at_dag Read ∷ [])
+route_of endpoint.PauseDag = needing Patch place.Dag (at_dag Edit ∷ [])
+
+abbrev pub endpoints : List Endpoint
+endpoints = endpoint.Version ∷ endpoint.ListDags ∷ endpoint.GetDag ∷ endpoint.PauseDag ∷ []
+
+-- ---- what is read off it
+
+abbrev pub needs_of : Endpoint → List Need
+needs_of it = (route_of it).needs
+
+abbrev pub is_open : Endpoint → Bool
+is_open it = (route_of it).is_open
+
+-- whether a row of the table has this method and this path
+abbrev pub is_route : Method → Place → Endpoint → Bool
+is_route method place it = same_method (route_of it).method method && same_place (route_of it).place place
+
+-- the operation that a method names at a path
+abbrev pub endpoint_at : Method → Place → Option Endpoint
+endpoint_at method place = find (is_route method place) endpoints
+
+abbrev pub has_method : Place → Method → Bool
+has_method place method = is_some (endpoint_at method place)
+
+-- the methods that a path has
+abbrev pub methods_at : Place → Methods
+methods_at place = record {
+  get = has_method place Get;
+  post = has_method place Post;
+  patch = has_method place Patch;
+  delete = has_method place Delete;
+}

@@ -1,0 +1,13 @@
+ghost use Rattle.std.specs.Prelude.{◌≡◌};
+ghost use Rattle.af_ops.specs.Bodies.{name_of};
+
+use crate::body_fault::Member;
+
+/// Its name in a body.
+pub fn name_of(member: Member) -> &'static str
+    ensures { result.now ≡ name_of member }
+{
+    match member {
+        Member::IsPaused => "is_paused",
+    }
+}

@@ -1,0 +1,3 @@
+// Each operation: what it answers and what it edits. All memory is taken here.
+pub(crate) mod dags;
+pub(crate) mod shared;

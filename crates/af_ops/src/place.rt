@@ -1,0 +1,89 @@
+ghost use Rattle.std.specs.Prelude.{◌≡◌, map};
+ghost use Rattle.af_ops.specs.Table.{segments_of, spelled};
+ghost use Rattle.af_ops.specs.Segments.{seen};
+
+use crate::segment::Segment;
+
+static VERSION: [Segment; 3] = [
+    Segment {
+        text: "api",
+        is_part: false,
+    },
+    Segment {
+        text: "v1",
+        is_part: false,
+    },
+    Segment {
+        text: "version",
+        is_part: false,
+    },
+];
+
+static DAGS: [Segment; 3] = [
+    Segment {
+        text: "api",
+        is_part: false,
+    },
+    Segment {
+        text: "v1",
+        is_part: false,
+    },
+    Segment {
+        text: "dags",
+        is_part: false,
+    },
+];
+
+static DAG: [Segment; 4] = [
+    Segment {
+        text: "api",
+        is_part: false,
+    },
+    Segment {
+        text: "v1",
+        is_part: false,
+    },
+    Segment {
+        text: "dags",
+        is_part: false,
+    },
+    Segment {
+        text: "dag_id",
+        is_part: true,
+    },
+];
+
+/// A path of the API. Operations of several methods may have one path.
+#[derive(Clone, Copy, Debug, PartialEq, Eq)]
+pub enum Place {
+    /// `/api/v1/version`
+    Version,
+    /// `/api/v1/dags`
+    Dags,
+    /// `/api/v1/dags/{dag_id}`
+    Dag,
+}
+
+impl Place {
+    /// Its text, with its parts in braces, as `matchit` spells them.
+    pub fn text(self) -> &'static str
+        ensures { result.now ≡ spelled (segments_of self) }
+    {
+        match self {
+            Place::Version => "/api/v1/version",
+            Place::Dags => "/api/v1/dags",
+            Place::Dag => "/api/v1/dags/{dag_id}",
+        }
+    }
+
+    /// What stands between its slashes.
+    pub fn segments(self) -> &'static [Segment]
+        ensures { map seen result.now ≡ segments_of self }
+    {
+        match self {
+            Place::Version => &VERSION,
+            Place::Dags => &DAGS,
+            Place::Dag => &DAG,
+        }
+    }
+}

@@ -1,0 +1,46 @@
+ghost use Rattle.std.specs.Prelude.{◌≡◌, IfOk};
+ghost use Rattle.af_ops.specs.declared.answer.OpFault.TheVariants.{OutOfMemory};
+ghost use Rattle.af_ops.specs.Effects.{effect_of};
+ghost use Rattle.af_ops.specs.Prepared.{CanDo, IsExact, MemoryLast, done_on};
+ghost use Rattle.af_ops.specs.Readings.{seen};
+
+use crate::answer::OpFault;
+use crate::edit::Edit;
+use crate::op::Op;
+use crate::operations::dags::{dags_text, got_dag, paused_dag};
+use crate::prepared::Prepared;
+use crate::product::Product;
+use crate::row::row_text;
+use af_names::Instant;
+use af_policy::Reader;
+use af_sched::State;
+use std::alloc::Global;
+
+/// Works out what a permitted operation does for a reader, at a moment, and takes all the memory for it, that for the text of
+/// its reply too. It changes nothing but that spare room may grow. The faults are those of `OpFault`, in its order;
+/// `OutOfMemory` only where a growth was refused, and no other fault applies.
+pub fn prepare<R: Reader>(
+    alloc: Global,
+    state: &mut State,
+    op: &Op,
+    reader: &R,
+    now: Instant,
+) -> Result<Prepared, OpFault>
+    ensures told { MemoryLast OutOfMemory (effect_of (R.reads reader.now) state.old.rows op.now now) (seen (done_on state.old.rows) result) }
+    ensures room { IfOk result (λ prepared. CanDo state.new prepared.edit) }
+    ensures exact { IfOk result (λ prepared. IsExact state.old.rows prepared.edit) }
+    ensures rows { state.new.rows ≡ state.old.rows }
+{
+    match op {
+        Op::Version => {
+            let body = row_text(alloc, &Product)?;
+            Ok(Prepared::of(body, Edit::Nothing))
+        }
+        Op::ListDags => {
+            let body = dags_text(alloc, state.dags(), reader)?;
+            Ok(Prepared::of(body, Edit::Nothing))
+        }
+        Op::GetDag(dag_id) => got_dag(alloc, state, dag_id),
+        Op::PauseDag(dag_id, input) => paused_dag(alloc, state, dag_id, input),
+    }
+}
