@@ -35,6 +35,7 @@ pub use routes::Routes;
 pub use service::Service;
 pub use serving::serve;
 pub use stream::{Failed, Sink, Source};
+pub use writing::write_all;
 
 #[cfg(test)]
 mod tests;

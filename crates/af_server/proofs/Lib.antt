@@ -1,5 +1,0 @@
-mod ConversationLemmas
-mod VerdictLemmas
-mod MemberLemmas
-mod ConfigurationLemmas
-mod JsonLemmas

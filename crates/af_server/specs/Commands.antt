@@ -1,12 +1,8 @@
--- What the words that the program is given ask for, and the status that it ends with (this product's own rule).
-use Rattle.std.specs.Prelude.{◌≡◌, ℕ, List, [], ◌∷◌, codes, bytes_eq, string_bytes, Option, Some, None, Result, Ok, Err, IsErr, MatchBool}
+-- What the words that the program is given ask for (this product's own rule).
+use Rattle.std.specs.Prelude.{◌≡◌, ℕ, List, [], ◌∷◌, codes, bytes_eq, string_bytes, Option, Some, None, Ok, IsErr, MatchBool}
 use Rattle.af_names.specs.Instants.{instant_of}
-use Rattle.af_http.specs.declared.ended.Ended.{Ended}
-use Rattle.af_http.specs.declared.ended.Ended.TheVariants.{Closed, ReadFault, WriteFault, Turns, NoMemory}
-use Rattle.af_http.specs.declared.ended.Ended.TheVariants as ended
 use Rattle.af_server.specs.declared.command.Command.{Command}
-use Rattle.af_server.specs.declared.reason.Reason.{Reason}
-use Rattle.af_server.specs.declared.command.Command.TheVariants.{Once, Refused, Usage}
+use Rattle.af_server.specs.declared.command.Command.TheVariants.{Once, Usage}
 
 -- the three words after the program's name, where there are no more and no fewer
 abbrev pub three_words : List (List ℕ) → Option (List ℕ × List ℕ × List ℕ)
@@ -17,7 +13,6 @@ three_words words = None
 -- program is called is asked for
 abbrev pub AsksOnce : List ℕ → List ℕ → Command → Type 0
 AsksOnce path moment (Once config now) = (string_bytes config ≡ path) × (instant_of moment ≡ Ok now)
-AsksOnce path moment (Refused reason) = ⊥
 AsksOnce path moment Usage = IsErr (instant_of moment)
 
 -- `once`, a path and a moment; of other words how the program is called is asked for
@@ -29,14 +24,3 @@ AsksThree (Some words) command =
 -- what the words ask for, of which the first is the program's name
 abbrev pub Asks : List (List ℕ) → Command → Type 0
 Asks words command = AsksThree (three_words words) command
-
--- the status that the program ends with: 0 where the connection ended as connections do, 1 where it was cut short, 3 where
--- the configuration is refused
-abbrev pub status_of : Result Ended Reason → ℕ
-status_of (Ok Closed) = 0
-status_of (Ok ReadFault) = 1
-status_of (Ok WriteFault) = 1
-status_of (Ok (ended.Refused status)) = 1
-status_of (Ok Turns) = 1
-status_of (Ok NoMemory) = 1
-status_of (Err reason) = 3

@@ -1,23 +1,23 @@
--- What a whole configuration says, from its bytes: the roles, the users and the DAGs in this order, rows in theirs, and
--- the first fault decides the reason (this product's own rule).
-use Rattle.std.specs.Prelude.{ℕ, ◌*◌, List, [], length, nat_lt, codes, Option, Some, None, is_some, ok_or, Result, Ok, Err, if◌then◌else◌}
-use Rattle.std.specs.Str.{is_utf8}
+-- What a whole configuration says, from its bytes: the roles, the users, the pools and the DAGs in this order, rows in
+-- theirs, and the first fault decides the reason (this product's own rule).
+use Rattle.std.specs.Prelude.{ℕ, ◌*◌, List, length, nat_lt, codes, is_some, ok_or, Result, Ok, Err, if◌then◌else◌}
 use Rattle.serde_json.specs.Data.{Data}
 use Rattle.serde_json.specs.Find.{as_object}
-use Rattle.serde_json.specs.Read.{read as read_text}
 use Rattle.af_policy.specs.Rows.{PolicyRows, has_admin}
 use Rattle.af_policy.specs.Drafts.{added_role, added_user, opening}
 use Rattle.af_policy.specs.declared.row_fault.RowFault.{RowFault}
-use Rattle.af_ops.specs.declared.state.StateFault.{StateFault}
-use Rattle.af_ops.specs.Rows.{StateRows, with_dag}
-use Rattle.af_ops.specs.States.{add_fault}
+use Rattle.af_sched.specs.Scripts.{ScriptRow}
+use Rattle.af_sched.specs.State.{StateRows}
+use Rattle.af_base.specs.Parsed.{json_of}
+use Rattle.af_base.specs.Readings.{◌>>=◌, taking}
 use Rattle.af_server.specs.declared.reason.Reason.{Reason}
 use Rattle.af_server.specs.declared.reason.Reason.TheVariants.{Admin, Shape, Syntax, Unreadable}
-use Rattle.af_server.specs.Conversations.{DeskRows}
+use Rattle.af_server.specs.Accounts.{role_in, user_in}
+use Rattle.af_server.specs.DagRows.{dag_taken}
+use Rattle.af_server.specs.Drafts.{Draft, opening_draft}
 use Rattle.af_server.specs.Members.{optional_list_in}
-use Rattle.af_server.specs.Readings.{◌>>=◌, taking}
-use Rattle.af_server.specs.Reasons.{row_reason, state_reason}
-use Rattle.af_server.specs.Rows.{dag_in, role_in, user_in}
+use Rattle.af_server.specs.PoolRows.{pool_taken}
+use Rattle.af_server.specs.Reasons.{row_reason}
 
 -- the policy with one more role or user, or why there is none
 abbrev pub policy_or : Result PolicyRows RowFault → Result PolicyRows Reason
@@ -43,42 +43,37 @@ policy_in config = do
   with_users ← taking user_taken with_roles users
   with_admin with_users
 
--- the state with one more DAG, or why there is none
-abbrev pub state_or : Option StateFault → StateRows → Result StateRows Reason
-state_or None state = Ok state
-state_or (Some fault) state = Err (state_reason fault)
+-- the default pool, then the pools and the DAGs that are listed
+abbrev pub draft_in : Data → Result Draft Reason
+draft_in config = do
+  pools ← optional_list_in (codes "pools") config
+  with_pools ← taking pool_taken opening_draft pools
+  dags ← optional_list_in (codes "dags") config
+  taking dag_taken with_pools dags
 
-abbrev pub dag_taken : StateRows → Data → Result StateRows Reason
-dag_taken state row =
-    dag_in row >>= (λ dag. state_or (add_fault dag.dag_id state) (record { dags = with_dag dag state.dags }))
-
-abbrev pub no_dags : StateRows
-no_dags = record { dags = [] }
-
--- the DAGs that are listed
-abbrev pub state_in : Data → Result StateRows Reason
-state_in config = optional_list_in (codes "dags") config >>= (λ rows. taking dag_taken no_dags rows)
+-- who may do what, what there is, and how the tries of tasks end that say it
+pub record ConfigurationRows : Type 0 where
+  pub policy : PolicyRows
+  pub state : StateRows
+  pub scripts : List ScriptRow
 
 abbrev pub object_or : Data → Result Data Reason
 object_or value = if is_some (as_object value) then Ok value else Err Shape
 
 -- what a JSON value says: it has to be an object
-abbrev pub desk_in : Data → Result DeskRows Reason
-desk_in value = do
+abbrev pub configuration_in : Data → Result ConfigurationRows Reason
+configuration_in value = do
   config ← object_or value
   policy ← policy_in config
-  state ← state_in config
-  Ok (record { policy = policy; state = state })
-
--- the JSON value of which the bytes are the text, in UTF-8 (RFC 8259)
-abbrev pub json_of : List ℕ → Option Data
-json_of bytes = if is_utf8 bytes then read_text bytes else None
+  draft ← draft_in config
+  Ok (record { policy = policy; state = draft.state; scripts = draft.scripts })
 
 -- 16 MiB
 abbrev pub longest : ℕ
 longest = 16 * 1024 * 1024
 
 -- what the bytes of a configuration say, or why they are refused
-abbrev pub configuration_of : List ℕ → Result DeskRows Reason
+abbrev pub configuration_of : List ℕ → Result ConfigurationRows Reason
 configuration_of bytes =
-    if nat_lt longest (length bytes) then Err Unreadable else (ok_or (json_of bytes) Syntax >>= desk_in)
+    if nat_lt longest (length bytes) then Err Unreadable
+    else (ok_or (json_of bytes) Syntax >>= configuration_in)

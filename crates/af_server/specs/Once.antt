@@ -1,18 +1,31 @@
 -- One connection under a configuration: its bytes decide what the connection is under, or why there is none (this product's
 -- own rule).
-use Rattle.std.specs.Prelude.{◌≡◌, ◌⊎◌, ℕ, Bool, List, Result, Ok, Err}
+use Rattle.std.specs.Prelude.{◌≡◌, ◌⊎◌, ℕ, List, Result, Ok, Err}
+use Rattle.af_http.specs.Connections.{Connects}
+use Rattle.af_http.specs.Streams.{Given, Taken}
 use Rattle.af_http.specs.declared.ended.Ended.{Ended}
 use Rattle.af_server.specs.declared.reason.Reason.{Reason}
 use Rattle.af_server.specs.declared.reason.Reason.TheVariants.{Memory}
-use Rattle.af_server.specs.Configurations.{configuration_of}
-use Rattle.af_server.specs.Conversations.{Connection, DeskRows}
+use Rattle.af_server.specs.Configurations.{ConfigurationRows, configuration_of}
+use Rattle.af_server.specs.Desks.{Decides, DeskRows, opened}
+use Rattle.af_server.specs.Files.{CameWhole, IsFileFault}
 
-module _ {R W : Type 0} (given : R → List ℕ) (is_ended : R → Bool) (reads read_failures : R → ℕ) (taken : W → List ℕ) (write_failures : W → ℕ) where
-  -- a connection under the policy and the DAGs that the bytes say; where they are refused, or there is no memory to read
-  -- them, nothing is read and nothing is written
-  abbrev pub IsOnce : List ℕ → R → R → W → W → Result Ended Reason → Type 0
-  IsOnce bytes reader reader' writer writer' (Ok ended) =
-      (desk : DeskRows) × (configuration_of bytes ≡ Ok desk)
-      × Connection given is_ended reads read_failures taken write_failures desk reader reader' writer writer' ended
-  IsOnce bytes reader reader' writer writer' (Err reason) =
-      ((configuration_of bytes ≡ Err reason) ⊎ (reason ≡ Memory)) × (reader' ≡ reader) × (writer' ≡ writer)
+-- nothing was read, and nothing was written
+abbrev pub IsUntouched : Given → Given → Taken → Taken → Type 0
+IsUntouched before after start finish = (after ≡ before) × (finish ≡ start)
+
+-- The exchanges of a connection, one after another, each answered by the verdict on the state that the one before left, from
+-- the desk under a configuration on, at a moment. Where the bytes of the configuration are refused, or there is no memory to
+-- read them, nothing is read and nothing is written.
+abbrev pub IsOnce : List ℕ → ℕ → Given → Given → Taken → Taken → Result Ended Reason → Type 0
+IsOnce bytes now before after start finish (Ok ended) =
+    (configuration : ConfigurationRows) × (configuration_of bytes ≡ Ok configuration)
+    × ((left : DeskRows) × Connects Decides before after start finish (opened configuration now) left ended)
+IsOnce bytes now before after start finish (Err reason) =
+    ((configuration_of bytes ≡ Err reason) ⊎ (reason ≡ Memory)) × IsUntouched before after start finish
+
+-- The same under the configuration that a file holds; where the file can't be had whole, the reason is told of that.
+abbrev pub IsOnceOf : Given → Given → ℕ → Given → Given → Taken → Taken → Result Ended Reason → Type 0
+IsOnceOf file file' now before after start finish outcome =
+    ((bytes : List ℕ) × CameWhole file file' bytes × IsOnce bytes now before after start finish outcome)
+    ⊎ ((reason : Reason) × IsFileFault file file' reason × (outcome ≡ Err reason) × IsUntouched before after start finish)

@@ -4,10 +4,14 @@ use Rattle.af_names.specs.declared.name_error.NameError.{NameError}
 use Rattle.af_names.specs.declared.name_error.NameError.TheVariants as name
 use Rattle.af_policy.specs.declared.row_fault.RowFault.{RowFault}
 use Rattle.af_policy.specs.declared.row_fault.RowFault.TheVariants as row
-use Rattle.af_ops.specs.declared.state.StateFault.{StateFault}
-use Rattle.af_ops.specs.declared.state.StateFault.TheVariants as state
+use Rattle.af_graph.specs.declared.dag_fault.DagFault.{DagFault}
+use Rattle.af_graph.specs.declared.dag_fault.DagFault.TheVariants as dag
+use Rattle.af_pool.specs.declared.fault.PoolFault.{PoolFault}
+use Rattle.af_pool.specs.declared.fault.PoolFault.TheVariants as pool
+use Rattle.af_sched.specs.declared.add_dag_fault.AddDagFault.{AddDagFault}
+use Rattle.af_sched.specs.declared.add_dag_fault.AddDagFault.TheVariants as add
 use Rattle.af_server.specs.declared.reason.Reason.{Reason}
-use Rattle.af_server.specs.declared.reason.Reason.TheVariants.{Unreadable, Syntax, Shape, Name, Duplicate, Role, Action, Pair, Admin, Schedule, Limit, Memory}
+use Rattle.af_server.specs.declared.reason.Reason.TheVariants.{Unreadable, Syntax, Shape, Name, Duplicate, Role, Action, Pair, Admin, Pool, Graph, Schedule, Limit, Memory}
 
 abbrev pub reason_text : Reason → List ℕ
 reason_text Unreadable = codes "unreadable"
@@ -19,6 +23,8 @@ reason_text Role = codes "role"
 reason_text Action = codes "action"
 reason_text Pair = codes "pair"
 reason_text Admin = codes "admin"
+reason_text Pool = codes "pool"
+reason_text Graph = codes "graph"
 reason_text Schedule = codes "schedule"
 reason_text Limit = codes "limit"
 reason_text Memory = codes "memory"
@@ -36,8 +42,28 @@ row_reason row.Exists = Duplicate
 row_reason row.TooMany = Limit
 row_reason row.OutOfMemory = Memory
 
+-- a pool that is not added, or does not get its slots
+abbrev pub pool_reason : PoolFault → Reason
+pool_reason pool.BadSlots = Limit
+pool_reason pool.NoSuchPool = Pool
+pool_reason pool.Exists = Duplicate
+pool_reason pool.DefaultPool = Pool
+pool_reason pool.InUse = Pool
+pool_reason pool.Full = Limit
+pool_reason pool.OutOfMemory = Memory
+
+-- tasks that make no DAG
+abbrev pub graph_reason : DagFault → Reason
+graph_reason dag.NoTask = Graph
+graph_reason dag.TooMany = Graph
+graph_reason (dag.Duplicate task) = Graph
+graph_reason (dag.UnknownUpstream task) = Graph
+graph_reason (dag.Cycle task) = Graph
+graph_reason (dag.BadSlots task) = Graph
+graph_reason dag.OutOfMemory = Memory
+
 -- a DAG that is not added
-abbrev pub state_reason : StateFault → Reason
-state_reason state.Exists = Duplicate
-state_reason state.TooMany = Limit
-state_reason state.OutOfMemory = Memory
+abbrev pub dag_reason : AddDagFault → Reason
+dag_reason add.Exists = Duplicate
+dag_reason add.Full = Limit
+dag_reason add.OutOfMemory = Memory

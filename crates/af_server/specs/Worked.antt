@@ -1,40 +1,90 @@
 -- What a JSON text says as a configuration, and rows of DAGs as JSON, for worked values.
-use Rattle.std.specs.Prelude.{ℕ, List, [], ◌∷◌, codes, Option, option_map, Result, false}
+use Rattle.std.specs.Prelude.{ℕ, pos, List, [], ◌∷◌, codes, Option, None, option_map, Result, true, false}
 use Rattle.serde_json.specs.Data.{Data, string, array, object, Items, no_items, item, no_members, member}
 use Rattle.serde_json.specs.Read.{read as read_text}
+use Rattle.af_graph.specs.declared.rule.Rule.TheVariants.{AllSuccess}
+use Rattle.af_graph.specs.declared.task_spec.TaskSpec.{TaskSpec}
 use Rattle.af_policy.specs.Drafts.{opening}
+use Rattle.af_pool.specs.Pools.{default_name}
+use Rattle.af_pool.specs.declared.pool.Pool.{Pool}
+use Rattle.af_sched.specs.State.{StateRows}
+use Rattle.af_sched.specs.declared.dag_row.DagRow.{DagRow}
 use Rattle.af_server.specs.declared.reason.Reason.{Reason}
-use Rattle.af_server.specs.Configurations.{desk_in}
-use Rattle.af_server.specs.Conversations.{DeskRows}
+use Rattle.af_server.specs.Configurations.{ConfigurationRows, configuration_in}
 
 -- none where it is no JSON
-abbrev pub said : List ℕ → Option (Result DeskRows Reason)
-said text = option_map desk_in (read_text text)
-
-abbrev pub dag : List ℕ → Data
-dag id = object (member (codes "dag_id") (string id) no_members)
-
--- with one member more
-abbrev pub dag_with : List ℕ → List ℕ → Data → Data
-dag_with id name value = object (member (codes "dag_id") (string id) (member name value no_members))
+abbrev pub said : List ℕ → Option (Result ConfigurationRows Reason)
+said text = option_map configuration_in (read_text text)
 
 abbrev pub items : List Data → Items
 items [] = no_items
 items (value ∷ values) = item value (items values)
 
+abbrev pub task : Data
+task = object (member (codes "task_id") (string (codes "t")) no_members)
+
+-- with one member more
+abbrev pub task_with : List ℕ → Data → Data
+task_with name value = object (member (codes "task_id") (string (codes "t")) (member name value no_members))
+
+abbrev pub dag_of_tasks : List ℕ → List Data → Data
+dag_of_tasks id tasks =
+    object (member (codes "dag_id") (string id) (member (codes "tasks") (array (items tasks)) no_members))
+
+abbrev pub dag : List ℕ → Data
+dag id = dag_of_tasks id (task ∷ [])
+
+-- with one member more
+abbrev pub dag_with : List ℕ → List ℕ → Data → Data
+dag_with id name value =
+    object (member (codes "dag_id") (string id) (member name value (member (codes "tasks") (array (items (task ∷ []))) no_members)))
+
 abbrev pub dags : List Data → Data
 dags rows = object (member (codes "dags") (array (items rows)) no_members)
+
+abbrev pub pools : List Data → Data
+pools rows = object (member (codes "pools") (array (items rows)) no_members)
+
+abbrev pub pool : List ℕ → Data → Data
+pool name slots = object (member (codes "name") (string name) (member (codes "slots") slots no_members))
+
+-- a task of which nothing but its id is said
+abbrev pub task_row : TaskSpec
+task_row = record {
+  task_id = codes "t";
+  upstream = [];
+  pool = default_name;
+  pool_slots = 1;
+  priority_weight = pos 1;
+  retries = 0;
+  retry_delay = 300;
+  trigger_rule = AllSuccess;
+}
+
+abbrev pub dag_row : List ℕ → DagRow
+dag_row id = record {
+  dag = record { dag_id = id; tasks = task_row ∷ []; schedule = None; catchup = true; max_active_runs = 16 };
+  is_paused = false;
+  cursor = None;
+}
+
+abbrev pub default_pool : ℕ → Pool
+default_pool slots = record { name = default_name; slots = slots }
+
+abbrev pub state_of : List DagRow → List Pool → StateRows
+state_of dags pools = record { dags = dags; runs = []; next_run = 1; pools = pools }
 
 -- one user, who is an administrator, beside the default roles, and one DAG
 abbrev pub digest : List ℕ
 digest =
     140 ∷ 105 ∷ 118 ∷ 229 ∷ 181 ∷ 65 ∷ 4 ∷ 21 ∷ 189 ∷ 233 ∷ 8 ∷ 189 ∷ 77 ∷ 238 ∷ 21 ∷ 223 ∷ 177 ∷ 103 ∷ 169 ∷ 200 ∷ 115 ∷ 252 ∷ 75 ∷ 184 ∷ 168 ∷ 31 ∷ 111 ∷ 42 ∷ 180 ∷ 72 ∷ 169 ∷ 24 ∷ []
 
-abbrev pub desk : DeskRows
-desk = record {
+abbrev pub configuration : ConfigurationRows
+configuration = record {
   policy = record {
     users = record { name = codes "u"; digest = digest; roles = codes "Admin" ∷ [] } ∷ [];
     roles = opening.roles;
   };
-  state = record { dags = record { dag_id = codes "a"; is_paused = false; max_active_runs = 16 } ∷ [] };
+  state = state_of (dag_row (codes "a") ∷ []) (default_pool 128 ∷ []);
+  scripts = [];
 }

@@ -1,21 +1,31 @@
-// The configuration: a JSON object of roles, users and DAGs.
-ghost use Rattle.std.specs.Prelude.{◌≡◌, ◌<◌, length, Err, IfOk, ok_or};
+// The configuration: a JSON object of roles, users, pools and DAGs.
+ghost use Rattle.std.specs.Prelude.{◌≡◌, ◌≤◌, ◌<◌, length, Err, IfOk, ok_or, is_some, true};
+ghost use Rattle.serde_json.specs.Find.{as_object};
 ghost use Rattle.serde_json.specs.View.{view};
 ghost use Rattle.af_policy.specs.Rows.{IsPolicy};
-ghost use Rattle.af_ops.specs.Rows.{AreDags};
-ghost use Rattle.af_server.specs.Readings.{OrMemory};
-ghost use Rattle.af_server.specs.Members.{seen};
-ghost use Rattle.af_server.specs.Configurations.{configuration_of, desk_in, json_of, longest};
+ghost use Rattle.af_sched.specs.State.{AreRows};
+ghost use Rattle.af_base.specs.Parsed.{json_of};
+ghost use Rattle.af_base.specs.Readings.{OrMemory, seen};
+ghost use Rattle.af_server.specs.declared.reason.Reason.{Reason};
+ghost use Rattle.af_server.specs.Configurations.{configuration_in, configuration_of, longest};
 
 mod dags;
+mod draft;
 mod lists;
-mod names;
+mod pools;
 mod roles;
+mod rules;
+mod schedules;
+mod scripts;
+mod tasks;
+mod upstream;
 mod users;
 
 use crate::reason::Reason;
-use af_ops::State;
+use af_base::json_in;
 use af_policy::Policy;
+use af_sched::{Script, State};
+use draft::StateDraft;
 use serde_json::Value;
 use std::alloc::Global;
 use std::marker::Model;
@@ -23,29 +33,36 @@ use std::marker::Model;
 /// How long a configuration may be, in bytes.
 pub const LONGEST: usize = 16 * 1024 * 1024;
 
-/// What a configuration says: who may do what, and which DAGs there are.
+/// What a configuration says: who may do what, what there is, and how the tries of tasks end that say it.
 #[derive(Drop)]
 pub struct Configuration {
     pub policy: Policy,
     pub state: State,
+    /// Nothing runs them yet.
+    pub scripts: Vec<Script>,
 }
 
 impl Model for Configuration {
-    ghost use Rattle.af_server.specs.Conversations.{DeskRows};
+    ghost use Rattle.af_server.specs.Configurations.{ConfigurationRows};
 
-    ghost Value = { DeskRows };
+    ghost Value = { ConfigurationRows };
 
-    ghost view = { λ configuration. record { policy = configuration.policy; state = configuration.state } };
+    ghost view = { λ configuration. record {
+      policy = configuration.policy;
+      state = configuration.state.rows;
+      scripts = configuration.scripts.items;
+    } };
 }
 
 impl Configuration {
-    /// Reads a configuration. The lists are taken in order, roles, users and DAGs, and rows in theirs; the first fault
-    /// decides the reason. Of a row, its members are read first, in order (kind, then name, then limits), and then its
-    /// own faults are looked for. `Memory` comes only of bytes that are not too long.
+    /// Reads a configuration. The lists are taken in order, roles, users, pools and DAGs, and rows in theirs; the first
+    /// fault decides the reason. Of a row, its members are read first, in order (kind, then name, then limits), and then
+    /// its own faults are looked for. `Memory` comes only of bytes that are not too long, where a growth was refused before
+    /// a fault was met.
     pub fn read(alloc: Global, bytes: &[u8]) -> Result<Configuration, Reason>
-        ensures read { OrMemory (configuration_of bytes.now) result }
+        ensures read { OrMemory Reason.Memory (configuration_of bytes.now) result }
         ensures long { longest < length bytes.now → result ≡ Err Reason.Unreadable }
-        ensures conditions { IfOk result (λ c. IsPolicy c.policy × AreDags c.state.dags) }
+        ensures conditions { IfOk result (λ c. IsPolicy c.policy × AreRows c.state.dags c.state.runs) }
     {
         if bytes.len() > LONGEST {
             return Err(Reason::Unreadable);
@@ -56,35 +73,36 @@ impl Configuration {
         Ok(configuration)
     }
 
-    /// The conditions that each configuration meets: those of a policy, and its DAGs in byte order of their ids.
+    /// The conditions that each configuration meets: those of a policy, and those of a scheduler's rows.
     fn conditions(&self)
         ensures policy { IsPolicy self.now.policy }
-        ensures dags { AreDags self.now.state.dags }
+        ensures rows { AreRows self.now.state.dags self.now.state.runs }
     {
         self.policy.conditions();
         let _dags = self.state.dags();
     }
 
-    /// Reads what a JSON value says.
+    /// Reads what a JSON value says. Of one that is no object the reason is told, memory or not.
     fn of_value(alloc: Global, value: &Value) -> Result<Configuration, Reason>
-        ensures { OrMemory (desk_in (view value.now)) result }
+        ensures read { OrMemory Reason.Memory (configuration_in (view value.now)) result }
+        ensures memory { result ≡ Err Reason.Memory → is_some (as_object (view value.now)) ≡ true }
     {
         if !value.is_object() {
             return Err(Reason::Shape);
         }
         let policy = lists::read_policy(alloc, value)?;
-        let state = lists::read_state(alloc, value)?;
-        Ok(Configuration { policy, state })
+        let StateDraft { state, scripts, .. } = lists::read_state(alloc, value)?;
+        Ok(Configuration {
+            policy,
+            state,
+            scripts,
+        })
     }
 }
 
 /// The JSON value that the bytes are the text of.
 fn parse(alloc: Global, bytes: &[u8]) -> Result<Value, Reason>
-    ensures { OrMemory (ok_or (json_of bytes.now) Reason.Syntax) (seen view result) }
+    ensures { OrMemory Reason.Memory (ok_or (json_of bytes.now) Reason.Syntax) (seen view result) }
 {
-    match Value::from_slice(alloc, bytes) {
-        Ok(value) => Ok(value),
-        Err(error) if error.is_memory() => Err(Reason::Memory),
-        Err(_) => Err(Reason::Syntax),
-    }
+    json_in(alloc, bytes)?.ok_or(Reason::Syntax)
 }

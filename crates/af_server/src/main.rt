@@ -3,22 +3,40 @@
 
 mod command;
 mod config;
+mod console;
 mod desk;
+mod files;
 mod members;
 mod once;
 mod reason;
+mod running;
+mod telling;
 #[cfg(test)]
 mod tests;
 mod worked;
 
+use af_http::Counted;
 use command::Command;
+use console::Console;
+use reason::Reason;
+use std::env;
 use std::process::ExitCode;
 
 fn main(rt: HostRuntime) -> ExitCode {
-    let status = match Command::of(&rt) {
-        Command::Once { config, now } => command::run_once(&rt, config.as_str(), now),
-        Command::Refused(reason) => command::refused(&rt, reason),
-        Command::Usage => command::usage(&rt),
+    let mut console = Console {
+        input: Counted::new(rt.stdin()),
+        output: Counted::new(rt.stdout()),
+        errors: Counted::new(rt.stderr()),
+    };
+    let Ok(words) = env::args(&rt) else {
+        return ExitCode::from(telling::ended(&mut console.errors, Err(Reason::Memory)));
+    };
+    let status = match Command::of_words(words) {
+        Command::Once { config, now } => match files::open(&rt, config.as_str()) {
+            Ok(mut file) => running::run_once(rt.alloc(), &mut file, now, &mut console),
+            Err(reason) => telling::ended(&mut console.errors, Err(reason)),
+        },
+        Command::Usage => telling::usage(&mut console.errors),
     };
     ExitCode::from(status)
 }

@@ -1,97 +1,87 @@
-// Reading the members of a JSON object. A member that is null counts as absent.
-ghost use Rattle.std.specs.Prelude.{◌≡◌, map, option_map};
-ghost use Rattle.serde_json.specs.View.{view};
-ghost use Rattle.af_server.specs.Members.{list_in, member_of, number_in, object_in, optional_list_in, seen, text_in, truth_in, values_in, within};
+// Reading the members of a row of the configuration, with the reason of one that is missing or of another kind.
+ghost use Rattle.std.specs.Prelude.{◌≡◌, map};
 ghost use Rattle.serde_json.specs.Find.{as_number};
+ghost use Rattle.serde_json.specs.View.{view};
+ghost use Rattle.af_base.specs.Readings.{OrMemory, seen};
+ghost use Rattle.af_server.specs.declared.reason.Reason.{Reason};
+ghost use Rattle.af_server.specs.Members.{fitting, list_in, name_in, number_in, object_in, optional_list_in, required_number_in, signed_in, signed_of, text_in, truth_in, within};
 
 use crate::reason::Reason;
+use af_base::{member, required_list, required_object, required_text};
+use af_names::{Name, NameKind};
 use serde_json::Value;
-
-/// The member of that name, unless it is absent.
-pub fn member<'a>(object: &'a Value, name: &str) -> Option<&'a Value>
-    ensures { option_map (λ value. view value.now) result ≡ member_of name.now (view object.now) }
-{
-    let value = object.get(name)?;
-    if value.is_null() { None } else { Some(value) }
-}
+use std::alloc::Global;
 
 /// The text of a member that has to be there.
-pub fn text<'a>(object: &'a Value, name: &str) -> Result<&'a str, Reason>
-    ensures { seen (λ text. text.now) result ≡ text_in name.now (view object.now) }
+pub fn text<'a>(row: &'a Value, name: &str) -> Result<&'a str, Reason>
+    ensures { seen (λ text. text.now) result ≡ text_in name.now (view row.now) }
 {
-    match member(object, name) {
-        Some(value) => value.as_str().ok_or(Reason::Shape),
-        None => Err(Reason::Shape),
-    }
+    required_text(row, name, Reason::Shape)
 }
 
 /// The object of a member that has to be there.
-pub fn object<'a>(object: &'a Value, name: &str) -> Result<&'a Value, Reason>
-    ensures { seen (λ value. view value.now) result ≡ object_in name.now (view object.now) }
+pub fn object<'a>(row: &'a Value, name: &str) -> Result<&'a Value, Reason>
+    ensures { seen (λ value. view value.now) result ≡ object_in name.now (view row.now) }
 {
-    match member(object, name) {
-        Some(value) if value.is_object() => Ok(value),
-        _ => Err(Reason::Shape),
-    }
-}
-
-/// The values of a list.
-fn values(value: &Value) -> Result<&[Value], Reason>
-    ensures { seen (λ values. map view values.now) result ≡ values_in (view value.now) }
-{
-    match value.as_array() {
-        Some(items) => Ok(items.as_slice()),
-        None => Err(Reason::Shape),
-    }
+    required_object(row, name, Reason::Shape)
 }
 
 /// The list of a member that has to be there.
-pub fn list<'a>(object: &'a Value, name: &str) -> Result<&'a [Value], Reason>
-    ensures { seen (λ values. map view values.now) result ≡ list_in name.now (view object.now) }
+pub fn list<'a>(row: &'a Value, name: &str) -> Result<&'a [Value], Reason>
+    ensures { seen (λ values. map view values.now) result ≡ list_in name.now (view row.now) }
 {
-    match member(object, name) {
-        Some(value) => values(value),
-        None => Err(Reason::Shape),
-    }
+    required_list(row, name, Reason::Shape)
 }
 
 /// The list of a member, empty where it is absent.
-pub fn optional_list<'a>(object: &'a Value, name: &str) -> Result<&'a [Value], Reason>
-    ensures { seen (λ values. map view values.now) result ≡ optional_list_in name.now (view object.now) }
+pub fn optional_list<'a>(row: &'a Value, name: &str) -> Result<&'a [Value], Reason>
+    ensures { seen (λ values. map view values.now) result ≡ optional_list_in name.now (view row.now) }
 {
-    match member(object, name) {
-        Some(value) => values(value),
+    match af_base::optional_list(row, name, Reason::Shape)? {
+        Some(values) => Ok(values),
         None => Ok(&[]),
     }
 }
 
 /// The truth value of a member, or this one where it is absent.
-pub fn truth_or(object: &Value, name: &str, default: bool) -> Result<bool, Reason>
-    ensures { result ≡ truth_in name.now default (view object.now) }
+pub fn truth_or(row: &Value, name: &str, default: bool) -> Result<bool, Reason>
+    ensures { result ≡ truth_in name.now default (view row.now) }
 {
-    match member(object, name) {
+    match af_base::optional_truth(row, name, Reason::Shape)? {
+        Some(truth) => Ok(truth),
         None => Ok(default),
-        Some(value) => value.as_bool().ok_or(Reason::Shape),
     }
 }
 
-/// The integer of a member within these limits, or this one where it is absent.
-pub fn number_or(
-    object: &Value,
-    name: &str,
-    limits: (u16, u16),
-    default: u16,
-) -> Result<u16, Reason>
-    ensures { result ≡ number_in name.now limits.0 limits.1 default (view object.now) }
+/// The name of a member that has to be there.
+pub fn name<K: NameKind>(alloc: Global, row: &Value, member: &str) -> Result<Name<K>, Reason>
+    ensures { OrMemory Reason.Memory (name_in K.grammar member.now (view row.now)) result }
 {
-    match member(object, name) {
+    Ok(Name::parse(alloc, text(row, member)?)?)
+}
+
+/// The integer of a member within these limits, or this one where it is absent.
+pub fn number_or(row: &Value, name: &str, limits: (u32, u32), default: u32) -> Result<u32, Reason>
+    ensures { result ≡ number_in name.now limits.0 limits.1 default (view row.now) }
+{
+    match member(row, name) {
         None => Ok(default),
         Some(value) => number_within(value, limits.0, limits.1),
     }
 }
 
+/// The integer of a member within these limits, which has to be there.
+pub fn number(row: &Value, name: &str, limits: (u32, u32)) -> Result<u32, Reason>
+    ensures { result ≡ required_number_in name.now limits.0 limits.1 (view row.now) }
+{
+    match member(row, name) {
+        None => Err(Reason::Shape),
+        Some(value) => number_within(value, limits.0, limits.1),
+    }
+}
+
 /// The integer within these limits that a value is.
-fn number_within(value: &Value, least: u16, most: u16) -> Result<u16, Reason>
+pub fn number_within(value: &Value, least: u32, most: u32) -> Result<u32, Reason>
     ensures { result ≡ within least most (as_number (view value.now)) }
 {
     let Some(number) = value.as_u64() else {
@@ -101,8 +91,39 @@ fn number_within(value: &Value, least: u16, most: u16) -> Result<u16, Reason>
             Err(Reason::Shape)
         };
     };
-    match u16::try_from(number) {
+    match u32::try_from(number) {
         Ok(number) if least <= number && number <= most => Ok(number),
         _ => Err(Reason::Limit),
+    }
+}
+
+/// The integer of 32 bits of a member, or this one where it is absent.
+pub fn signed_or(row: &Value, name: &str, default: i32) -> Result<i32, Reason>
+    ensures { result ≡ signed_in name.now default (view row.now) }
+{
+    match member(row, name) {
+        None => Ok(default),
+        Some(value) => signed(value),
+    }
+}
+
+/// The integer of 32 bits that a value is.
+fn signed(value: &Value) -> Result<i32, Reason>
+    ensures { result ≡ signed_of (as_number (view value.now)) }
+{
+    match value.as_i64() {
+        Some(number) => fitting(number),
+        None if value.is_u64() => Err(Reason::Limit),
+        None => Err(Reason::Shape),
+    }
+}
+
+fn fitting(number: i64) -> Result<i32, Reason>
+    ensures { result ≡ fitting number }
+{
+    if i64::from(i32::MIN) <= number && number <= i64::from(i32::MAX) {
+        Ok(number as i32)
+    } else {
+        Err(Reason::Limit)
     }
 }

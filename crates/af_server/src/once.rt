@@ -1,6 +1,7 @@
 ghost use Rattle.std.specs.Prelude.{◌≡◌, ◌<◌, length, Err};
-ghost use Rattle.af_server.specs.Conversations.{Connection};
+ghost use Rattle.af_http.specs.Connections.{Connects};
 ghost use Rattle.af_server.specs.Configurations.{longest};
+ghost use Rattle.af_server.specs.Desks.{Decides};
 ghost use Rattle.af_server.specs.Once.{IsOnce};
 
 use crate::config::Configuration;
@@ -10,16 +11,16 @@ use af_http::{Ended, Sink, Source, serve};
 use af_names::Instant;
 use std::alloc::Global;
 
-/// Answers the requests that come from the reader, each by the verdict on it under the desk's policy and on its DAGs.
+/// Answers the requests that come from the reader, one after another, each by the verdict on the state that the one before
+/// left.
 pub fn converse<R: Source, W: Sink>(
     alloc: Global,
     desk: &mut Desk,
     reader: &mut R,
     writer: &mut W,
 ) -> Ended
-    ensures connection { Connection R.given R.ended R.reads R.failures W.taken W.failures
-        desk.old reader.old reader.new writer.old writer.new result }
-    ensures same { desk.new ≡ desk.old }
+    ensures { Connects Decides (R.given reader.old) (R.given reader.new) (W.taken writer.old) (W.taken writer.new)
+        desk.old desk.new result }
 {
     serve(alloc, reader, writer, desk)
 }
@@ -32,12 +33,10 @@ pub fn once<R: Source, W: Sink>(
     reader: &mut R,
     writer: &mut W,
 ) -> Result<Ended, Reason>
-    ensures once { IsOnce R.given R.ended R.reads R.failures W.taken W.failures
-        config.now reader.old reader.new writer.old writer.new result }
+    ensures once { IsOnce config.now now (R.given reader.old) (R.given reader.new) (W.taken writer.old) (W.taken writer.new) result }
     ensures long { longest < length config.now → result ≡ Err Reason.Unreadable }
 {
     let configuration = Configuration::read(alloc, config)?;
-    let Configuration { policy, state } = configuration;
-    let mut desk = Desk::new(alloc, policy, state, now);
+    let mut desk = Desk::open(alloc, configuration, now);
     Ok(converse(alloc, &mut desk, reader, writer))
 }

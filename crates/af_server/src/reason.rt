@@ -1,10 +1,12 @@
 ghost use Rattle.std.specs.Prelude.{◌≡◌};
 ghost use Rattle.af_server.specs.declared.reason.Reason.TheVariants.{Memory};
-ghost use Rattle.af_server.specs.Reasons.{name_reason, reason_text, row_reason, state_reason};
+ghost use Rattle.af_server.specs.Reasons.{name_reason, reason_text, row_reason, dag_reason, graph_reason, pool_reason};
 
+use af_graph::DagFault;
 use af_names::NameError;
-use af_ops::StateFault;
 use af_policy::RowFault;
+use af_pool::PoolFault;
+use af_sched::AddDagFault;
 use std::alloc::{AllocError, AllocFailed};
 
 /// Why a configuration is refused.
@@ -14,7 +16,7 @@ pub enum Reason {
     Unreadable,
     /// It is not JSON.
     Syntax,
-    /// A member is missing, or of a wrong kind.
+    /// A member is missing or of a wrong kind, or a trigger rule or an outcome is not known.
     Shape,
     /// A name does not parse.
     Name,
@@ -28,7 +30,11 @@ pub enum Reason {
     Pair,
     /// No user has the role Admin.
     Admin,
-    /// A schedule is asked for, and schedules are not read yet.
+    /// A task's pool is not there.
+    Pool,
+    /// The tasks of a DAG make no graph.
+    Graph,
+    /// A schedule is not known, or has no start date or a bad one.
     Schedule,
     /// A number is outside its limits, or there are too many rows.
     Limit,
@@ -51,6 +57,8 @@ impl Reason {
             Reason::Action => "action",
             Reason::Pair => "pair",
             Reason::Admin => "admin",
+            Reason::Pool => "pool",
+            Reason::Graph => "graph",
             Reason::Schedule => "schedule",
             Reason::Limit => "limit",
             Reason::Memory => "memory",
@@ -98,14 +106,38 @@ impl From<RowFault> for Reason {
     }
 }
 
-impl From<StateFault> for Reason {
-    ghost from_gives = { λ fault reason. reason ≡ state_reason fault };
+impl From<PoolFault> for Reason {
+    ghost from_gives = { λ fault reason. reason ≡ pool_reason fault };
 
-    fn from(fault: StateFault) -> Reason {
+    fn from(fault: PoolFault) -> Reason {
         match fault {
-            StateFault::Exists => Reason::Duplicate,
-            StateFault::TooMany => Reason::Limit,
-            StateFault::OutOfMemory => Reason::Memory,
+            PoolFault::BadSlots | PoolFault::Full => Reason::Limit,
+            PoolFault::Exists => Reason::Duplicate,
+            PoolFault::NoSuchPool | PoolFault::DefaultPool | PoolFault::InUse => Reason::Pool,
+            PoolFault::OutOfMemory => Reason::Memory,
+        }
+    }
+}
+
+impl From<DagFault> for Reason {
+    ghost from_gives = { λ fault reason. reason ≡ graph_reason fault };
+
+    fn from(fault: DagFault) -> Reason {
+        match fault {
+            DagFault::OutOfMemory => Reason::Memory,
+            _ => Reason::Graph,
+        }
+    }
+}
+
+impl From<AddDagFault> for Reason {
+    ghost from_gives = { λ fault reason. reason ≡ dag_reason fault };
+
+    fn from(fault: AddDagFault) -> Reason {
+        match fault {
+            AddDagFault::Exists => Reason::Duplicate,
+            AddDagFault::Full => Reason::Limit,
+            AddDagFault::OutOfMemory => Reason::Memory,
         }
     }
 }

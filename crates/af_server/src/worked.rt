@@ -1,10 +1,12 @@
 // Worked values: what the definition of a configuration gives for some texts, computed by the checker.
-ghost use Rattle.std.specs.Prelude.{◌≡◌, [], ◌∷◌, codes, Err, Ok, None, Some, false};
+ghost use Rattle.std.specs.Prelude.{◌≡◌, [], ◌∷◌, codes, pos, negsuc, Err, Ok, None, Some, true, false};
+ghost use Rattle.af_sched.specs.declared.outcome.Outcome.TheVariants as outcome;
 ghost use Rattle.af_server.specs.declared.reason.Reason.TheVariants as reason;
-ghost use Rattle.af_server.specs.Configurations.{state_in};
-ghost use Rattle.af_server.specs.Worked.{dag, dag_with, dags, desk, said};
-ghost use Rattle.af_server.specs.Rows.{dag_in};
-ghost use Rattle.serde_json.specs.Data.{null, number, string, unsigned};
+ghost use Rattle.af_server.specs.Configurations.{draft_in};
+ghost use Rattle.af_server.specs.DagRows.{dag_in};
+ghost use Rattle.af_server.specs.Tasks.{no_tasks, task_in, task_taken};
+ghost use Rattle.af_server.specs.Worked.{configuration, dag, dag_of_tasks, dag_row, dag_with, dags, default_pool, items, pool, pools, said, state_of, task, task_row, task_with};
+ghost use Rattle.serde_json.specs.Data.{array, boolean, null, number, string, unsigned, negative};
 
 /// The first fault of each of these decides.
 pub fn refusals_by_the_rule()
@@ -20,18 +22,46 @@ pub fn refusals_by_the_rule()
 {}
 
 /// A user and a DAG.
-pub fn desk_by_the_rule()
-    ensures { said (codes "{\"users\":[{\"username\":\"u\",\"roles\":[{\"name\":\"Admin\"}],\"token_sha256\":\"8c6976e5b5410415bde908bd4dee15dfb167a9c873fc4bb8a81f6f2ab448a918\"}],\"dags\":[{\"dag_id\":\"a\"}]}") ≡ Some (Ok desk) }
+pub fn configuration_by_the_rule()
+    ensures { said (codes "{\"users\":[{\"username\":\"u\",\"roles\":[{\"name\":\"Admin\"}],\"token_sha256\":\"8c6976e5b5410415bde908bd4dee15dfb167a9c873fc4bb8a81f6f2ab448a918\"}],\"dags\":[{\"dag_id\":\"a\",\"tasks\":[{\"task_id\":\"t\"}]}]}") ≡ Some (Ok configuration) }
 {}
 
-/// Rows of DAGs: in byte order of their ids, with what is absent or null by default; an id twice, and a schedule.
+/// Pools: the default one may come once; names differ.
+pub fn pools_by_the_rule()
+    ensures default { draft_in (pools (pool (codes "default_pool") (number (unsigned 3)) ∷ [])) ≡ Ok record { state = state_of [] (default_pool 3 ∷ []); scripts = []; has_default = true } }
+    ensures default_twice { draft_in (pools (pool (codes "default_pool") (number (unsigned 3)) ∷ pool (codes "default_pool") (number (unsigned 3)) ∷ [])) ≡ Err reason.Duplicate }
+    ensures order { draft_in (pools (pool (codes "p") (number (unsigned 0)) ∷ [])) ≡ Ok record { state = state_of [] (default_pool 128 ∷ record { name = codes "p"; slots = 0 } ∷ []); scripts = []; has_default = false } }
+    ensures twice { draft_in (pools (pool (codes "p") (number (unsigned 0)) ∷ pool (codes "p") (number (unsigned 1)) ∷ [])) ≡ Err reason.Duplicate }
+    ensures too_many_slots { draft_in (pools (pool (codes "p") (number (unsigned 1000001)) ∷ [])) ≡ Err reason.Limit }
+    ensures no_slots { draft_in (pools (pool (codes "p") null ∷ [])) ≡ Err reason.Shape }
+{}
+
+/// Tasks: what is absent is by default; each kind of fault.
+pub fn tasks_by_the_rule()
+    ensures default { task_in (default_pool 128 ∷ []) task ≡ Ok task_row }
+    ensures weight { task_in (default_pool 128 ∷ []) (task_with (codes "priority_weight") (number (negative (negsuc 2147483647)))) ≡ Ok record task_row { priority_weight = negsuc 2147483647 } }
+    ensures light { task_in (default_pool 128 ∷ []) (task_with (codes "priority_weight") (number (negative (negsuc 2147483648)))) ≡ Err reason.Limit }
+    ensures no_pool { task_in (default_pool 128 ∷ []) (task_with (codes "pool") (string (codes "p"))) ≡ Err reason.Pool }
+    ensures no_slots { task_in (default_pool 128 ∷ []) (task_with (codes "pool_slots") (number (negative (negsuc 0)))) ≡ Ok record task_row { pool_slots = 0 } }
+    ensures retries { task_in (default_pool 128 ∷ []) (task_with (codes "retries") (number (unsigned 1001))) ≡ Err reason.Limit }
+    ensures rule { task_in (default_pool 128 ∷ []) (task_with (codes "trigger_rule") (string (codes "all_successes"))) ≡ Err reason.Shape }
+    ensures upstream { task_in (default_pool 128 ∷ []) (task_with (codes "upstream") (array (items (string (codes "a b") ∷ null ∷ [])))) ≡ Err reason.Shape }
+    ensures script { task_taken (default_pool 128 ∷ []) (codes "a") no_tasks (task_with (codes "script") (array (items (string (codes "failed") ∷ string (codes "skipped") ∷ [])))) ≡ Ok record { tasks = task_row ∷ []; scripts = record { dag_id = codes "a"; task_id = codes "t"; outcomes = outcome.Failed ∷ outcome.Skipped ∷ [] } ∷ [] } }
+    ensures outcome { task_taken (default_pool 128 ∷ []) (codes "a") no_tasks (task_with (codes "script") (array (items (string (codes "lost") ∷ [])))) ≡ Err reason.Shape }
+{}
+
+/// DAGs: in byte order of their ids; each kind of fault, in its order.
 pub fn dags_by_the_rule()
-    ensures order { state_in (dags (dag (codes "b") ∷ dag (codes "a") ∷ [])) ≡ Ok record { dags = record { dag_id = codes "a"; is_paused = false; max_active_runs = 16 } ∷ record { dag_id = codes "b"; is_paused = false; max_active_runs = 16 } ∷ [] } }
-    ensures twice { state_in (dags (dag (codes "a") ∷ dag (codes "a") ∷ [])) ≡ Err reason.Duplicate }
-    ensures schedule { dag_in (dag_with (codes "a") (codes "schedule") (string (codes "@daily"))) ≡ Err reason.Schedule }
-    ensures no_schedule { dag_in (dag_with (codes "a") (codes "schedule") null) ≡ Ok record { dag_id = codes "a"; is_paused = false; max_active_runs = 16 } }
-    ensures most { dag_in (dag_with (codes "a") (codes "max_active_runs") (number (unsigned 1000))) ≡ Ok record { dag_id = codes "a"; is_paused = false; max_active_runs = 1000 } }
-    ensures too_many { dag_in (dag_with (codes "a") (codes "max_active_runs") (number (unsigned 1001))) ≡ Err reason.Limit }
-    ensures no_truth { dag_in (dag_with (codes "a") (codes "is_paused") (number (unsigned 0))) ≡ Err reason.Shape }
-    ensures bad_name { dag_in (dag_with (codes "a/b") (codes "schedule") (string (codes "@daily"))) ≡ Err reason.Name }
+    ensures order { draft_in (dags (dag (codes "b") ∷ dag (codes "a") ∷ [])) ≡ Ok record { state = state_of (dag_row (codes "a") ∷ dag_row (codes "b") ∷ []) (default_pool 128 ∷ []); scripts = []; has_default = false } }
+    ensures twice { draft_in (dags (dag (codes "a") ∷ dag (codes "a") ∷ [])) ≡ Err reason.Duplicate }
+    ensures no_task { draft_in (dags (dag_of_tasks (codes "a") [] ∷ [])) ≡ Err reason.Graph }
+    ensures cycle { draft_in (dags (dag_of_tasks (codes "a") (task_with (codes "upstream") (array (items (string (codes "t") ∷ []))) ∷ []) ∷ [])) ≡ Err reason.Graph }
+    ensures graph_before_twice { draft_in (dags (dag (codes "a") ∷ dag_of_tasks (codes "a") [] ∷ [])) ≡ Err reason.Graph }
+    ensures no_preset { dag_in [] (dag_with (codes "a") (codes "schedule") (string (codes "@often"))) ≡ Err reason.Schedule }
+    ensures no_start { dag_in [] (dag_with (codes "a") (codes "schedule") (string (codes "@daily"))) ≡ Err reason.Schedule }
+    ensures no_schedule { dag_in [] (dag_with (codes "a") (codes "schedule") (boolean true)) ≡ Err reason.Shape }
+    ensures no_step { dag_in [] (dag_with (codes "a") (codes "schedule") (number (unsigned 0))) ≡ Err reason.Limit }
+    ensures too_many { dag_in [] (dag_with (codes "a") (codes "max_active_runs") (number (unsigned 1001))) ≡ Err reason.Limit }
+    ensures no_truth { dag_in [] (dag_with (codes "a") (codes "is_paused") (number (unsigned 0))) ≡ Err reason.Shape }
+    ensures bad_name { dag_in [] (dag_with (codes "a/b") (codes "schedule") (boolean true)) ≡ Err reason.Name }
 {}

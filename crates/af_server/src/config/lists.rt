@@ -1,25 +1,30 @@
-// The lists of a configuration: roles and users make its policy, DAGs its state.
+// The lists of a configuration: roles and users make its policy, pools and DAGs its state.
 ghost use Rattle.std.specs.Prelude.{◌≡◌, map};
 ghost use Rattle.serde_json.specs.View.{view};
-ghost use Rattle.af_server.specs.Readings.{OrMemory, Takes, taking};
-ghost use Rattle.af_server.specs.Configurations.{dag_taken, policy_in, role_taken, state_in, user_taken};
+ghost use Rattle.af_base.specs.Readings.{OrMemory, Makes, taking};
+ghost use Rattle.af_server.specs.declared.reason.Reason.{Reason};
+ghost use Rattle.af_server.specs.DagRows.{dag_taken};
+ghost use Rattle.af_server.specs.PoolRows.{pool_taken};
+ghost use Rattle.af_server.specs.Configurations.{draft_in, policy_in, role_taken, user_taken};
 
-use super::dags::read_dag;
+use super::dags::add_dag;
+use super::draft::StateDraft;
+use super::pools::add_pool;
 use super::roles::read_role;
 use super::users::read_user;
 use crate::members::optional_list;
 use crate::reason::Reason;
-use af_ops::State;
 use af_policy::{Policy, PolicyDraft};
 use serde_json::Value;
 use std::alloc::Global;
 
 /// The policy of the roles and the users that are listed, beside the default roles.
 pub fn read_policy(alloc: Global, config: &Value) -> Result<Policy, Reason>
-    ensures { OrMemory (policy_in (view config.now)) result }
+    ensures { OrMemory Reason.Memory (policy_in (view config.now)) result }
 {
+    let roles = optional_list(config, "roles")?;
     let mut draft = PolicyDraft::new(alloc)?;
-    add_roles(alloc, &mut draft, optional_list(config, "roles")?)?;
+    add_roles(alloc, &mut draft, roles)?;
     add_users(alloc, &mut draft, optional_list(config, "users")?)?;
     match draft.finish() {
         Ok(policy) => Ok(policy),
@@ -29,7 +34,7 @@ pub fn read_policy(alloc: Global, config: &Value) -> Result<Policy, Reason>
 
 /// Adds the roles of the rows.
 fn add_roles(alloc: Global, draft: &mut PolicyDraft, rows: &[Value]) -> Result<(), Reason>
-    ensures { Takes (taking role_taken draft.old (map view rows.now)) draft.new result }
+    ensures { Makes Reason.Memory (taking role_taken draft.old (map view rows.now)) draft.new result }
 {
     for row in rows {
         add_role(alloc, draft, row)?;
@@ -38,7 +43,7 @@ fn add_roles(alloc: Global, draft: &mut PolicyDraft, rows: &[Value]) -> Result<(
 }
 
 fn add_role(alloc: Global, draft: &mut PolicyDraft, row: &Value) -> Result<(), Reason>
-    ensures { Takes (role_taken draft.old (view row.now)) draft.new result }
+    ensures { Makes Reason.Memory (role_taken draft.old (view row.now)) draft.new result }
 {
     let role = read_role(alloc, row)?;
     draft.add_role(role)?;
@@ -47,7 +52,7 @@ fn add_role(alloc: Global, draft: &mut PolicyDraft, row: &Value) -> Result<(), R
 
 /// Adds the users of the rows.
 fn add_users(alloc: Global, draft: &mut PolicyDraft, rows: &[Value]) -> Result<(), Reason>
-    ensures { Takes (taking user_taken draft.old (map view rows.now)) draft.new result }
+    ensures { Makes Reason.Memory (taking user_taken draft.old (map view rows.now)) draft.new result }
 {
     for row in rows {
         add_user(alloc, draft, row)?;
@@ -56,36 +61,40 @@ fn add_users(alloc: Global, draft: &mut PolicyDraft, rows: &[Value]) -> Result<(
 }
 
 fn add_user(alloc: Global, draft: &mut PolicyDraft, row: &Value) -> Result<(), Reason>
-    ensures { Takes (user_taken draft.old (view row.now)) draft.new result }
+    ensures { Makes Reason.Memory (user_taken draft.old (view row.now)) draft.new result }
 {
     let user = read_user(alloc, row)?;
     draft.add_user(alloc, user)?;
     Ok(())
 }
 
-/// The state with the DAGs that are listed.
-pub fn read_state(alloc: Global, config: &Value) -> Result<State, Reason>
-    ensures { OrMemory (state_in (view config.now)) result }
+/// The state of the pools and the DAGs that are listed, with the scripts of tasks.
+pub fn read_state(alloc: Global, config: &Value) -> Result<StateDraft, Reason>
+    ensures { OrMemory Reason.Memory (draft_in (view config.now)) result }
 {
-    let mut state = State::empty(alloc);
-    add_dags(alloc, &mut state, optional_list(config, "dags")?)?;
-    Ok(state)
+    let pools = optional_list(config, "pools")?;
+    let mut draft = StateDraft::new(alloc)?;
+    add_pools(alloc, &mut draft, pools)?;
+    add_dags(alloc, &mut draft, optional_list(config, "dags")?)?;
+    Ok(draft)
 }
 
-/// Adds the DAGs of the rows.
-fn add_dags(alloc: Global, state: &mut State, rows: &[Value]) -> Result<(), Reason>
-    ensures { Takes (taking dag_taken state.old (map view rows.now)) state.new result }
+/// Adds the pools of the rows.
+fn add_pools(alloc: Global, draft: &mut StateDraft, rows: &[Value]) -> Result<(), Reason>
+    ensures { Makes Reason.Memory (taking pool_taken draft.old (map view rows.now)) draft.new result }
 {
     for row in rows {
-        add_dag(alloc, state, row)?;
+        add_pool(alloc, draft, row)?;
     }
     Ok(())
 }
 
-fn add_dag(alloc: Global, state: &mut State, row: &Value) -> Result<(), Reason>
-    ensures { Takes (dag_taken state.old (view row.now)) state.new result }
+/// Adds the DAGs of the rows.
+fn add_dags(alloc: Global, draft: &mut StateDraft, rows: &[Value]) -> Result<(), Reason>
+    ensures { Makes Reason.Memory (taking dag_taken draft.old (map view rows.now)) draft.new result }
 {
-    let dag = read_dag(alloc, row)?;
-    state.add_dag(dag)?;
+    for row in rows {
+        add_dag(alloc, draft, row)?;
+    }
     Ok(())
 }

@@ -1,12 +1,11 @@
 // A role of the configuration: `name`, and `actions` as the API shows them.
 ghost use Rattle.std.specs.Prelude.{◌≡◌, map};
 ghost use Rattle.serde_json.specs.View.{view};
-ghost use Rattle.af_server.specs.Members.{seen};
-ghost use Rattle.af_server.specs.Readings.{OrMemory, Takes, first_reason};
-ghost use Rattle.af_server.specs.Rows.{action_in, pair_in, pair_taken, permissions_in, role_in, texts_in};
+ghost use Rattle.af_base.specs.Readings.{OrMemory, Makes, first_fault, seen};
+ghost use Rattle.af_server.specs.declared.reason.Reason.{Reason};
+ghost use Rattle.af_server.specs.Accounts.{action_in, pair_in, pair_taken, permissions_in, role_in, texts_in};
 
-use super::names::name;
-use crate::members::{list, object, text};
+use crate::members::{list, name, object, text};
 use crate::reason::Reason;
 use af_role::{Action, Pair, Permissions, Resource, Role};
 use serde_json::Value;
@@ -14,7 +13,7 @@ use std::alloc::Global;
 
 /// Reads a role: its members first, then the first action that is none, then the first pair that may not stand.
 pub fn read_role(alloc: Global, row: &Value) -> Result<Role, Reason>
-    ensures { OrMemory (role_in (view row.now)) result }
+    ensures { OrMemory Reason.Memory (role_in (view row.now)) result }
 {
     let name = name(alloc, row, "name")?;
     let items = list(row, "actions")?;
@@ -26,7 +25,7 @@ pub fn read_role(alloc: Global, row: &Value) -> Result<Role, Reason>
 
 /// Whether each item has its texts; the reason of the first that has not.
 fn test_texts(items: &[Value]) -> Result<(), Reason>
-    ensures { result ≡ first_reason texts_in (map view items.now) }
+    ensures { result ≡ first_fault texts_in (map view items.now) }
 {
     for item in items {
         read_texts(item)?;
@@ -36,7 +35,7 @@ fn test_texts(items: &[Value]) -> Result<(), Reason>
 
 /// Whether each item names an action; the reason of the first that does not.
 fn test_actions(items: &[Value]) -> Result<(), Reason>
-    ensures { result ≡ first_reason action_in (map view items.now) }
+    ensures { result ≡ first_fault action_in (map view items.now) }
 {
     for item in items {
         read_action(item)?;
@@ -46,7 +45,7 @@ fn test_actions(items: &[Value]) -> Result<(), Reason>
 
 /// The permissions of the items, each once.
 fn read_pairs(alloc: Global, items: &[Value]) -> Result<Permissions, Reason>
-    ensures { OrMemory (permissions_in (map view items.now)) result }
+    ensures { OrMemory Reason.Memory (permissions_in (map view items.now)) result }
 {
     let mut permissions = Permissions::new(alloc);
     for item in items {
@@ -56,7 +55,7 @@ fn read_pairs(alloc: Global, items: &[Value]) -> Result<Permissions, Reason>
 }
 
 fn add_pair(alloc: Global, permissions: &mut Permissions, item: &Value) -> Result<(), Reason>
-    ensures { Takes (pair_taken permissions.old (view item.now)) permissions.new result }
+    ensures { Makes Reason.Memory (pair_taken permissions.old (view item.now)) permissions.new result }
 {
     let pair = read_pair(alloc, item)?;
     permissions.add(pair)?;
@@ -80,7 +79,7 @@ fn read_action(item: &Value) -> Result<Action, Reason>
 }
 
 fn read_pair(alloc: Global, item: &Value) -> Result<Pair, Reason>
-    ensures { OrMemory (pair_in (view item.now)) result }
+    ensures { OrMemory Reason.Memory (pair_in (view item.now)) result }
 {
     let (_, resource) = read_texts(item)?;
     let action = read_action(item)?;

@@ -1,12 +1,11 @@
 // A user of the configuration: `username`, `roles` by name, and `token_sha256`.
 ghost use Rattle.std.specs.Prelude.{◌≡◌, map};
 ghost use Rattle.serde_json.specs.View.{view};
-ghost use Rattle.af_server.specs.Members.{seen};
-ghost use Rattle.af_server.specs.Readings.{OrMemory, Takes, first_reason};
-ghost use Rattle.af_server.specs.Rows.{digest_of, name_taken, name_text_in, names_in, role_names_in, user_in};
+ghost use Rattle.af_base.specs.Readings.{OrMemory, Makes, first_fault, seen};
+ghost use Rattle.af_server.specs.declared.reason.Reason.{Reason};
+ghost use Rattle.af_server.specs.Accounts.{digest_of, name_taken, name_text_in, names_in, role_names_in, user_in};
 
-use super::names::name;
-use crate::members::{list, text};
+use crate::members::{list, name, text};
 use crate::reason::Reason;
 use af_names::RoleName;
 use af_policy::User;
@@ -16,7 +15,7 @@ use std::alloc::Global;
 
 /// Reads a user: each member, and of the roles only that they are names.
 pub fn read_user(alloc: Global, row: &Value) -> Result<User, Reason>
-    ensures { OrMemory (user_in (view row.now)) result }
+    ensures { OrMemory Reason.Memory (user_in (view row.now)) result }
 {
     let name = name(alloc, row, "username")?;
     let roles = read_roles(alloc, list(row, "roles")?)?;
@@ -26,7 +25,7 @@ pub fn read_user(alloc: Global, row: &Value) -> Result<User, Reason>
 
 /// The names of roles: that each is a text is tested before one is read.
 fn read_roles(alloc: Global, items: &[Value]) -> Result<Vec<RoleName>, Reason>
-    ensures { OrMemory (role_names_in (map view items.now)) (seen (λ roles. roles.items) result) }
+    ensures { OrMemory Reason.Memory (role_names_in (map view items.now)) (seen (λ roles. roles.items) result) }
 {
     test_names(items)?;
     read_names(alloc, items)
@@ -34,7 +33,7 @@ fn read_roles(alloc: Global, items: &[Value]) -> Result<Vec<RoleName>, Reason>
 
 /// Whether each item has a name that is a text; the reason of the first that has not.
 fn test_names(items: &[Value]) -> Result<(), Reason>
-    ensures { result ≡ first_reason name_text_in (map view items.now) }
+    ensures { result ≡ first_fault name_text_in (map view items.now) }
 {
     for item in items {
         text(item, "name")?;
@@ -44,7 +43,7 @@ fn test_names(items: &[Value]) -> Result<(), Reason>
 
 /// The names of the items.
 fn read_names(alloc: Global, items: &[Value]) -> Result<Vec<RoleName>, Reason>
-    ensures { OrMemory (names_in (map view items.now)) (seen (λ roles. roles.items) result) }
+    ensures { OrMemory Reason.Memory (names_in (map view items.now)) (seen (λ roles. roles.items) result) }
 {
     let mut roles = Vec::with_capacity(alloc, items.len())?;
     for item in items {
@@ -54,7 +53,7 @@ fn read_names(alloc: Global, items: &[Value]) -> Result<Vec<RoleName>, Reason>
 }
 
 fn add_name(alloc: Global, roles: &mut Vec<RoleName>, item: &Value) -> Result<(), Reason>
-    ensures { Takes (name_taken roles.old.items (view item.now)) roles.new.items result }
+    ensures { Makes Reason.Memory (name_taken roles.old.items (view item.now)) roles.new.items result }
 {
     let role = name(alloc, item, "name")?;
     roles.push(role)?;

@@ -1,12 +1,16 @@
 use Rattle.std.proofs.Common.{refl}
-use Rattle.serde_json.proofs.OnLiterals.{serde_json_on_literals}
-use Rattle.af_policy.specs.Drafts.{opening}
+use Rattle.af_graph.specs.Graph.{upstream_rows}
+use Rattle.af_graph.specs.Order.{taken_in}
 use Rattle.af_server.proofs.worked.dags_by_the_rule.Goals as goal
 
 pub returns-clause-order : goal.returns-clause-order
-unfolding serde_json_on_literals opening
+unfolding taken_in upstream_rows
 returns-clause-order c = refl
 
 pub returns-clause-twice : goal.returns-clause-twice
-unfolding serde_json_on_literals opening
+unfolding taken_in upstream_rows
 returns-clause-twice c = refl
+
+pub returns-clause-cycle : goal.returns-clause-cycle
+unfolding taken_in upstream_rows
+returns-clause-cycle c = refl

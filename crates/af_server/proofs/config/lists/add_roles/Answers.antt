@@ -1,12 +1,12 @@
 use Rattle.std.proofs.Common.{arith}
+use Rattle.af_base.proofs.TakingLemmas.{item_taken, items_taken}
 use Rattle.af_server.specs.Configurations.{role_taken}
-use Rattle.af_server.proofs.ConfigurationLemmas.{row_taken, rows_taken}
 use Rattle.af_server.proofs.config.lists.add_roles.Goals as goal
 
 pub loop-row-preserved : goal.loop-row-preserved
 loop-row-preserved c =
-    row_taken role_taken c.args.rows.now _ c.loop-row.row-index c.row-item.result c.loop-row.draft c.add_role.new.draft (omega arith) c.row-item.is c.in_ok-add_role.ensures c.loop-row.invariant
+    item_taken role_taken c.args.rows.now _ c.loop-row.row-index c.row-item.result c.loop-row.draft c.add_role.new.draft (omega arith) c.row-item.is c.in_ok-add_role.ensures c.loop-row.invariant
 
 pub returns : goal.returns
 returns c =
-    rows_taken role_taken c.args.rows.now _ c.loop-row.row-index c.loop-row.draft (omega arith) c.loop-row.invariant
+    items_taken role_taken c.args.rows.now _ c.loop-row.row-index c.loop-row.draft (omega arith) c.loop-row.invariant

@@ -1,10 +1,10 @@
 use Rattle.std.proofs.Common.{◌≡◌, drop, map}
 use Rattle.serde_json.specs.View.{view}
-use Rattle.af_server.specs.Readings.{taking, tested}
-use Rattle.af_server.specs.Rows.{action_in}
+use Rattle.af_base.specs.Readings.{taking, tested}
+use Rattle.af_server.specs.Accounts.{action_in}
 use Rattle.af_server.proofs.config.roles.test_actions.Given as goal
 
--- the rows that are left decide the whole
+-- the items that are left decide the whole
 abbrev pub invariant-loop-item : goal.invariant-loop-item
 invariant-loop-item l =
     taking (tested action_in) tt (map view (drop l.item-index l.items)) ≡ taking (tested action_in) tt (map view l.items)

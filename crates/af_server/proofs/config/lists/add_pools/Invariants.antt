@@ -1,0 +1,10 @@
+use Rattle.std.proofs.Common.{◌≡◌, drop, map}
+use Rattle.serde_json.specs.View.{view}
+use Rattle.af_base.specs.Readings.{taking}
+use Rattle.af_server.specs.PoolRows.{pool_taken}
+use Rattle.af_server.proofs.config.lists.add_pools.Given as goal
+
+-- the rows that are left decide the whole
+abbrev pub invariant-loop-row : goal.invariant-loop-row
+invariant-loop-row l =
+    taking pool_taken l.draft (map view (drop l.row-index l.rows)) ≡ taking pool_taken l.initial.draft (map view l.rows)
