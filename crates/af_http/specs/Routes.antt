@@ -45,6 +45,6 @@ abbrev pub op_at : Option Place → List ℕ → Result Op RouteFault
 op_at None method = Err NoPath
 op_at (Some p) method = cond (bytes_eq method (codes "GET")) (Ok (got_at p)) (Err (BadMethod (allowed_at p)))
 
--- The operation that a method and a target name, or why they name none. The body is not read yet.
-abbrev pub op_of : List ℕ → List ℕ → Result Op RouteFault
-op_of method target = op_at (place_of (path_of target)) method
+-- The operation that a method, a target and a body name, or why they name none. No operation reads the body yet.
+abbrev pub op_of : List ℕ → List ℕ → List ℕ → Result Op RouteFault
+op_of method target body = op_at (place_of (path_of target)) method

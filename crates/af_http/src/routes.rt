@@ -121,7 +121,7 @@ impl Routes {
     ///
     /// The query and the body are not read yet, and no part of a path is decoded, since no path of the table has one.
     pub fn read_op(&self, method: &[u8], target: &[u8], _body: &[u8]) -> Result<Op, RouteFault>
-        ensures { result ≡ op_of method.now target.now }
+        ensures { result ≡ op_of method.now target.now _body.now }
     {
         op_at(self.place_of(path_of(target)), method)
     }
