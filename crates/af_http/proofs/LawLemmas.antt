@@ -1,13 +1,13 @@
 -- A text has one reading.
-use Rattle.std.proofs.Common.{◌≡◌, ◌+◌, ◌⊎◌, inl, inr, ℕ, Bool, true, false, List, [], ◌∷◌, ◌++◌, refl, sym, ap, ◌∙◌, subst, Option, Some, None}
+use Rattle.std.proofs.Common.{◌≡◌, ◌+◌, ◌<◌, ◌≤◌, arith, length, take, drop, ◌⊎◌, inl, inr, ℕ, Bool, true, false, List, [], ◌∷◌, ◌++◌, refl, sym, ap, ◌∙◌, subst, Option, Some, None}
 use Rattle.std.specs.Prelude.{Result, Ok, Err}
 use Rattle.httparse.specs.Grammar.{RequestHead, ReadsRequest}
 use Rattle.httparse.proofs.GrammarLemmas.{request_unique}
 use Rattle.af_ops.specs.declared.op.Op.{Op}
 use Rattle.af_ops.specs.declared.served.Served.{Served}
 use Rattle.af_http.specs.Fronts.{nothing, part, large, whole, front_of}
-use Rattle.af_http.specs.Requests.{Asked, asked_by, fields_of, is_taken, is_head}
-use Rattle.af_http.specs.Reading.{Begins, Stand, Parses, IsBadHead, IsRefused, closes_after, status_of, refusal_text}
+use Rattle.af_http.specs.Requests.{Asked, asked_by, body_length, is_head}
+use Rattle.af_http.specs.Reading.{Begins, Stand, Cut, Parses, IsUnread, IsRefused, closes_after, status_of, refusal_text}
 use Rattle.af_http.specs.Run.{Exchange, asked_in, exchanges_text, end_by, end_after, AllGoOn, LastEnds, EndsOr, IsWritten, Makes, Answered, Run}
 use Rattle.af_http.specs.Streams.{Taken}
 use Rattle.af_http.specs.Replies.{wants_memory}
@@ -20,7 +20,7 @@ use Rattle.af_http.specs.Laws.{IsFunction, IsByText}
 use Rattle.af_http.specs.declared.reply.Reply.{Reply}
 use Rattle.af_http.specs.declared.reply.Reply.TheVariants as reply
 use Rattle.af_http.specs.declared.refusal.Refusal.{Refusal}
-use Rattle.af_http.specs.declared.refusal.Refusal.TheVariants.{BadHead, Incomplete, HeadTooLarge}
+use Rattle.af_http.specs.declared.refusal.Refusal.TheVariants.{Incomplete}
 use Rattle.af_http.specs.declared.ended.Ended.{Ended}
 use Rattle.af_http.specs.declared.ended.Ended.TheVariants as end
 
@@ -33,50 +33,80 @@ parses_one a b h k e x y =
 whole_same : {a b r q : List ℕ} → whole a r ≡ whole b q → (a ≡ b) × (r ≡ q)
 whole_same e = (cc, cc)
 
+ok_err : {A B : Type 0} {a : A} {b : B} {r : Result A B} → r ≡ Ok a → r ≡ Err b → ⊥
+ok_err p q = let e = sym p ∙ q in cc
+
+ok_one : {A B : Type 0} {a b : A} {r : Result A B} → r ≡ Ok a → r ≡ Ok b → a ≡ b
+ok_one p q = let e = sym p ∙ q in cc
+
+err_one : {A B : Type 0} {a b : B} {r : Result A B} → r ≡ Err a → r ≡ Err b → a ≡ b
+err_one p q = let e = sym p ∙ q in cc
+
 pub begins_one : (text : List ℕ) (a b : Asked) (r q : List ℕ) → Begins text a r → Begins text b q → (a ≡ b) × (r ≡ q)
 begins_one text a b r q x y =
     let same = whole_same (sym x.framed ∙ y.framed) in
-    (x.asks ∙ ap asked_by (parses_one x.head y.head x.parsed y.parsed same.0 x.parses y.parses) ∙ sym y.asks, same.1)
+    let one = parses_one x.head y.head x.parsed y.parsed same.0 x.parses y.parses in
+    let size : x.size ≡ y.size = ok_one x.sized (ap body_length one ∙ y.sized) in (
+      x.asks
+          ∙ ap (λ (h : RequestHead). asked_by h (take x.size x.after)) one
+          ∙ ap (λ n. asked_by y.parsed (take n x.after)) size
+          ∙ ap (λ t. asked_by y.parsed (take y.size t)) same.1
+          ∙ sym y.asks,
+      x.rest_is ∙ ap (λ n. drop n x.after) size ∙ ap (drop y.size) same.1 ∙ sym y.rest_is,
+    )
 
--- a bad head is no request's that is taken
-bad_not_taken : (text head rest : List ℕ) (head_only : Bool) (a : Asked) (r : List ℕ) → front_of text ≡ whole head rest → IsBadHead head head_only → Begins text a r → ⊥
-bad_not_taken text head rest head_only a r e (inl (is, none)) x =
-    let P : List ℕ → Type 0 = λ t. Parses t x.parsed in
-    none x.parsed (subst P (sym (whole_same (sym e ∙ x.framed)).0) x.parses)
-bad_not_taken text head rest head_only a r e (inr (h, parses, not, is)) x =
-    let same = parses_one head x.head h x.parsed (whole_same (sym e ∙ x.framed)).0 parses x.parses in
-    let f : is_taken h.minor (fields_of h) ≡ is_taken x.parsed.minor (fields_of x.parsed) = ap (λ (k : RequestHead). is_taken k.minor (fields_of k)) same in
-    differ (sym x.taken ∙ sym f ∙ not)
-  where
-    differ : true ≡ false → ⊥
-    differ e = cc
+-- a head that is refused says no length
+unread_not : (a b : List ℕ) (refusal : Refusal) (h : RequestHead) (n : ℕ) → a ≡ b → IsUnread a refusal → Parses b h → body_length h ≡ Ok n → ⊥
+unread_not a b refusal h n e (inl (is, none)) parses sized = let P : List ℕ → Type 0 = λ t. Parses t h in none h (subst P (sym e) parses)
+unread_not a b refusal h n e (inr (k, parses2, bad)) parses sized = ok_err sized (sym (ap body_length (parses_one a b k h e parses2 parses)) ∙ bad)
 
 refused_begins : (text : List ℕ) (refusal : Refusal) (a : Asked) (r : List ℕ) → IsRefused text refusal → Begins text a r → ⊥
-refused_begins text (BadHead head_only) a r (head, rest, e, bad) x = bad_not_taken text head rest head_only a r e bad x
-refused_begins text Incomplete a r is x = let e : part ≡ whole x.head r = sym is ∙ x.framed in cc
-refused_begins text HeadTooLarge a r is x = let e : large ≡ whole x.head r = sym is ∙ x.framed in cc
+refused_begins text refusal a r (inl (e, is)) x = let c : large ≡ whole x.head x.after = sym e ∙ x.framed in cc
+refused_begins text refusal a r (inr (inl (head, after, e, bad))) x =
+    unread_not head x.head refusal x.parsed x.size (whole_same (sym e ∙ x.framed)).0 bad x.parses x.sized
+refused_begins text refusal a r (inr (inr (inl (e, is)))) x = let c : part ≡ whole x.head x.after = sym e ∙ x.framed in cc
+refused_begins text refusal a r (inr (inr (inr (head_only, k, is)))) x =
+    let same = whole_same (sym k.framed ∙ x.framed) in
+    let one = parses_one k.head x.head k.parsed x.parsed same.0 k.parses x.parses in
+    let size : k.size ≡ x.size = ok_one k.sized (ap body_length one ∙ x.sized) in
+    let short = k.short in
+    let fits = x.fits in
+    let after = ap length same.1 in
+    absurd (omega (arith, size, short, fits, after))
 
-bad_one : (a b : List ℕ) (x y : Bool) → a ≡ b → IsBadHead a x → IsBadHead b y → x ≡ y
+bad_one : (a b : List ℕ) (x y : Refusal) → a ≡ b → IsUnread a x → IsUnread b y → x ≡ y
 bad_one a b x y e (inl (p, none)) (inl (q, none2)) = p ∙ sym q
-bad_one a b x y e (inl (p, none)) (inr (k, parses, not, q)) = let P : List ℕ → Type 0 = λ t. Parses t k in absurd (none k (subst P (sym e) parses))
-bad_one a b x y e (inr (h, parses, not, p)) (inl (q, none)) = let P : List ℕ → Type 0 = λ t. Parses t h in absurd (none h (subst P e parses))
-bad_one a b x y e (inr (h, px, nx, p)) (inr (k, py, ny, q)) = p ∙ ap (λ (t : RequestHead). is_head t.method) (parses_one a b h k e px py) ∙ sym q
+bad_one a b x y e (inl (p, none)) (inr (k, parses, bad)) = let P : List ℕ → Type 0 = λ t. Parses t k in absurd (none k (subst P (sym e) parses))
+bad_one a b x y e (inr (h, parses, bad)) (inl (q, none)) = let P : List ℕ → Type 0 = λ t. Parses t h in absurd (none h (subst P e parses))
+bad_one a b x y e (inr (h, px, p)) (inr (k, py, q)) = err_one p (ap body_length (parses_one a b h k e px py) ∙ q)
 
 refusal_one : (text : List ℕ) (x y : Refusal) → IsRefused text x → IsRefused text y → x ≡ y
-refusal_one text (BadHead a) (BadHead b) (head, rest, e, bad) (head2, rest2, e2, bad2) = ap BadHead (bad_one head head2 a b (whole_same (sym e ∙ e2)).0 bad bad2)
-refusal_one text (BadHead a) Incomplete (head, rest, e, bad) is = let c : whole head rest ≡ part = sym e ∙ is in cc
-refusal_one text (BadHead a) HeadTooLarge (head, rest, e, bad) is = let c : whole head rest ≡ large = sym e ∙ is in cc
-refusal_one text Incomplete (BadHead b) is (head, rest, e, bad) = let c : whole head rest ≡ part = sym e ∙ is in cc
-refusal_one text Incomplete Incomplete is is2 = refl
-refusal_one text Incomplete HeadTooLarge is is2 = let c : part ≡ large = sym is ∙ is2 in cc
-refusal_one text HeadTooLarge (BadHead b) is (head, rest, e, bad) = let c : whole head rest ≡ large = sym e ∙ is in cc
-refusal_one text HeadTooLarge Incomplete is is2 = let c : large ≡ part = sym is ∙ is2 in cc
-refusal_one text HeadTooLarge HeadTooLarge is is2 = refl
+refusal_one text x y (inl (e, is)) (inl (e2, is2)) = is ∙ sym is2
+refusal_one text x y (inl (e, is)) (inr (inl (head, after, e2, bad))) = let c : large ≡ whole head after = sym e ∙ e2 in cc
+refusal_one text x y (inl (e, is)) (inr (inr (inl (e2, is2)))) = let c : large ≡ part = sym e ∙ e2 in cc
+refusal_one text x y (inl (e, is)) (inr (inr (inr (h, k, is2)))) = let c : large ≡ whole k.head k.after = sym e ∙ k.framed in cc
+refusal_one text x y (inr (inl (head, after, e, bad))) (inl (e2, is2)) = let c : whole head after ≡ large = sym e ∙ e2 in cc
+refusal_one text x y (inr (inl (head, after, e, bad))) (inr (inl (head2, after2, e2, bad2))) = bad_one head head2 x y (whole_same (sym e ∙ e2)).0 bad bad2
+refusal_one text x y (inr (inl (head, after, e, bad))) (inr (inr (inl (e2, is2)))) = let c : whole head after ≡ part = sym e ∙ e2 in cc
+refusal_one text x y (inr (inl (head, after, e, bad))) (inr (inr (inr (h, k, is2)))) =
+    absurd (unread_not head k.head x k.parsed k.size (whole_same (sym e ∙ k.framed)).0 bad k.parses k.sized)
+refusal_one text x y (inr (inr (inl (e, is)))) (inl (e2, is2)) = let c : part ≡ large = sym e ∙ e2 in cc
+refusal_one text x y (inr (inr (inl (e, is)))) (inr (inl (head, after, e2, bad))) = let c : part ≡ whole head after = sym e ∙ e2 in cc
+refusal_one text x y (inr (inr (inl (e, is)))) (inr (inr (inl (e2, is2)))) = is ∙ sym is2
+refusal_one text x y (inr (inr (inl (e, is)))) (inr (inr (inr (h, k, is2)))) = let c : part ≡ whole k.head k.after = sym e ∙ k.framed in cc
+refusal_one text x y (inr (inr (inr (h, k, is)))) (inl (e2, is2)) = let c : whole k.head k.after ≡ large = sym k.framed ∙ e2 in cc
+refusal_one text x y (inr (inr (inr (h, k, is)))) (inr (inl (head, after, e, bad))) =
+    absurd (unread_not head k.head y k.parsed k.size (whole_same (sym e ∙ k.framed)).0 bad k.parses k.sized)
+refusal_one text x y (inr (inr (inr (h, k, is)))) (inr (inr (inl (e2, is2)))) = let c : whole k.head k.after ≡ part = sym k.framed ∙ e2 in cc
+refusal_one text x y (inr (inr (inr (h, k, is)))) (inr (inr (inr (h2, k2, is2)))) =
+    let one = parses_one k.head k2.head k.parsed k2.parsed (whole_same (sym k.framed ∙ k2.framed)).0 k.parses k2.parses in
+    is ∙ ap Incomplete (k.method ∙ ap (λ (t : RequestHead). is_head t.method) one ∙ sym k2.method) ∙ sym is2
 
 over_refused : (text : List ℕ) (refusal : Refusal) → front_of text ≡ nothing → IsRefused text refusal → ⊥
-over_refused text (BadHead a) none (head, rest, e, bad) = let c : nothing ≡ whole head rest = sym none ∙ e in cc
-over_refused text Incomplete none is = let c : nothing ≡ part = sym none ∙ is in cc
-over_refused text HeadTooLarge none is = let c : nothing ≡ large = sym none ∙ is in cc
+over_refused text refusal none (inl (e, is)) = let c : nothing ≡ large = sym none ∙ e in cc
+over_refused text refusal none (inr (inl (head, after, e, bad))) = let c : nothing ≡ whole head after = sym none ∙ e in cc
+over_refused text refusal none (inr (inr (inl (e, is)))) = let c : nothing ≡ part = sym none ∙ e in cc
+over_refused text refusal none (inr (inr (inr (h, k, is)))) = let c : nothing ≡ whole k.head k.after = sym none ∙ k.framed in cc
 
 -- an end before a request, for what stands there
 pub data Halt : Type 0 where
@@ -88,7 +118,7 @@ Halts text closing e over = (front_of text ≡ nothing) × (closing ≡ []) × (
 Halts text closing e (turned_away refusal) = IsRefused text refusal × (closing ≡ refusal_text refusal) × (e ≡ end.Refused (status_of refusal))
 
 halts_begins : (text closing : List ℕ) (e : Ended) (h : Halt) (a : Asked) (r : List ℕ) → Halts text closing e h → Begins text a r → ⊥
-halts_begins text closing e over a r s x = let c : nothing ≡ whole x.head r = sym s.0 ∙ x.framed in cc
+halts_begins text closing e over a r s x = let c : nothing ≡ whole x.head x.after = sym s.0 ∙ x.framed in cc
 halts_begins text closing e (turned_away refusal) a r s x = refused_begins text refusal a r s.0 x
 
 halts_one : (text c d : List ℕ) (e f : Ended) (h k : Halt) → Halts text c e h → Halts text d f k → (e ≡ f) × (c ≡ d)
@@ -128,15 +158,6 @@ none_some p q = let e = sym p ∙ q in cc
 
 some_one : {o : Option Ended} {a b : Ended} → o ≡ Some a → o ≡ Some b → a ≡ b
 some_one {a = a} {b = b} p q = let e : Some a ≡ Some b = sym p ∙ q in cc
-
-ok_err : {A B : Type 0} {a : A} {b : B} {r : Result A B} → r ≡ Ok a → r ≡ Err b → ⊥
-ok_err p q = let e = sym p ∙ q in cc
-
-ok_one : {A B : Type 0} {a b : A} {r : Result A B} → r ≡ Ok a → r ≡ Ok b → a ≡ b
-ok_one p q = let e = sym p ∙ q in cc
-
-err_one : {A B : Type 0} {a b : B} {r : Result A B} → r ≡ Err a → r ≡ Err b → a ≡ b
-err_one p q = let e = sym p ∙ q in cc
 
 -- a fault that is no want of memory is that of the definition
 fault_is : (r : Result Op RouteFault) (f : RouteFault) → wants_memory (reply.Fault f) ≡ false → IsRouted r (Err f) → r ≡ Err f

@@ -1,5 +1,6 @@
 pub mod LineLemmas
 pub mod FieldLemmas
+pub mod LengthLemmas
 pub mod IncomingLemmas
 pub mod StreamLemmas
 pub mod SendLemmas

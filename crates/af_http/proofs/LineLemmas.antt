@@ -2,12 +2,12 @@
 use Rattle.std.proofs.Common.{◌≡◌, ◌≢◌, ℕ, zero, suc, ◌||◌, ◌+◌, ◌==◌, ◌<◌, ◌≤◌, Bool, true, false, cond, nat_lt, List, [], ◌∷◌, ◌++◌, length, get_or, take, drop, refl, sym, ap, ◌∙◌, arith, Option, Some, None, ◌⊎◌, inl, inr}
 use Rattle.std.specs.Option.{option_map}
 use Rattle.std.specs.List.{list_any}
-use Rattle.std.proofs.lemmas.Bool.{eq-eqb, ne_eqb, or_parts, both_ways, lt-ltb, le-ltb}
+use Rattle.std.proofs.lemmas.Bool.{eq-eqb, ne_eqb, or_parts, both_ways, lt-ltb, le-ltb, ltb-false}
 use Rattle.std.proofs.lemmas.Option.{none-some}
-use Rattle.std.proofs.lemmas.List.{length-take-le, take_at, drop_at, append-nil, append_assoc, take-append-drop, length-append}
-use Rattle.af_http.specs.Limits.{head_limit}
+use Rattle.std.proofs.lemmas.List.{length-take-le, take_at, drop_at, append-nil, append_assoc, take-append-drop, length-append, length_push}
+use Rattle.af_http.specs.Limits.{head_limit, field_limit}
 use Rattle.af_http.specs.Lines.{lines_of, onto, text_of, is_blank, begins_blank, after_blanks, HasNoLine}
-use Rattle.af_http.specs.Fronts.{Front, front_of, fronted, fronted_by, split_head, finished, unfinished, ahead, large, whole, part}
+use Rattle.af_http.specs.Fronts.{Front, front_of, fronted, fronted_by, split_head, finished, unfinished, ahead, is_large, large, whole, part}
 use Rattle.af_http.specs.Extents.{IsExtent, open_front, sized}
 use Rattle.af_http.specs.declared.extent.Extent.TheVariants.{Large, Whole}
 
@@ -65,15 +65,17 @@ or_from_false : (x y : Bool) → x ≡ false → y ≡ false → (x || y) ≡ fa
 or_from_false x y a b = ap (λ t. t || y) a ∙ b
 
 -- the lines of the text are these first, none of them empty, and then those of the rest
-pub record Passed (bytes rest : List ℕ) (at : ℕ) : Type 0 where
+pub record Passed (bytes rest : List ℕ) (at count : ℕ) : Type 0 where
   pub front : List (List ℕ)
+  pub counted : count ≡ length front
+  pub few : count ≤ at
   pub plain : list_any is_blank front ≡ false
   pub joined : bytes ≡ text_of front ++ rest
   pub at_is : at ≡ length (text_of front)
   pub lines : (tail : List ℕ) → lines_of (bytes ++ tail) ≡ front ++ lines_of (rest ++ tail)
 
-pub passed_none : (bytes : List ℕ) → Passed bytes bytes 0
-passed_none bytes = record { front = []; plain = refl; joined = refl; at_is = refl; lines = λ tail. refl }
+pub passed_none : (bytes : List ℕ) → Passed bytes bytes 0 0
+passed_none bytes = record { front = []; counted = refl; few = omega arith; plain = refl; joined = refl; at_is = refl; lines = λ tail. refl }
 
 text_of-push : (front : List (List ℕ)) (line : List ℕ) → text_of (front ++ line ∷ []) ≡ text_of front ++ line
 text_of-push [] line = append-nil line
@@ -86,14 +88,16 @@ list_any-push (l ∷ front) line plain here =
     or_from_false _ _ p.0 (list_any-push front line p.1 here)
 
 -- one line more
-pub passed_more : (bytes rest : List ℕ) (at n : ℕ) → Passed bytes rest at → 0 < n → n ≤ length rest → is_blank (take n rest) ≡ false
-    → ((tail : List ℕ) → lines_of (rest ++ tail) ≡ take n rest ∷ lines_of (drop n rest ++ tail)) → Passed bytes (drop n rest) (at + n)
-passed_more bytes rest at n p some fits here line =
+pub passed_more : (bytes rest : List ℕ) (at count n : ℕ) → Passed bytes rest at count → 0 < n → n ≤ length rest → is_blank (take n rest) ≡ false
+    → ((tail : List ℕ) → lines_of (rest ++ tail) ≡ take n rest ∷ lines_of (drop n rest ++ tail)) → Passed bytes (drop n rest) (at + n) (count + 1)
+passed_more bytes rest at count n p some fits here line =
     let text = text_of-push p.front (take n rest) in
     let size : length (text_of (p.front ++ take n rest ∷ [])) ≡ at + n =
     ap length text ∙ length-append (text_of p.front) (take n rest) ∙ ap (λ k. k + length (take n rest)) (sym p.at_is) ∙ ap (λ k. at + k) (length-take-le n rest fits) in
     record {
       front = p.front ++ take n rest ∷ [];
+      few = let k = p.few in omega (arith, k, some);
+      counted = ap (λ k. k + 1) p.counted ∙ sym (length_push p.front (take n rest));
       plain = list_any-push p.front _ p.plain here;
       joined = p.joined ∙ ap (λ t. text_of p.front ++ t) (sym (take-append-drop n rest)) ∙ sym (append_assoc (text_of p.front) (take n rest) (drop n rest)) ∙ ap (λ t. t ++ drop n rest) (sym text);
       at_is = sym size;
@@ -153,8 +157,9 @@ fronted-none [] e some = absurd (omega arith)
 fronted-none (l ∷ lines) e some = ap (fronted_by (l ∷ lines)) e
 
 -- the head ends after so many bytes
-pub record EndsAt (bytes : List ℕ) (at : ℕ) (rest : List ℕ) : Type 0 where
+pub record EndsAt (bytes : List ℕ) (at count : ℕ) (rest : List ℕ) : Type 0 where
   pub head : List (List ℕ)
+  pub counted : length head ≡ count
   pub text : text_of head ≡ take at bytes
   pub size : length (text_of head) ≡ at
   pub within : at ≤ length bytes
@@ -162,10 +167,10 @@ pub record EndsAt (bytes : List ℕ) (at : ℕ) (rest : List ℕ) : Type 0 where
   pub front_is : (tail : List ℕ) → front_of (bytes ++ tail) ≡ finished head (lines_of (rest ++ tail))
 
 -- the line that comes is the empty one
-pub found_end : (bytes rest : List ℕ) (at n : ℕ) → Passed bytes rest at → n ≤ length rest → is_blank (take n rest) ≡ true
+pub found_end : (bytes rest : List ℕ) (at count n : ℕ) → Passed bytes rest at count → n ≤ length rest → is_blank (take n rest) ≡ true
     → ((tail : List ℕ) → lines_of (rest ++ tail) ≡ take n rest ∷ lines_of (drop n rest ++ tail)) → begins_blank (lines_of bytes) ≡ false
-    → EndsAt bytes (at + n) (drop n rest)
-found_end bytes rest at n p fits here line begins =
+    → EndsAt bytes (at + n) (count + 1) (drop n rest)
+found_end bytes rest at count n p fits here line begins =
     let head = p.front ++ take n rest ∷ [] in
     let text = text_of-push p.front (take n rest) in
     let joined : bytes ≡ text_of head ++ drop n rest =
@@ -174,6 +179,7 @@ found_end bytes rest at n p fits here line begins =
     ap length text ∙ length-append (text_of p.front) (take n rest) ∙ ap (λ k. k + length (take n rest)) (sym p.at_is) ∙ ap (λ k. at + k) (length-take-le n rest fits) in
     record {
       head = head;
+      counted = length_push p.front (take n rest) ∙ ap (λ k. k + 1) (sym p.counted);
       text = sym (ap (take (at + n)) joined ∙ take_at (text_of head) (drop n rest) (at + n) size);
       size = size;
       within = omega (arith, size, ap length joined ∙ length-append (text_of head) (drop n rest));
@@ -192,25 +198,31 @@ found_end bytes rest at n p fits here line begins =
 abbrev said : List (List ℕ) → Bool → List ℕ → Front
 said head big rest = cond big large (whole (text_of head) (text_of (lines_of rest)))
 
-extent_by : (bytes rest : List ℕ) (at : ℕ) (e : EndsAt bytes at rest) (big : Bool)
+extent_by : (bytes rest : List ℕ) (at count : ℕ) (e : EndsAt bytes at count rest) (big : Bool) → (big ≡ false → at ≤ head_limit + 1)
     → ((tail : List ℕ) → front_of (bytes ++ tail) ≡ said e.head big (rest ++ tail)) → IsExtent bytes (cond big Large (Whole at))
-extent_by bytes rest at e true f = ap front_of (sym (append-nil bytes)) ∙ f []
-extent_by bytes rest at e false f = (
+extent_by bytes rest at count e true low f = ap front_of (sym (append-nil bytes)) ∙ f []
+extent_by bytes rest at count e false low f = (
   e.within,
+  low refl,
   λ tail.
       f tail ∙ ap (λ t. whole t (text_of (lines_of (rest ++ tail)))) e.text ∙ ap (whole (take at bytes)) (text_of-lines (rest ++ tail)) ∙ ap (λ t. whole (take at bytes) (t ++ tail)) e.rest_is,
 )
 
-pub extent_found : (bytes rest : List ℕ) (at : ℕ) → EndsAt bytes at rest → IsExtent bytes (sized at)
-extent_found bytes rest at e =
-    extent_by bytes rest at e (nat_lt (head_limit + 1) at) (λ tail.
-    e.front_is tail ∙ ap (λ k. said e.head (nat_lt (head_limit + 1) k) (rest ++ tail)) e.size)
+small : (at count : ℕ) → is_large at count ≡ false → at ≤ head_limit + 1
+small at count e = ltb-false (head_limit + 1) at (or_parts (nat_lt (head_limit + 1) at) (nat_lt (field_limit + 2) count) e).0
+
+pub extent_found : (bytes rest : List ℕ) (at count : ℕ) → EndsAt bytes at count rest → IsExtent bytes (sized at count)
+extent_found bytes rest at count e =
+    extent_by bytes rest at count e (is_large at count) (small at count) (λ tail.
+    e.front_is tail
+    ∙ ap (λ k. said e.head (is_large k (length e.head)) (rest ++ tail)) e.size
+    ∙ ap (λ k. said e.head (is_large at k) (rest ++ tail)) e.counted)
 
 -- no line ends in the rest
-no_end : (bytes rest : List ℕ) (at : ℕ) → Passed bytes rest at → HasNoLine rest → begins_blank (lines_of bytes) ≡ false
+no_end : (bytes rest : List ℕ) (at count : ℕ) → Passed bytes rest at count → HasNoLine rest → begins_blank (lines_of bytes) ≡ false
     → (bytes ≡ []) ⊎ (front_of bytes ≡ unfinished (length bytes))
-no_end [] rest at p none begins = inl refl
-no_end (b ∷ bytes) rest at p none begins =
+no_end [] rest at count p none begins = inl refl
+no_end (b ∷ bytes) rest at count p none begins =
     let lines : lines_of (b ∷ bytes) ≡ p.front ++ lines_of rest =
     ap lines_of (sym (append-nil (b ∷ bytes))) ∙ p.lines [] ∙ ap (λ t. p.front ++ lines_of t) (append-nil rest) in
     let split : split_head (lines_of (b ∷ bytes)) ≡ None =
@@ -219,16 +231,16 @@ no_end (b ∷ bytes) rest at p none begins =
     ∙ fronted-none (lines_of (b ∷ bytes)) split (some_lines b bytes)
     ∙ ap (λ t. unfinished (length t)) (text_of-lines (b ∷ bytes)))
 
-pub large_part : (bytes rest : List ℕ) (at : ℕ) → Passed bytes rest at → HasNoLine rest → begins_blank (lines_of bytes) ≡ false
+pub large_part : (bytes rest : List ℕ) (at count : ℕ) → Passed bytes rest at count → HasNoLine rest → begins_blank (lines_of bytes) ≡ false
     → head_limit < length bytes → front_of bytes ≡ large
-large_part bytes rest at p none begins long = elim (no_end bytes rest at p none begins) [
+large_part bytes rest at count p none begins long = elim (no_end bytes rest at count p none begins) [
   | inl e ↦ absurd (omega (arith, long, ap length e))
   | inr e ↦ e ∙ ap (λ t. cond t large part) (lt-ltb head_limit (length bytes) long)
 ]
 
-pub open_part : (bytes rest : List ℕ) (at : ℕ) → Passed bytes rest at → HasNoLine rest → begins_blank (lines_of bytes) ≡ false
+pub open_part : (bytes rest : List ℕ) (at count : ℕ) → Passed bytes rest at count → HasNoLine rest → begins_blank (lines_of bytes) ≡ false
     → length bytes ≤ head_limit → front_of bytes ≡ open_front bytes
-open_part bytes rest at p none begins short = elim (no_end bytes rest at p none begins) [
+open_part bytes rest at count p none begins short = elim (no_end bytes rest at count p none begins) [
   | inl e ↦ ap front_of e ∙ ap open_front (sym e)
   | inr e ↦ by bytes (e ∙ ap (λ t. cond t large part) (le-ltb head_limit (length bytes) short))
 ]

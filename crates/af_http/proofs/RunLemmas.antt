@@ -246,7 +246,7 @@ module _ {S : Type 0} (answers : S → Option (List ℕ) → Op → Served → S
   }
 
   pub begun_more : (count : ℕ) (old now new : S) (first before after : Given) (held held2 : List ℕ) (p q q2 : Place) (o : Option Ended)
-      → Begun count old now first before held p q → Turned answers count now before after held held2 q q2 new o → o ≡ None
+      → Begun count old now first before held p q → Turned answers 0 count now before after held held2 q q2 new o → o ≡ None
       → Begun (count + 1) old new first after held2 p q2
   begun_more count old now new first before after held held2 p q q2 o b (inr (s, kept)) none =
       let no = or_none q2.waiting.failed (Some s.e) o none s.outcome_is in
@@ -281,7 +281,7 @@ module _ {S : Type 0} (answers : S → Option (List ℕ) → Op → Served → S
 
   -- a run that ends at a request
   ends_at : (count : ℕ) (old now new : S) (first before after : Given) (held held2 : List ℕ) (p q q2 : Place) (e : Ended)
-      → (b : Begun count old now first before held p q) (x : Exchanges answers count now before after held held2 q q2 new (Some e)) → count < 1000
+      → (b : Begun count old now first before held p q) (x : Exchanges answers 0 count now before after held held2 q q2 new (Some e)) → count < 1000
       → (f : Bool) → f ≡ q2.waiting.failed → Some e ≡ or_fault f (end_after count x.exchange)
       → EndsOr (b.exchanges ++ x.exchange ∷ []) false (b.more ++ x.more) (held2 ++ []) [] e × (read_faults e ≡ 0) × (e ≡ end.Turns → ⊥)
       × WentAll f p q2 (b.exchanges ++ x.exchange ∷ []) [] e
@@ -334,7 +334,7 @@ module _ {S : Type 0} (answers : S → Option (List ℕ) → Op → Served → S
 
   -- or before one
   stops_at : (count : ℕ) (old now : S) (first before after : Given) (held : List ℕ) (p q q2 : Place) (e : Ended)
-      → (b : Begun count old now first before held p q) (s : Stopped before after held q q2 (Some e))
+      → (b : Begun count old now first before held p q) (s : Stopped 0 before after held q q2 (Some e))
       → (f : Bool) → f ≡ q2.waiting.failed → Some e ≡ or_fault f (Some s.e)
       → EndsOr b.exchanges s.ended (b.more ++ s.more) (held ++ s.more) s.all e × Reads first after b.exchanges s.ended e × WentAll f p q2 b.exchanges s.all e
   stops_at count old now first before after held p q q2 e b s false f_is is =
@@ -347,7 +347,7 @@ module _ {S : Type 0} (answers : S → Option (List ℕ) → Op → Served → S
       let N : Ended → Type 0 = λ t. t ≡ end.WriteFault → ⊥ in
       let I : Ended → Type 0 = λ t. t ≡ end.ReadFault → q2.waiting.bytes ≡ [] in (
         subst P (sym same) (how.2 other),
-        subst Q (sym same) (reads_then first before after b.exchanges count b.calls held s.more s.ended s.e b.awaited s.awaits b.counted b.took b.few s.turns),
+        subst Q (sym same) (reads_then first before after b.exchanges count b.calls held s.more s.ended s.e b.awaited s.awaits b.counted b.took b.few (λ t. let k = s.turns t in let r = s.awaits.took.reads_are in omega (arith, k, r))),
         (
           went.0 ∙ ap (λ t. t ++ s.all) b.went ∙ append_assoc (all_put p) (exchanges_text 0 b.exchanges) s.all,
           went.1 ∙ b.well,
@@ -379,7 +379,7 @@ module _ {S : Type 0} (answers : S → Option (List ℕ) → Op → Served → S
       let all : all_put q ++ s.all ≡ all_put p ++ (exchanges_text 0 b.exchanges ++ s.all) = ap (λ t. t ++ s.all) b.went ∙ append_assoc (all_put p) (exchanges_text 0 b.exchanges) s.all in
       let P : Ended → Type 0 = λ t. EndsOr b.exchanges s.ended (b.more ++ s.more) (held ++ s.more) s.all t in
       let Q : Ended → Type 0 = λ t. Reads first after b.exchanges s.ended t in
-      let read = reads_then first before after b.exchanges count b.calls held s.more s.ended s.e b.awaited s.awaits b.counted b.took b.few s.turns in
+      let read = reads_then first before after b.exchanges count b.calls held s.more s.ended s.e b.awaited s.awaits b.counted b.took b.few (λ t. let k = s.turns t in let r = s.awaits.took.reads_are in omega (arith, k, r)) in
       let short = went.1 in (
         subst P (sym same) (how.0, how.1),
         subst Q (sym same) (reads_anyway first after b.exchanges s.ended s.e (no_read q2.waiting s.ended (held ++ s.more) s.all s.e (sym f_is) s.stops) read),
@@ -401,7 +401,7 @@ module _ {S : Type 0} (answers : S → Option (List ℕ) → Op → Served → S
       no_read w ended text all end.NoMemory bad s = refl
 
   pub begun_ends : (count : ℕ) (old now new : S) (first before after : Given) (held held2 : List ℕ) (p q q2 : Place) (e : Ended)
-      → count < 1000 → Begun count old now first before held p q → Turned answers count now before after held held2 q q2 new (Some e)
+      → count < 1000 → Begun count old now first before held p q → Turned answers 0 count now before after held held2 q q2 new (Some e)
       → Ran answers old first after p q2 new e
   begun_ends count old now new first before after held held2 p q q2 e low b (inl x) =
       let how = ends_at count old now new first before after held held2 p q q2 e b x low q2.waiting.failed refl x.outcome_is in

@@ -1,6 +1,6 @@
 -- What the code finds at the front of the bytes that it holds.
-use Rattle.std.specs.Prelude.{◌+◌, cond, nat_lt, ◌≡◌, ◌≤◌, ℕ, List, [], ◌∷◌, ◌++◌, length, take, drop}
-use Rattle.af_http.specs.Fronts.{Front, nothing, part, large, whole, front_of}
+use Rattle.std.specs.Prelude.{◌+◌, cond, ◌≡◌, ◌≤◌, ℕ, List, [], ◌∷◌, ◌++◌, length, take, drop}
+use Rattle.af_http.specs.Fronts.{Front, nothing, part, large, whole, front_of, is_large}
 use Rattle.af_http.specs.Limits.{head_limit}
 use Rattle.af_http.specs.declared.extent.Extent.{Extent}
 use Rattle.af_http.specs.declared.extent.Extent.TheVariants.{Part, Large, Whole}
@@ -15,8 +15,8 @@ abbrev pub IsExtent : List ℕ → Extent → Type 0
 IsExtent bytes Part = (front_of bytes ≡ open_front bytes) × (length bytes ≤ head_limit)
 IsExtent bytes Large = front_of bytes ≡ large
 IsExtent bytes (Whole n) =
-    (n ≤ length bytes) × ((tail : List ℕ) → front_of (bytes ++ tail) ≡ whole (take n bytes) (drop n bytes ++ tail))
+    (n ≤ length bytes) × (n ≤ head_limit + 1) × ((tail : List ℕ) → front_of (bytes ++ tail) ≡ whole (take n bytes) (drop n bytes ++ tail))
 
--- a head of so many bytes
-abbrev pub sized : ℕ → Extent
-sized at = cond (nat_lt (head_limit + 1) at) Large (Whole at)
+-- a head of so many bytes, in so many lines
+abbrev pub sized : ℕ → ℕ → Extent
+sized at lines = cond (is_large at lines) Large (Whole at)

@@ -1,7 +1,7 @@
 -- Where the head of a request ends in a text. The empty lines before it are no part of it (RFC 9112, section 2.2).
-use Rattle.std.specs.Prelude.{ℕ, ◌+◌, List, [], ◌∷◌, ◌++◌, length, cond, nat_lt, Option, Some, None}
+use Rattle.std.specs.Prelude.{ℕ, Bool, ◌+◌, ◌||◌, List, [], ◌∷◌, ◌++◌, length, cond, nat_lt, Option, Some, None}
 use Rattle.std.specs.Option.{option_map}
-use Rattle.af_http.specs.Limits.{head_limit}
+use Rattle.af_http.specs.Limits.{head_limit, field_limit}
 use Rattle.af_http.specs.Lines.{lines_of, text_of, is_blank, after_blanks}
 
 -- lines in front of the two parts
@@ -29,10 +29,14 @@ pub data Front : Type 0 where
 abbrev pub unfinished : ℕ → Front
 unfinished size = cond (nat_lt head_limit size) large part
 
+-- So many bytes are too many for a head, or so many lines: there is one before the fields, and the empty one after them.
+abbrev pub is_large : ℕ → ℕ → Bool
+is_large size lines = nat_lt (head_limit + 1) size || nat_lt (field_limit + 2) lines
+
 -- a head of these lines, and the lines after it
 abbrev pub finished : List (List ℕ) → List (List ℕ) → Front
 finished head rest =
-    cond (nat_lt (head_limit + 1) (length (text_of head))) large (whole (text_of head) (text_of rest))
+    cond (is_large (length (text_of head)) (length head)) large (whole (text_of head) (text_of rest))
 
 -- the lines, and the head that they begin with, if it is whole
 abbrev pub fronted_by : List (List ℕ) → Option (List (List ℕ) × List (List ℕ)) → Front

@@ -1,9 +1,12 @@
 -- What gathering the bytes of a head says of them.
-use Rattle.std.specs.Prelude.{◌≡◌, ◌≤◌, ℕ, Bool, true, false, List, ◌++◌, length, take, drop, Result, Ok, Err}
+use Rattle.std.specs.Prelude.{◌≡◌, ◌<◌, ◌≤◌, ◌+◌, ℕ, Bool, true, false, List, ◌++◌, length, take, drop, Result, Ok, Err}
+use Rattle.af_http.specs.Limits.{head_limit}
 use Rattle.af_http.specs.Streams.{Given}
 use Rattle.af_http.specs.Fronts.{nothing, part, large, whole, front_of}
 use Rattle.af_http.specs.Extents.{open_front}
 use Rattle.af_http.specs.declared.stream.Failed.{Failed}
+use Rattle.af_http.specs.declared.gathering.BodyGathered.{BodyGathered}
+use Rattle.af_http.specs.declared.gathering.BodyGathered.TheVariants as body
 use Rattle.af_http.specs.declared.gathering.Gathered.{Gathered}
 use Rattle.af_http.specs.declared.gathering.Gathered.TheVariants.{Head, Large, Closed, Incomplete, ReadFailed, Turns}
 
@@ -29,7 +32,7 @@ pub record Holds (given given' : Given) (held held' more : List ℕ) : Type 0 wh
 
 -- what is held
 abbrev pub IsGathered : List ℕ → Gathered → Type 0
-IsGathered held (Head n) = (n ≤ length held) × ((tail : List ℕ) → front_of (held ++ tail) ≡ whole (take n held) (drop n held ++ tail))
+IsGathered held (Head n) = (n ≤ length held) × (n ≤ head_limit + 1) × ((tail : List ℕ) → front_of (held ++ tail) ≡ whole (take n held) (drop n held ++ tail))
 IsGathered held Large = front_of held ≡ large
 IsGathered held Closed = front_of held ≡ nothing
 IsGathered held Incomplete = front_of held ≡ part
@@ -52,3 +55,22 @@ failures_of Closed = 0
 failures_of Incomplete = 0
 failures_of ReadFailed = 1
 failures_of Turns = 0
+
+-- so many bytes are held, or fewer
+abbrev pub IsBodyGathered : ℕ → List ℕ → BodyGathered → Type 0
+IsBodyGathered wanted held body.Whole = wanted ≤ length held
+IsBodyGathered wanted held body.Cut = length held < wanted
+IsBodyGathered wanted held body.ReadFailed = length held < wanted
+IsBodyGathered wanted held body.Turns = length held < wanted
+
+abbrev pub body_ends : BodyGathered → ℕ
+body_ends body.Whole = 0
+body_ends body.Cut = 1
+body_ends body.ReadFailed = 0
+body_ends body.Turns = 0
+
+abbrev pub body_failures : BodyGathered → ℕ
+body_failures body.Whole = 0
+body_failures body.Cut = 0
+body_failures body.ReadFailed = 1
+body_failures body.Turns = 0

@@ -9,6 +9,7 @@ pub mod Parts
 pub mod Routes
 pub mod Answers
 pub mod Replies
+pub mod Lengths
 pub mod Reading
 pub mod Run
 pub mod Reads

@@ -13,6 +13,22 @@ read_limit = 65536
 abbrev pub request_limit : ℕ
 request_limit = 1000
 
+-- the most lines of a head between its first line and the empty one, and so the most of its fields
+abbrev pub field_limit : ℕ
+field_limit = 64
+
+-- the most bytes of a body
+abbrev pub body_limit : ℕ
+body_limit = 65536
+
+-- How many bytes are held for a request at most, and the most of them that are still to be used when more are read: a
+-- head with its empty line, and a body that is not whole.
+abbrev pub unread_limit : ℕ
+unread_limit = 81920
+
+abbrev pub incoming_room : ℕ
+incoming_room = 98304
+
 -- how many bytes are held for the writer at most
 abbrev pub outgoing_room : ℕ
 outgoing_room = 65536

@@ -8,15 +8,15 @@ use Rattle.af_http.specs.Run.{Exchange, asked_in}
 use Rattle.af_http.specs.declared.ended.Ended.{Ended}
 use Rattle.af_http.specs.declared.ended.Ended.TheVariants as end
 
--- From one moment of the reader to another these bytes came, behind those that were left: in no more reads than one
--- request may take, and in none where what was left holds a whole request, or is refused. So many of the reads found the
--- end, so many failed, and each other gave a byte.
-pub record Awaits (ends failures : ℕ) (before after : Given) (left came : List ℕ) : Type 0 where
+-- From one moment of the reader to another these bytes came, behind those that were left: in no more reads than so many
+-- before leave of those that one request may take, and in none where what was left holds a whole request, or is refused.
+-- So many of the reads found the end, so many failed, and each other gave a byte.
+pub record Awaits (used ends failures : ℕ) (before after : Given) (left came : List ℕ) : Type 0 where
   pub count : ℕ
   pub took : Took count ends failures before after
-  pub few : count ≤ read_limit
+  pub few : used + count ≤ read_limit
   pub came_is : after.bytes ≡ before.bytes ++ came
-  pub needed : (count ≡ 0) ⊎ IsOpen left
+  pub needed : ((count ≡ 0) × (came ≡ [])) ⊎ IsOpen left
 
 -- These requests were awaited one after another, each from the moment at which the one before it was whole: what was left
 -- then, with the bytes that came since, begins with it.
@@ -24,7 +24,7 @@ abbrev pub Awaited : Given → List ℕ → List Asked → Given → List ℕ �
 Awaited start left [] now rest = (now ≡ start) × (rest ≡ left)
 Awaited start left (asked ∷ more) now rest =
     (next : Given) × (came : List ℕ) × (after : List ℕ)
-    × Awaits 0 0 start next left came × Begins (left ++ came) asked after × Awaited next after more now rest
+    × Awaits 0 0 0 start next left came × Begins (left ++ came) asked after × Awaited next after more now rest
 
 -- a read failed where the run ended for that
 abbrev pub read_faults : Ended → ℕ
@@ -42,7 +42,7 @@ pub record Reads (old new : Given) (exchanges : List Exchange) (ended : Bool) (e
   pub left : List ℕ
   pub came : List ℕ
   pub each : Awaited old [] (asked_in exchanges) last left
-  pub after : Awaits (one_if ended) (read_faults e) last new left came
+  pub after : Awaits 0 (one_if ended) (read_faults e) last new left came
   pub too_many : e ≡ end.Turns → new.reads ≡ last.reads + read_limit
   pub count : ℕ
   pub all : Took count (one_if ended) (read_faults e) old new

@@ -123,9 +123,9 @@ IsMemoryText old new (end.Refused status) = ⊥
 module _ {S : Type 0} (answers : S → Option (List ℕ) → Op → Served → S → Type 0) where
   -- what is made of a request: the fault of its route, with the service as it was, or the service's answer
   abbrev pub Makes : S → Asked → Reply → S → Type 0
-  Makes old asked (reply.Fault fault) new = IsRouted (op_of asked.method asked.target []) (Err fault) × (new ≡ old)
+  Makes old asked (reply.Fault fault) new = IsRouted (op_of asked.method asked.target asked.body) (Err fault) × (new ≡ old)
   Makes old asked (reply.Served served) new =
-      (op : Op) × IsRouted (op_of asked.method asked.target []) (Ok op) × answers old asked.token op served new
+      (op : Op) × IsRouted (op_of asked.method asked.target asked.body) (Ok op) × answers old asked.token op served new
 
   -- these replies are made of these requests, in order
   abbrev pub Answered : S → List Exchange → S → Type 0

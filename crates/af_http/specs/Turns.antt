@@ -1,12 +1,12 @@
 -- What the parts of a turn do, over the bytes that they are given.
-use Rattle.std.specs.Prelude.{◌≡◌, ◌+◌, ◌*◌, ◌≤◌, ◌<◌, ◌⊎◌, ℕ, Bool, true, false, cond, List, [], ◌++◌, Option, Some, None}
+use Rattle.std.specs.Prelude.{◌≡◌, ◌+◌, ◌*◌, ◌≤◌, ◌<◌, ◌⊎◌, ℕ, Bool, true, false, cond, List, [], ◌++◌, length, take, drop, Option, Some, None, Ok}
 use Rattle.httparse.specs.Grammar.{RequestHead}
 use Rattle.af_ops.specs.declared.op.Op.{Op}
 use Rattle.af_ops.specs.declared.served.Served.{Served}
 use Rattle.af_http.specs.Limits.{read_limit, request_limit}
 use Rattle.af_http.specs.Streams.{Given, Waiting, Grew, one_if}
-use Rattle.af_http.specs.Requests.{Asked, asked_by, fields_of, is_taken}
-use Rattle.af_http.specs.Reading.{Begins, Parses, IsBadHead, IsRefused, IsEmpty, IsOpen, at_end, refusal_text, status_of}
+use Rattle.af_http.specs.Requests.{Asked, asked_by, body_length, is_head}
+use Rattle.af_http.specs.Reading.{Begins, Parses, IsUnread, IsRefused, IsEmpty, IsOpen, at_end, refusal_text, status_of}
 use Rattle.af_http.specs.Run.{Exchange, asked_in, exchange_text, exchanges_text, end_after, IsLeft, EndsOr, Makes, Answered}
 use Rattle.af_http.specs.Reading.{Stand}
 use Rattle.af_http.specs.Reads.{Awaits, Reads, read_faults}
@@ -15,7 +15,8 @@ use Rattle.af_http.specs.Fronts.{front_of}
 use Rattle.af_http.specs.Gathering.{Holds, ends_of, failures_of}
 use Rattle.af_http.specs.declared.gathering.Gathered.{Gathered}
 use Rattle.af_http.specs.declared.refusal.Refusal.{Refusal}
-use Rattle.af_http.specs.declared.refusal.Refusal.TheVariants.{BadHead}
+use Rattle.af_http.specs.declared.handled.Handled.{Handled}
+use Rattle.af_http.specs.declared.handled.Handled.TheVariants.{Over, Short}
 use Rattle.af_http.specs.declared.ended.Ended.{Ended}
 use Rattle.af_http.specs.declared.ended.Ended.TheVariants as end
 
@@ -33,23 +34,31 @@ Stops w ended text all (end.Refused status) =
 Stops w ended text all end.WriteFault = (ended ≡ false) × (all ≡ []) × (w.failed ≡ true)
 Stops w ended text all end.NoMemory = ⊥
 
--- A head was awaited, and so many of its reads found the end or failed; nothing was read where a write failed.
-abbrev pub AwaitsHead : Option Gathered → Given → Given → List ℕ → List ℕ → Type 0
-AwaitsHead None before after held held' = (after ≡ before) × ((tail : List ℕ) → front_of (held ++ tail) ≡ front_of (held' ++ tail))
-AwaitsHead (Some g) before after held held' =
-    (more : List ℕ) × Awaits (ends_of g) (failures_of g) before after held more × Holds before after held held' more
+-- A head was awaited in so many reads, some of which found the end or failed; nothing was read where a write failed.
+abbrev pub AwaitsHead : Option Gathered → ℕ → Given → Given → List ℕ → List ℕ → Type 0
+AwaitsHead None count before after held held' = (after ≡ before) × ((tail : List ℕ) → front_of (held ++ tail) ≡ front_of (held' ++ tail))
+AwaitsHead (Some g) count before after held held' =
+    (more : List ℕ) × (awaits : Awaits 0 (ends_of g) (failures_of g) before after held more) × (awaits.count ≡ count) × Holds before after held held' more
 
--- the run ends before a request
-pub record Stopped (before after : Given) (held : List ℕ) (p q : Place) (outcome : Option Ended) : Type 0 where
+-- a head is held whose body, of so many bytes, is not whole
+pub record WantsBody (held : List ℕ) (size length_is : ℕ) (head_only : Bool) : Type 0 where
+  pub parsed : RequestHead
+  pub parses : Parses (take size held) parsed
+  pub sized : body_length parsed ≡ Ok length_is
+  pub short : length (drop size held) < length_is
+  pub method : head_only ≡ is_head parsed.method
+
+-- the run ends before a request, where so many reads had been made for it
+pub record Stopped (used : ℕ) (before after : Given) (held : List ℕ) (p q : Place) (outcome : Option Ended) : Type 0 where
   pub more : List ℕ
   pub ended : Bool
   pub all : List ℕ
   pub e : Ended
-  pub awaits : Awaits (one_if ended) (read_faults e) before after held more
+  pub awaits : Awaits used (one_if ended) (read_faults e) before after held more
   pub stops : Stops q.waiting ended (held ++ more) all e
   pub puts : Puts 0 p q all
   pub outcome_is : outcome ≡ or_fault q.waiting.failed (Some e)
-  pub turns : e ≡ end.Turns → after.reads ≡ before.reads + read_limit
+  pub turns : e ≡ end.Turns → used + awaits.count ≡ read_limit
 
 -- What was put in a run: all of it was taken or waits, or a write failed.
 abbrev pub WentAll : Bool → Place → Place → List Exchange → List ℕ → Ended → Type 0
@@ -69,34 +78,38 @@ module _ {S : Type 0} (answers : S → Option (List ℕ) → Op → Served → S
     pub puts : Puts 1 p q (exchange_text count exchange)
     pub outcome_is : outcome ≡ or_fault q.waiting.failed (end_after count exchange)
 
-  -- a bad head is refused
+  -- a head is refused
   pub record Refuses (head : List ℕ) (old : S) (p q : Place) (new : S) (outcome : Option Ended) : Type 0 where
-    pub head_only : Bool
-    pub bad : IsBadHead head head_only
-    pub puts : Puts 0 p q (refusal_text (BadHead head_only))
+    pub refusal : Refusal
+    pub bad : IsUnread head refusal
+    pub early : at_end refusal ≡ false
+    pub puts : Puts 0 p q (refusal_text refusal)
     pub kept : new ≡ old
-    pub outcome_is : outcome ≡ or_fault q.waiting.failed (Some (end.Refused (status_of (BadHead head_only))))
+    pub outcome_is : outcome ≡ or_fault q.waiting.failed (Some (end.Refused (status_of refusal)))
 
-  -- the request of a head is answered, or the head is refused
-  abbrev pub Heads : ℕ → S → List ℕ → Place → Place → S → Option Ended → Type 0
-  Heads count old head p q new outcome =
-      ((h : RequestHead) × Parses head h × (is_taken h.minor (fields_of h) ≡ true) × Answers count old (asked_by h) p q new outcome)
-      ⊎ Refuses head old p q new outcome
+  -- what comes of the message at the front of what is held, whose head has so many bytes: its request is answered, or its
+  -- head is refused, or its body is not whole
+  abbrev pub Messages : ℕ → S → List ℕ → ℕ → Place → Place → S → Handled → Type 0
+  Messages count old held size p q new (Over outcome total) =
+      ((h : RequestHead) × (n : ℕ) × Parses (take size held) h × (body_length h ≡ Ok n) × (n ≤ length (drop size held)) × (total ≡ size + n)
+      × Answers count old (asked_by h (take n (drop size held))) p q new outcome)
+      ⊎ (Refuses (take size held) old p q new outcome × (total ≡ size))
+  Messages count old held size p q new (Short n head_only) = WantsBody held size n head_only × (new ≡ old) × (q ≡ p)
 
   -- the turn answers a request, whatever follows the bytes that are held with those that came; they are what is left, with it
-  pub record Exchanges (count : ℕ) (old : S) (before after : Given) (held left : List ℕ) (p q : Place) (new : S) (outcome : Option Ended) : Type 0 where
+  pub record Exchanges (used count : ℕ) (old : S) (before after : Given) (held left : List ℕ) (p q : Place) (new : S) (outcome : Option Ended) : Type 0 where
     pub more : List ℕ
     pub exchange : Exchange
-    pub awaits : Awaits 0 0 before after held more
+    pub awaits : Awaits used 0 0 before after held more
     pub begins : (tail : List ℕ) → Begins ((held ++ more) ++ tail) exchange.asked (left ++ tail)
     pub makes : Makes answers old exchange.asked exchange.reply new
     pub puts : Puts 1 p q (exchange_text count exchange)
     pub outcome_is : outcome ≡ or_fault q.waiting.failed (end_after count exchange)
 
   -- a turn: a request is answered, or none is and the run ends
-  abbrev pub Turned : ℕ → S → Given → Given → List ℕ → List ℕ → Place → Place → S → Option Ended → Type 0
-  Turned count old before after held left p q new outcome =
-      Exchanges count old before after held left p q new outcome ⊎ (Stopped before after held p q outcome × (new ≡ old))
+  abbrev pub Turned : ℕ → ℕ → S → Given → Given → List ℕ → List ℕ → Place → Place → S → Option Ended → Type 0
+  Turned used count old before after held left p q new outcome =
+      Exchanges used count old before after held left p q new outcome ⊎ (Stopped used before after held p q outcome × (new ≡ old))
 
   -- a run, of which all was put, and what is left may wait
   pub record Ran (old : S) (before after : Given) (p q : Place) (new : S) (e : Ended) : Type 0 where

@@ -1,9 +1,9 @@
-ghost use Rattle.std.specs.Prelude.{◌≡◌, ℕ, ◌+◌, ◌≤◌, List, [], ◌++◌, length};
+ghost use Rattle.std.specs.Prelude.{◌≡◌, ℕ, ◌+◌, ◌<◌, ◌≤◌, List, [], ◌++◌, length};
 ghost use Rattle.af_http.specs.Fronts.{front_of};
 ghost use Rattle.af_http.specs.Extents.{IsExtent, open_front};
-ghost use Rattle.af_http.specs.Limits.{read_limit};
+ghost use Rattle.af_http.specs.Limits.{head_limit, read_limit, unread_limit};
 ghost use Rattle.af_http.specs.Streams.{Took};
-ghost use Rattle.af_http.specs.Gathering.{IsGathered, Holds, ends_of, failures_of};
+ghost use Rattle.af_http.specs.Gathering.{IsGathered, Holds, Fills, IsBodyGathered, ends_of, failures_of, body_ends, body_failures};
 
 use crate::extent::Extent;
 use crate::incoming::Incoming;
@@ -31,6 +31,19 @@ pub enum Gathered {
     Turns,
 }
 
+/// How gathering the bytes of a body ended.
+#[derive(Clone, Copy, Debug, PartialEq, Eq)]
+pub enum BodyGathered {
+    /// It is whole.
+    Whole,
+    /// The input ended within it.
+    Cut,
+    /// A read failed.
+    ReadFailed,
+    /// There were too many reads.
+    Turns,
+}
+
 /// Drops the empty lines at the front, and says what stands there then.
 pub fn settle(incoming: &mut Incoming) -> Extent
     ensures same { (tail : List ℕ) → front_of (incoming.old ++ tail) ≡ front_of (incoming.new ++ tail) }
@@ -41,32 +54,68 @@ pub fn settle(incoming: &mut Incoming) -> Extent
 }
 
 /// Reads until a head is held, or none can be. A read may wait for the client, so no byte may wait for the writer.
-pub fn gather<R: Source>(reader: &mut R, incoming: &mut Incoming, waiting: &Outgoing) -> Gathered
+pub fn gather<R: Source>(
+    reader: &mut R,
+    incoming: &mut Incoming,
+    waiting: &Outgoing,
+) -> (Gathered, u32)
     requires idle { waiting.now.bytes ≡ [] }
     requires open { front_of incoming.old ≡ open_front incoming.old }
-    requires short { length incoming.old ≤ 16384 }
+    requires short { length incoming.old ≤ head_limit }
     ensures holds { (more : List ℕ) × Holds (R.given reader.old) (R.given reader.new) incoming.old incoming.new more }
-    ensures found { IsGathered incoming.new result }
-    ensures took { (count : ℕ) × (count ≤ read_limit)
-        × Took count (ends_of result) (failures_of result) (R.given reader.old) (R.given reader.new) }
-    ensures turns { result ≡ Gathered.Turns → (R.given reader.new).reads ≡ (R.given reader.old).reads + read_limit }
+    ensures found { IsGathered incoming.new result.0 }
+    ensures took { Took result.1 (ends_of result.0) (failures_of result.0) (R.given reader.old) (R.given reader.new) }
+    ensures few { result.1 ≤ read_limit }
+    ensures turns { result.0 ≡ Gathered.Turns → result.1 ≡ read_limit }
 {
-    for _ in 0..READ_LIMIT {
+    for count in 0..READ_LIMIT {
         match incoming.fill(reader, waiting) {
             Ok(true) => {}
             Ok(false) => {
                 if incoming.as_slice().is_empty() {
-                    return Gathered::Closed;
+                    return (Gathered::Closed, count + 1);
                 }
-                return Gathered::Incomplete;
+                return (Gathered::Incomplete, count + 1);
             }
-            Err(_) => return Gathered::ReadFailed,
+            Err(_) => return (Gathered::ReadFailed, count + 1),
         }
         match settle(incoming) {
-            Extent::Whole(n) => return Gathered::Head(n),
-            Extent::Large => return Gathered::Large,
+            Extent::Whole(n) => return (Gathered::Head(n), count + 1),
+            Extent::Large => return (Gathered::Large, count + 1),
             Extent::Part => {}
         }
     }
-    Gathered::Turns
+    (Gathered::Turns, READ_LIMIT)
+}
+
+/// Reads until so many bytes are held, in as many reads as so many before it leave of those for one request.
+pub fn gather_body<R: Source>(
+    reader: &mut R,
+    incoming: &mut Incoming,
+    waiting: &Outgoing,
+    wanted: usize,
+    before: u32,
+) -> (BodyGathered, u32)
+    requires idle { waiting.now.bytes ≡ [] }
+    requires short { length incoming.old < wanted }
+    requires within { wanted ≤ unread_limit + 1 }
+    requires few { before ≤ read_limit }
+    ensures came { (more : List ℕ) × Fills (R.given reader.old) (R.given reader.new) incoming.old incoming.new more }
+    ensures found { IsBodyGathered wanted incoming.new result.0 }
+    ensures took { Took result.1 (body_ends result.0) (body_failures result.0) (R.given reader.old) (R.given reader.new) }
+    ensures few { before + result.1 ≤ read_limit }
+    ensures turns { result.0 ≡ BodyGathered.Turns → before + result.1 ≡ read_limit }
+{
+    for count in before..READ_LIMIT {
+        match incoming.fill(reader, waiting) {
+            Ok(true) => {
+                if incoming.as_slice().len() >= wanted {
+                    return (BodyGathered::Whole, count - before + 1);
+                }
+            }
+            Ok(false) => return (BodyGathered::Cut, count - before + 1),
+            Err(_) => return (BodyGathered::ReadFailed, count - before + 1),
+        }
+    }
+    (BodyGathered::Turns, READ_LIMIT - before)
 }

@@ -1,4 +1,5 @@
 ghost use Rattle.std.specs.Prelude.{◌≡◌, ◌≢◌, ◌==◌, ℕ, ◌+◌, ◌<◌, ◌≤◌, List, [], ◌++◌, length, take, drop, IfOk, OnErr, Ok, true};
+ghost use Rattle.af_http.specs.Limits.{incoming_room, unread_limit};
 ghost use Rattle.af_http.specs.Streams.{Took, one_if};
 ghost use Rattle.af_http.specs.Gathering.{Fills, ends_in, failures_in};
 
@@ -7,11 +8,11 @@ use crate::stream::{Failed, Source};
 use std::alloc::{AllocError, Global};
 use std::marker::Model;
 
-/// How many bytes are kept at most.
-pub const INCOMING_ROOM: usize = 32_768;
+/// How many bytes are held for a request at most.
+pub const INCOMING_ROOM: usize = 98_304;
 
-/// The most bytes that are still to be used when more are read; a read then finds room for as many.
-pub const PIECE: usize = 16_384;
+/// The most bytes that are still to be used when more are read: a head with its empty line, and a body that is not whole.
+pub const UNREAD_LIMIT: usize = 81_920;
 
 /// The bytes that have come and were not used yet. A contract sees them.
 ///
@@ -25,12 +26,13 @@ pub struct Incoming {
 
 impl Model for Incoming {
     ghost use Rattle.std.specs.Prelude.{◌≡◌, ℕ, List, ◌≤◌, take, drop, vec_len};
+    ghost use Rattle.af_http.specs.Limits.{incoming_room};
 
     ghost Value = { List ℕ };
 
     ghost view = { λ i. drop i.start (take i.end i.bytes.items) };
 
-    ghost invariant = { λ i. (i.start ≤ i.end) × (i.end ≤ 32768) × (vec_len i.bytes ≡ 32768) };
+    ghost invariant = { λ i. (i.start ≤ i.end) × (i.end ≤ incoming_room) × (vec_len i.bytes ≡ incoming_room) };
 }
 
 impl Incoming {
@@ -67,7 +69,7 @@ impl Incoming {
     /// made while a byte waits for the writer.
     pub fn fill<R: Source>(&mut self, reader: &mut R, _waiting: &Outgoing) -> Result<bool, Failed>
         requires idle { _waiting.now.bytes ≡ [] }
-        requires few { length self.old ≤ 16384 }
+        requires few { length self.old ≤ unread_limit }
         ensures came { (more : List ℕ) × Fills (R.given reader.old) (R.given reader.new) self.old self.new more }
         ensures took { Took 1 (ends_in result) (failures_in result) (R.given reader.old) (R.given reader.new) }
         ensures none { result ≢ Ok true → self.new ≡ self.old }
@@ -87,11 +89,11 @@ fn read_more<R: Source>(
     start: usize,
     end: usize,
 ) -> (usize, usize, Result<bool, Failed>)
-    requires size { length bytes.old ≡ 32768 }
+    requires size { length bytes.old ≡ incoming_room }
     requires ordered { start ≤ end }
-    requires within { end ≤ 32768 }
-    requires few { end ≤ start + 16384 }
-    ensures within { (result.0 ≤ result.1) × (result.1 ≤ 32768) }
+    requires within { end ≤ incoming_room }
+    requires few { end ≤ start + unread_limit }
+    ensures within { (result.0 ≤ result.1) × (result.1 ≤ incoming_room) }
     ensures came { (more : List ℕ)
         × Fills (R.given reader.old) (R.given reader.new) (drop start (take end bytes.old)) (drop result.0 (take result.1 bytes.new)) more }
     ensures took { Took 1 (ends_in result.2) (failures_in result.2) (R.given reader.old) (R.given reader.new) }
@@ -107,15 +109,15 @@ fn read_more<R: Source>(
 /// Moves what stands from start to end to the front, where a read would find too little room behind it, and says where
 /// it stands then.
 fn with_room(bytes: &mut [u8], start: usize, end: usize) -> (usize, usize)
-    requires size { length bytes.old ≡ 32768 }
+    requires size { length bytes.old ≡ incoming_room }
     requires ordered { start ≤ end }
-    requires within { end ≤ 32768 }
-    requires few { end ≤ start + 16384 }
+    requires within { end ≤ incoming_room }
+    requires few { end ≤ start + unread_limit }
     ensures same { drop result.0 (take result.1 bytes.new) ≡ drop start (take end bytes.old) }
     ensures ordered { result.0 ≤ result.1 }
-    ensures room { result.1 ≤ 16384 }
+    ensures room { result.1 ≤ unread_limit }
 {
-    if end <= INCOMING_ROOM - PIECE {
+    if end <= UNREAD_LIMIT {
         return (start, end);
     }
     bytes.copy_within(start..end, 0);

@@ -8,6 +8,7 @@ mod ended;
 mod extent;
 mod fields;
 mod gathering;
+mod handled;
 mod incoming;
 mod laws;
 mod lines;

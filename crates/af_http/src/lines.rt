@@ -8,6 +8,9 @@ use memchr::memchr;
 /// The most bytes that may stand without an empty line.
 pub const HEAD_LIMIT: usize = 16_384;
 
+/// The most lines of a head between its first line and the empty one, and so the most of its fields.
+pub const FIELD_LIMIT: usize = 64;
+
 /// Where the first line ends, its line feed included.
 pub fn line_len(bytes: &[u8]) -> Option<usize>
     ensures within { IfSome result (λ n. (0 < n) × (n ≤ length bytes.now)) }
@@ -57,11 +60,13 @@ pub fn extent_of(bytes: &[u8]) -> Extent
 {
     let mut rest = bytes;
     let mut at = 0;
+    let mut lines = 0;
     while let Some(n) = line_len(rest) {
         let (line, after) = rest.split_at(n);
         at += n;
+        lines += 1;
         if is_blank(line) {
-            return sized(at);
+            return sized(at, lines);
         }
         rest = after;
     }
@@ -71,11 +76,11 @@ pub fn extent_of(bytes: &[u8]) -> Extent
     Extent::Part
 }
 
-/// A head of so many bytes.
-fn sized(at: usize) -> Extent
-    ensures { result ≡ sized at }
+/// A head of so many bytes, in so many lines.
+fn sized(at: usize, lines: usize) -> Extent
+    ensures { result ≡ sized at lines }
 {
-    if at > HEAD_LIMIT + 1 {
+    if at > HEAD_LIMIT + 1 || lines > FIELD_LIMIT + 2 {
         return Extent::Large;
     }
     Extent::Whole(at)

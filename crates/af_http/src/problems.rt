@@ -12,8 +12,10 @@ impl Refusal {
         ensures { result ≡ status_of self }
     {
         match self {
-            Refusal::BadHead(_) | Refusal::Incomplete => Status::BadRequest,
+            Refusal::BadHead(_) | Refusal::Incomplete(_) => Status::BadRequest,
             Refusal::HeadTooLarge => Status::HeadTooLarge,
+            Refusal::Coding(_) => Status::NotImplemented,
+            Refusal::BodyTooLarge(_) => Status::ContentTooLarge,
         }
     }
 
@@ -24,10 +26,14 @@ impl Refusal {
         match self {
             Refusal::BadHead(_) =>
                 b"{\"detail\":\"bad request head\",\"status\":400,\"title\":\"Bad Request\",\"type\":\"about:blank\"}",
-            Refusal::Incomplete =>
+            Refusal::Incomplete(_) =>
                 b"{\"detail\":\"incomplete request\",\"status\":400,\"title\":\"Bad Request\",\"type\":\"about:blank\"}",
             Refusal::HeadTooLarge =>
                 b"{\"detail\":\"request head too large\",\"status\":431,\"title\":\"Request Header Fields Too Large\",\"type\":\"about:blank\"}",
+            Refusal::Coding(_) =>
+                b"{\"detail\":\"transfer coding not supported\",\"status\":501,\"title\":\"Not Implemented\",\"type\":\"about:blank\"}",
+            Refusal::BodyTooLarge(_) =>
+                b"{\"detail\":\"body too large\",\"status\":413,\"title\":\"Content Too Large\",\"type\":\"about:blank\"}",
         }
     }
 
@@ -36,8 +42,11 @@ impl Refusal {
         ensures { result ≡ leaves_out self }
     {
         match self {
-            Refusal::BadHead(head_only) => head_only,
-            Refusal::Incomplete | Refusal::HeadTooLarge => false,
+            Refusal::BadHead(head_only)
+            | Refusal::Incomplete(head_only)
+            | Refusal::Coding(head_only)
+            | Refusal::BodyTooLarge(head_only) => head_only,
+            Refusal::HeadTooLarge => false,
         }
     }
 }

@@ -1,45 +1,47 @@
-ghost use Rattle.std.specs.Prelude.{map, All, ◌≡◌, ◌≤◌, ℕ, List, [], length, IfOk, IfErr, true};
+ghost use Rattle.std.specs.Prelude.{map, All, ◌≡◌, ℕ, List, length, IfOk, IfErr, Ok};
 ghost use Rattle.std.specs.Option.{option_copied};
 ghost use Rattle.httparse.specs.Spans.{IsHeaderWithin, header_bytes};
 ghost use Rattle.httparse.specs.Grammar.{RequestHead};
-ghost use Rattle.af_http.specs.Requests.{is_taken, token_of, asks_to_close, is_head, fields_of, asked_by, seen};
-ghost use Rattle.af_http.specs.Reading.{Parses, IsBadHead};
+ghost use Rattle.af_http.specs.Fields.{IsNamed};
+ghost use Rattle.af_http.specs.Requests.{body_length, has_host, length_of, length_or, length_in, number_in, token_of, asks_to_close, is_head, asked_by, seen};
+ghost use Rattle.af_http.specs.Lengths.{cap, capped};
+ghost use Rattle.af_http.specs.Reading.{Parses, IsUnread};
 
 use crate::fields::{Named, bearer, lists, same_text, value_of};
+use crate::lines::FIELD_LIMIT;
+use crate::refusal::Refusal;
 use crate::request::Request;
 use httparse::Status;
 use httparse::spans::{EMPTY_HEADER_SPAN, HeaderSpan, parse_request};
 
-/// The most fields of a head.
-pub const FIELD_LIMIT: usize = 64;
+/// The most bytes of a body.
+pub const BODY_LIMIT: usize = 65_536;
 
-/// A head that is refused: whether its method is known to be HEAD.
-#[derive(Clone, Copy, Debug, PartialEq, Eq)]
-pub struct BadHead(pub bool);
-
-/// The request that the head asks for, if it is one that is taken.
-pub fn read_head(head: &[u8]) -> Result<Request<'_>, BadHead>
-    ensures found { IfOk result (λ r. (h : RequestHead) × Parses head.now h × (is_taken h.minor (fields_of h) ≡ true) × (seen r ≡ asked_by h)) }
-    ensures bad { IfErr result (λ bad. IsBadHead head.now bad.0) }
+/// The request that the head asks for, or why it is refused.
+pub fn read_head(head: &[u8]) -> Result<Request<'_>, Refusal>
+    ensures found { IfOk result (λ r. (h : RequestHead) × Parses head.now h × (body_length h ≡ Ok r.length)
+        × ((body : List ℕ) → seen r body ≡ asked_by h body)) }
+    ensures bad { IfErr result (λ refusal. IsUnread head.now refusal) }
 {
     let mut headers = [EMPTY_HEADER_SPAN; FIELD_LIMIT];
     let Ok(Status::Complete(spans)) = parse_request(head, &mut headers) else {
-        return Err(BadHead(false));
+        return Err(Refusal::BadHead(false));
     };
     if spans.len != head.len() {
-        return Err(BadHead(false));
+        return Err(Refusal::BadHead(false));
     }
     let method = spans.method.of(head);
     let fields = &headers[..spans.headers];
-    if !is_taken(head, spans.version, fields) {
-        return Err(BadHead(is_head(method)));
+    match length_of(head, is_head(method), spans.version, fields) {
+        Ok(length) => Ok(Request {
+            method,
+            target: spans.path.of(head),
+            token: token_of(head, fields),
+            closes: asks_to_close(head, spans.version, fields),
+            length,
+        }),
+        Err(refusal) => Err(refusal),
     }
-    Ok(Request {
-        method,
-        target: spans.path.of(head),
-        token: token_of(head, fields),
-        closes: asks_to_close(head, spans.version, fields),
-    })
 }
 
 /// Whether the answer's body is left out.
@@ -49,15 +51,80 @@ pub fn is_head(method: &[u8]) -> bool
     method == b"HEAD".as_slice()
 }
 
-/// Whether the fields are those of a request without a body.
-fn is_taken(head: &[u8], minor: u8, fields: &[HeaderSpan]) -> bool
+/// The length of the body, or why the request is refused.
+fn length_of(
+    head: &[u8],
+    head_only: bool,
+    minor: u8,
+    fields: &[HeaderSpan],
+) -> Result<usize, Refusal>
     requires { All (IsHeaderWithin (length head.now)) fields.now }
-    ensures { result ≡ is_taken minor (map (header_bytes head.now) fields.now) }
+    ensures { result ≡ length_of head_only minor (map (header_bytes head.now) fields.now) }
 {
-    let hosts = minor == 0 || value_of(head, fields, b"host").is_only();
-    hosts
-        && value_of(head, fields, b"content-length").is_absent()
-        && value_of(head, fields, b"transfer-encoding").is_absent()
+    if !has_host(head, minor, fields) {
+        return Err(Refusal::BadHead(head_only));
+    }
+    let length = length_in(value_of(head, fields, b"content-length"));
+    let plain = value_of(head, fields, b"transfer-encoding").is_absent();
+    length_or(head_only, length, plain)
+}
+
+/// Whether the version's rule on `Host` is kept.
+fn has_host(head: &[u8], minor: u8, fields: &[HeaderSpan]) -> bool
+    requires { All (IsHeaderWithin (length head.now)) fields.now }
+    ensures { result ≡ has_host minor (map (header_bytes head.now) fields.now) }
+{
+    minor == 0 || value_of(head, fields, b"host").is_only()
+}
+
+/// The length that the values of `Content-Length` say, or one more than the limit where it is longer.
+fn length_in(values: Named<'_>) -> Option<usize>
+    ensures { (all : List (List ℕ)) → IsNamed all values.entry → result ≡ capped (length_in all) }
+{
+    match values {
+        Named::Absent => Some(0),
+        Named::Only(value) => number_in(value),
+        Named::Several => None,
+    }
+}
+
+/// The length of a body, which is right up to the limit, or why the request is refused.
+fn length_or(head_only: bool, length: Option<usize>, plain: bool) -> Result<usize, Refusal>
+    ensures { result ≡ length_or head_only length plain }
+{
+    match length {
+        None => Err(Refusal::BadHead(head_only)),
+        Some(_) if !plain => Err(Refusal::Coding(head_only)),
+        Some(length) if length > BODY_LIMIT => Err(Refusal::BodyTooLarge(head_only)),
+        Some(length) => Ok(length),
+    }
+}
+
+/// The number that a text of decimal digits writes, or one more than the limit where it is greater.
+fn number_in(text: &[u8]) -> Option<usize>
+    ensures { result ≡ capped (number_in text.now) }
+{
+    if text.is_empty() {
+        return None;
+    }
+    let mut number = 0;
+    for byte in text {
+        if !byte.is_ascii_digit() {
+            return None;
+        }
+        number = cap(number * 10 + usize::from(*byte - b'0'));
+    }
+    Some(number)
+}
+
+/// The number, or one more than the limit where it is greater.
+fn cap(number: usize) -> usize
+    ensures { result ≡ cap number }
+{
+    if number > BODY_LIMIT {
+        return BODY_LIMIT + 1;
+    }
+    number
 }
 
 /// The token of the only `Authorization`.

@@ -7,4 +7,6 @@ pub struct Request<'b> {
     pub token: Option<&'b [u8]>,
     /// The client wants the connection closed after it.
     pub closes: bool,
+    /// How many bytes its body has.
+    pub length: usize,
 }

@@ -24,6 +24,21 @@ const BAD_HEAD_OF_HEAD: &str =
 const TOO_LARGE: &str =
     "HTTP/1.1 431 Request Header Fields Too Large\r\nContent-Type: application/problem+json\r\nContent-Length: 111\r\nConnection: close\r\n\r\n{\"detail\":\"request head too large\",\"status\":431,\"title\":\"Request Header Fields Too Large\",\"type\":\"about:blank\"}";
 
+const INCOMPLETE_OF_HEAD: &str =
+    "HTTP/1.1 400 Bad Request\r\nContent-Type: application/problem+json\r\nContent-Length: 87\r\nConnection: close\r\n\r\n";
+
+const CODING: &str =
+    "HTTP/1.1 501 Not Implemented\r\nContent-Type: application/problem+json\r\nContent-Length: 102\r\nConnection: close\r\n\r\n{\"detail\":\"transfer coding not supported\",\"status\":501,\"title\":\"Not Implemented\",\"type\":\"about:blank\"}";
+
+const CODING_OF_HEAD: &str =
+    "HTTP/1.1 501 Not Implemented\r\nContent-Type: application/problem+json\r\nContent-Length: 102\r\nConnection: close\r\n\r\n";
+
+const BODY_TOO_LARGE: &str =
+    "HTTP/1.1 413 Content Too Large\r\nContent-Type: application/problem+json\r\nContent-Length: 89\r\nConnection: close\r\n\r\n{\"detail\":\"body too large\",\"status\":413,\"title\":\"Content Too Large\",\"type\":\"about:blank\"}";
+
+const BODY_TOO_LARGE_OF_HEAD: &str =
+    "HTTP/1.1 413 Content Too Large\r\nContent-Type: application/problem+json\r\nContent-Length: 89\r\nConnection: close\r\n\r\n";
+
 pub const NO_PATH: &str =
     "HTTP/1.1 404 Not Found\r\nContent-Type: application/problem+json\r\nContent-Length: 79\r\n\r\n{\"detail\":\"no such path\",\"status\":404,\"title\":\"Not Found\",\"type\":\"about:blank\"}";
 
@@ -40,7 +55,7 @@ const NO_TOKEN: &str =
     "HTTP/1.1 401 Unauthorized\r\nContent-Type: application/problem+json\r\nContent-Length: 2\r\nWWW-Authenticate: Bearer\r\nX-Policy-Version: 3\r\nX-Plane-Seq: 70\r\n\r\n{}";
 
 /// Inputs that end between requests or are refused, with all that is written.
-const MESSAGES: [(&[u8], Ended, &str, &str); 26] = [
+const MESSAGES: [(&[u8], Ended, &str, &str); 41] = [
     (
         b"GET /api/v1/version HTTP/1.1\r\nHost: h\r\n\r\n",
         Ended::Closed,
@@ -169,14 +184,104 @@ const MESSAGES: [(&[u8], Ended, &str, &str); 26] = [
     ),
     (
         b"GET /api/v1/version HTTP/1.1\r\nHost: h\r\nContent-Length: 0\r\n\r\n",
+        Ended::Closed,
+        VERSION_ANSWER,
+        "",
+    ),
+    (
+        b"GET /api/v1/version HTTP/1.1\r\nHost: h\r\nContent-Length: 00\r\n\r\n",
+        Ended::Closed,
+        VERSION_ANSWER,
+        "",
+    ),
+    (
+        b"GET /api/v1/version HTTP/1.1\r\nHost: h\r\ncontent-length: 005\r\n\r\nGET /GET /api/v1/version HTTP/1.1\r\nHost: h\r\n\r\n",
+        Ended::Closed,
+        VERSION_ANSWER,
+        VERSION_ANSWER,
+    ),
+    (
+        b"DELETE /api/v1/dags HTTP/1.1\r\nHost: h\r\nContent-Length: 4\r\n\r\n\r\n\r\nPUT /own HTTP/1.1\r\nHost: h\r\nContent-Length: 1\r\n\r\n{",
+        Ended::Closed,
+        BAD_METHOD,
+        NO_PATH,
+    ),
+    (
+        b"GET /api/v1/version HTTP/1.1\r\nHost: h\r\nContent-Length: 5\r\n\r\nabcd",
+        Ended::Refused(Status::BadRequest),
+        INCOMPLETE,
+        "",
+    ),
+    (
+        b"HEAD /api/v1/version HTTP/1.1\r\nHost: h\r\nContent-Length: 5\r\n\r\nabcd",
+        Ended::Refused(Status::BadRequest),
+        INCOMPLETE_OF_HEAD,
+        "",
+    ),
+    (
+        b"GET /api/v1/version HTTP/1.1\r\nHost: h\r\nContent-Length: 1\r\nContent-Length: 1\r\n\r\nx",
+        Ended::Refused(Status::BadRequest),
+        BAD_HEAD,
+        "",
+    ),
+    (
+        b"GET /api/v1/version HTTP/1.1\r\nHost: h\r\nContent-Length:\r\n\r\n",
+        Ended::Refused(Status::BadRequest),
+        BAD_HEAD,
+        "",
+    ),
+    (
+        b"GET /api/v1/version HTTP/1.1\r\nHost: h\r\nContent-Length: +1\r\n\r\nx",
+        Ended::Refused(Status::BadRequest),
+        BAD_HEAD,
+        "",
+    ),
+    (
+        b"GET /api/v1/version HTTP/1.1\r\nHost: h\r\nContent-Length: 1, 1\r\n\r\nx",
         Ended::Refused(Status::BadRequest),
         BAD_HEAD,
         "",
     ),
     (
         b"GET /api/v1/version HTTP/1.1\r\nHost: h\r\nTransfer-Encoding: chunked\r\n\r\n",
+        Ended::Refused(Status::NotImplemented),
+        CODING,
+        "",
+    ),
+    (
+        b"GET /api/v1/version HTTP/1.0\r\nTransfer-Encoding:\r\nContent-Length: 65537\r\n\r\n",
+        Ended::Refused(Status::NotImplemented),
+        CODING,
+        "",
+    ),
+    (
+        b"HEAD /api/v1/version HTTP/1.1\r\nHost: h\r\nTransfer-Encoding: chunked\r\n\r\n",
+        Ended::Refused(Status::NotImplemented),
+        CODING_OF_HEAD,
+        "",
+    ),
+    (
+        b"GET /api/v1/version HTTP/1.1\r\nHost: h\r\nTransfer-Encoding: chunked\r\nContent-Length: x\r\n\r\n",
         Ended::Refused(Status::BadRequest),
         BAD_HEAD,
+        "",
+    ),
+    (
+        b"GET /api/v1/version HTTP/1.1\r\nHost: h\r\nContent-Length: 65537\r\n\r\n",
+        Ended::Refused(Status::ContentTooLarge),
+        BODY_TOO_LARGE,
+        "",
+    ),
+    (
+        b"GET /own HTTP/1.1\r\nHost: h\r\nContent-Length: 184467440737095516160000000000000000000065536\r\n\r\n",
+        Ended::Refused(Status::ContentTooLarge),
+        BODY_TOO_LARGE,
+        "",
+    ),
+    (
+        b"HEAD /own HTTP/1.1\r\nHost: h\r\nContent-Length: 65537\r\n\r\n",
+        Ended::Refused(Status::ContentTooLarge),
+        BODY_TOO_LARGE_OF_HEAD,
         "",
     ),
     (
@@ -247,6 +352,63 @@ fn one_request_cut(rt: HostRuntime) -> Result<(), Fail> {
     Ok(())
 }
 
+/// A body may be cut anywhere, and the body of one request is no part of the next.
+#[test]
+fn bodies_cut(rt: HostRuntime) -> Result<(), Fail> {
+    let alloc = rt.alloc();
+    let bad = Ended::Refused(Status::BadRequest);
+    let input =
+        b"POST /api/v1/dags HTTP/1.1\r\nHost: h\r\nContent-Length: 9\r\n\r\nGET / HTTGET /api/v1/version HTTP/1.1\r\nHost: h\r\n\r\n";
+    assert_eq!(rt; input.len(), 108);
+    for cut in 0..109usize {
+        let (front, _) = input.as_slice().split_at(cut.min(input.len()));
+        let (wanted, first, second) = match cut {
+            0 => (Ended::Closed, "", ""),
+            67 => (Ended::Closed, BAD_METHOD, ""),
+            108 => (Ended::Closed, BAD_METHOD, VERSION_ANSWER),
+            _ if cut < 67 => (bad, INCOMPLETE, ""),
+            _ => (bad, BAD_METHOD, INCOMPLETE),
+        };
+        for size in [1usize, 100] {
+            assert!(rt;
+                gives(alloc, front, size, wanted, first, second)?,
+                "cut after {cut}, in pieces of {size}"
+            );
+        }
+    }
+    Ok(())
+}
+
+/// The longest body is read, whatever the pieces, and the request behind it is answered.
+#[test]
+fn longest_body(rt: HostRuntime) -> Result<(), Fail> {
+    let alloc = rt.alloc();
+    let mut input = Vec::from_slice(
+        alloc,
+        b"GET /api/v1/version HTTP/1.1\r\nHost: h\r\nContent-Length: 65536\r\n\r\n",
+    )?;
+    for _ in 0..65_536u32 {
+        input.push(b'\n')?;
+    }
+    input.extend_from_slice(VERSION)?;
+    for size in [100usize, 16_384, 100_000] {
+        assert!(rt;
+            gives(
+                alloc,
+                &input,
+                size,
+                Ended::Closed,
+                VERSION_ANSWER,
+                VERSION_ANSWER
+            )?,
+            "in pieces of {size}"
+        );
+    }
+    // A byte a read: 64 for the head, and 65,472 of the body, are as many as one request may take.
+    assert!(rt; gives(alloc, &input, 1, Ended::Turns, "", "")?);
+    Ok(())
+}
+
 /// A head of so many bytes, its empty line included.
 fn head_of(alloc: Global, size: usize) -> Result<Vec<u8>, Fail> {
     let mut head = Vec::from_slice(alloc, b"GET /api/v1/version HTTP/1.1\r\nHost: h\r\nX: ")?;
@@ -289,13 +451,13 @@ fn large_heads(rt: HostRuntime) -> Result<(), Fail> {
     Ok(())
 }
 
-/// 64 fields are read, 65 are not.
+/// 64 fields are read, 65 are too many.
 #[test]
 fn many_fields(rt: HostRuntime) -> Result<(), Fail> {
     let alloc = rt.alloc();
     for (fields, wanted, text) in [
         (64u32, Ended::Closed, VERSION_ANSWER),
-        (65, Ended::Refused(Status::BadRequest), BAD_HEAD),
+        (65, Ended::Refused(Status::HeadTooLarge), TOO_LARGE),
     ] {
         let mut head = Vec::from_slice(alloc, b"GET /api/v1/version HTTP/1.1\r\nHost: h\r\n")?;
         for _ in 1..fields {

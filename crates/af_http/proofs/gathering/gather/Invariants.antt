@@ -1,14 +1,15 @@
 use Rattle.std.proofs.Common.{◌≡◌, ◌≤◌, List, ℕ, length}
+use Rattle.af_http.specs.Limits.{head_limit}
 use Rattle.af_http.specs.Fronts.{front_of}
 use Rattle.af_http.specs.Extents.{open_front}
 use Rattle.af_http.specs.Gathering.{Holds}
 use Rattle.af_http.specs.Streams.{Took}
 use Rattle.af_http.proofs.gathering.gather.Given as goal
 
-abbrev pub invariant-loop : goal.invariant-loop
-invariant-loop g l =
+abbrev pub invariant-loop-count : goal.invariant-loop-count
+invariant-loop-count g l =
     let given = g.R.Source.given in
     ((more : List ℕ) × Holds (given l.fn.reader) (given l.reader) l.fn.incoming l.incoming more)
-    × Took l.counter 0 0 (given l.fn.reader) (given l.reader)
+    × Took l.count 0 0 (given l.fn.reader) (given l.reader)
     × (front_of l.incoming ≡ open_front l.incoming)
-    × (length l.incoming ≤ 16384)
+    × (length l.incoming ≤ head_limit)

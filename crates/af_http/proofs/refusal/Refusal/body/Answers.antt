@@ -16,3 +16,11 @@ returns-in-Incomplete c = sym (ap (λ r. problem_body (status_of r) (detail_of r
 pub returns-in-HeadTooLarge : goal.returns-in-HeadTooLarge
 unfolding digits escape_byte problem_body
 returns-in-HeadTooLarge c = sym (ap (λ r. problem_body (status_of r) (detail_of r)) c.in-HeadTooLarge.is)
+
+pub returns-in-Coding : goal.returns-in-Coding
+unfolding digits escape_byte problem_body
+returns-in-Coding c = sym (ap (λ r. problem_body (status_of r) (detail_of r)) c.in-Coding.is)
+
+pub returns-in-BodyTooLarge : goal.returns-in-BodyTooLarge
+unfolding digits escape_byte problem_body
+returns-in-BodyTooLarge c = sym (ap (λ r. problem_body (status_of r) (detail_of r)) c.in-BodyTooLarge.is)
