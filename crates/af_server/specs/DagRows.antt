@@ -97,7 +97,7 @@ dag_in pools row = do
 
 abbrev pub placed_dag : Draft → DagRead → Result Draft Reason
 placed_dag draft read =
-    unless_fault dag_reason (dag_fault draft.state.dags read.row.dag.dag_id) (record draft {
+    unless_fault dag_reason (dag_fault draft.state read.row) (record draft {
       state = record draft.state { dags = with_dag draft.state.dags read.row };
       scripts = draft.scripts ++ read.scripts;
     })

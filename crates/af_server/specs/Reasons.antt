@@ -64,6 +64,9 @@ graph_reason dag.OutOfMemory = Memory
 
 -- a DAG that is not added
 abbrev pub dag_reason : AddDagFault → Reason
+dag_reason add.NoActiveRuns = Limit
+dag_reason add.NoStep = Limit
+dag_reason add.NoSuchPool = Pool
 dag_reason add.Exists = Duplicate
 dag_reason add.Full = Limit
 dag_reason add.OutOfMemory = Memory

@@ -135,8 +135,9 @@ impl From<AddDagFault> for Reason {
 
     fn from(fault: AddDagFault) -> Reason {
         match fault {
+            AddDagFault::NoActiveRuns | AddDagFault::NoStep | AddDagFault::Full => Reason::Limit,
+            AddDagFault::NoSuchPool => Reason::Pool,
             AddDagFault::Exists => Reason::Duplicate,
-            AddDagFault::Full => Reason::Limit,
             AddDagFault::OutOfMemory => Reason::Memory,
         }
     }
