@@ -65,3 +65,6 @@ pub use worked::{
     bodies_by_the_rule, changes_by_the_rule, faults_by_the_rule, messages_by_the_rule,
     readings_by_the_rule, routes_by_the_rule,
 };
+
+#[cfg(test)]
+mod tests;

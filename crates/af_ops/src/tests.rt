@@ -1,0 +1,444 @@
+//! Requests of several users, one after another, with the bodies that the stable REST API of Airflow 2 and RFC 9457 spell.
+use crate::{Endpoint, Op, Served, Shown, Standing, Status, Text, read_row};
+use af_graph::{Dag, DagSpec, Rule, TaskIds, TaskSpec, TaskSpecs};
+use af_names::{DagId, Instant, PoolName, RoleName, RunId, TaskId, UserName};
+use af_policy::{Policy, PolicyDraft, User};
+use af_role::{Action, Pair, Permissions, Resource, Role};
+use af_sched::{DagRow, State};
+use sha2::{Digest, Sha256};
+use std::alloc::Global;
+use std::test::Fail;
+
+const ALL_DAGS: &[u8] =
+    br#"{"dags":[{"dag_id":"a","is_paused":true,"max_active_runs":16,"next_dagrun":null,"schedule_interval":null},{"dag_id":"b","is_paused":false,"max_active_runs":16,"next_dagrun":null,"schedule_interval":null},{"dag_id":"c","is_paused":false,"max_active_runs":16,"next_dagrun":null,"schedule_interval":null}],"total_entries":3}"#;
+
+const ONE_DAG: &[u8] =
+    br#"{"dags":[{"dag_id":"b","is_paused":false,"max_active_runs":16,"next_dagrun":null,"schedule_interval":null}],"total_entries":1}"#;
+
+const PAUSED: &[u8] =
+    br#"{"dag_id":"b","is_paused":true,"max_active_runs":16,"next_dagrun":null,"schedule_interval":null}"#;
+
+const VERSION: &[u8] = br#"{"git_version":null,"version":"afplane 1"}"#;
+
+const NOBODY: &[u8] =
+    br#"{"detail":"authentication required","status":401,"title":"Unauthorized","type":"about:blank"}"#;
+
+const NO_LIST: &[u8] =
+    br#"{"detail":"missing permission DAGs.can_read","status":403,"title":"Forbidden","type":"about:blank"}"#;
+
+const NO_A: &[u8] =
+    br#"{"detail":"missing permission DAG:a.can_read","status":403,"title":"Forbidden","type":"about:blank"}"#;
+
+const NO_NOSUCH: &[u8] =
+    br#"{"detail":"missing permission DAG:nosuch.can_read","status":403,"title":"Forbidden","type":"about:blank"}"#;
+
+const NO_EDIT: &[u8] =
+    br#"{"detail":"missing permission DAG:b.can_edit","status":403,"title":"Forbidden","type":"about:blank"}"#;
+
+const ABSENT: &[u8] =
+    br#"{"detail":"no such dag: nosuch","status":404,"title":"Not Found","type":"about:blank"}"#;
+
+const BAD_BODY: &[u8] =
+    br#"{"detail":"bad body","status":400,"title":"Bad Request","type":"about:blank"}"#;
+
+const BAD_MEMBER: &[u8] =
+    br#"{"detail":"bad member: is_paused","status":400,"title":"Bad Request","type":"about:blank"}"#;
+
+/// The bodies that are sent.
+#[derive(Clone, Copy)]
+enum Sent {
+    Nothing,
+    Cut,
+    Empty,
+    Pause,
+    GoOn,
+}
+
+/// What is told: a status and a body.
+#[derive(Clone, Copy)]
+enum Told {
+    AllDags,
+    OneDag,
+    Paused,
+    Running,
+    Version,
+    Nobody,
+    NoList,
+    NoA,
+    NoNosuch,
+    NoEdit,
+    Absent,
+    BadBody,
+    BadMember,
+}
+
+/// Who asks for what, at which DAG and with which body, and what is told, with the number of entries.
+type Row = (
+    &'static str,
+    Endpoint,
+    &'static str,
+    Sent,
+    Told,
+    Option<u32>,
+);
+
+/// Those who read. Each user's name is the token.
+const READINGS: [Row; 8] = [
+    (
+        "vera",
+        Endpoint::ListDags,
+        "",
+        Sent::Nothing,
+        Told::AllDags,
+        Some(0),
+    ),
+    (
+        "bob",
+        Endpoint::ListDags,
+        "",
+        Sent::Nothing,
+        Told::OneDag,
+        Some(0),
+    ),
+    (
+        "bob",
+        Endpoint::GetDag,
+        "a",
+        Sent::Nothing,
+        Told::NoA,
+        Some(0),
+    ),
+    (
+        "bob",
+        Endpoint::GetDag,
+        "nosuch",
+        Sent::Nothing,
+        Told::NoNosuch,
+        Some(0),
+    ),
+    (
+        "vera",
+        Endpoint::GetDag,
+        "nosuch",
+        Sent::Nothing,
+        Told::Absent,
+        Some(0),
+    ),
+    (
+        "pat",
+        Endpoint::ListDags,
+        "",
+        Sent::Nothing,
+        Told::NoList,
+        Some(0),
+    ),
+    (
+        "nobody",
+        Endpoint::ListDags,
+        "",
+        Sent::Nothing,
+        Told::Nobody,
+        Some(0),
+    ),
+    (
+        "",
+        Endpoint::Version,
+        "",
+        Sent::Nothing,
+        Told::Version,
+        None,
+    ),
+];
+
+/// Those who pause a DAG.
+const CHANGES: [Row; 10] = [
+    (
+        "",
+        Endpoint::PauseDag,
+        "b",
+        Sent::Cut,
+        Told::Nobody,
+        Some(0),
+    ),
+    (
+        "vera",
+        Endpoint::PauseDag,
+        "b",
+        Sent::Cut,
+        Told::NoEdit,
+        Some(0),
+    ),
+    (
+        "uma",
+        Endpoint::PauseDag,
+        "nosuch",
+        Sent::Cut,
+        Told::BadBody,
+        Some(0),
+    ),
+    (
+        "uma",
+        Endpoint::PauseDag,
+        "nosuch",
+        Sent::Empty,
+        Told::BadMember,
+        Some(0),
+    ),
+    (
+        "uma",
+        Endpoint::PauseDag,
+        "nosuch",
+        Sent::Pause,
+        Told::Absent,
+        Some(0),
+    ),
+    (
+        "uma",
+        Endpoint::PauseDag,
+        "b",
+        Sent::Pause,
+        Told::Paused,
+        Some(1),
+    ),
+    (
+        "uma",
+        Endpoint::PauseDag,
+        "b",
+        Sent::Pause,
+        Told::Paused,
+        Some(1),
+    ),
+    (
+        "bob",
+        Endpoint::GetDag,
+        "b",
+        Sent::Nothing,
+        Told::Paused,
+        Some(1),
+    ),
+    (
+        "uma",
+        Endpoint::PauseDag,
+        "b",
+        Sent::GoOn,
+        Told::Running,
+        Some(2),
+    ),
+    (
+        "vera",
+        Endpoint::ListDags,
+        "",
+        Sent::Nothing,
+        Told::AllDags,
+        Some(2),
+    ),
+];
+
+const RUNNING: &[u8] =
+    br#"{"dag_id":"b","is_paused":false,"max_active_runs":16,"next_dagrun":null,"schedule_interval":null}"#;
+
+fn dag(alloc: Global, id: &str, is_paused: bool) -> Result<DagRow, Fail> {
+    let task = TaskSpec {
+        task_id: TaskId::parse(alloc, "t")?,
+        upstream: TaskIds::of(Vec::new(alloc)),
+        pool: PoolName::parse(alloc, "default_pool")?,
+        pool_slots: 1,
+        priority_weight: 1,
+        retries: 0,
+        retry_delay: 300,
+        trigger_rule: Rule::AllSuccess,
+    };
+    let mut tasks = Vec::new(alloc);
+    tasks.push(task)?;
+    let spec = DagSpec {
+        dag_id: DagId::parse(alloc, id)?,
+        tasks: TaskSpecs::of(tasks),
+        schedule: None,
+        catchup: true,
+        max_active_runs: 16,
+    };
+    Ok(DagRow::opened(Dag::new(alloc, spec)?, is_paused))
+}
+
+/// A role that reads the DAG b alone.
+fn only_b(alloc: Global) -> Result<Role, Fail> {
+    let Some(pair) = Pair::new(Action::Read, Resource::Dag(DagId::parse(alloc, "b")?)) else {
+        return Err(Fail::new("a DAG is no resource to read"));
+    };
+    let mut permissions = Permissions::new(alloc);
+    permissions.add(pair)?;
+    Ok(Role::new(RoleName::parse(alloc, "OnlyB")?, permissions))
+}
+
+fn policy(alloc: Global) -> Result<Policy, Fail> {
+    let mut draft = PolicyDraft::new(alloc)?;
+    draft.add_role(only_b(alloc)?)?;
+    let users = [
+        ("adam", "Admin"),
+        ("bob", "OnlyB"),
+        ("pat", "Public"),
+        ("uma", "User"),
+        ("vera", "Viewer"),
+    ];
+    for (name, role) in users {
+        let mut roles = Vec::new(alloc);
+        roles.push(RoleName::parse(alloc, role)?)?;
+        let digest = Sha256::digest(name.as_bytes());
+        draft.add_user(
+            alloc,
+            User::new(UserName::parse(alloc, name)?, digest, roles),
+        )?;
+    }
+    Ok(draft.finish()?)
+}
+
+fn state(alloc: Global) -> Result<State, Fail> {
+    let mut state = State::new(alloc)?;
+    for (id, is_paused) in [("b", false), ("c", false), ("a", true)] {
+        state.add_dag(dag(alloc, id, is_paused)?)?;
+    }
+    Ok(state)
+}
+
+fn op(alloc: Global, endpoint: Endpoint, part: &str, body: &[u8]) -> Result<Option<Op>, Fail> {
+    let mut parts = Vec::new(alloc);
+    parts.push(String::from_str(alloc, part)?)?;
+    Ok(read_row(alloc, endpoint, parts.as_slice(), body)?)
+}
+
+fn sent_bytes(body: Sent) -> &'static [u8] {
+    match body {
+        Sent::Nothing => b"",
+        Sent::Cut => b"{",
+        Sent::Empty => b"{}",
+        Sent::Pause => br#"{"is_paused":true}"#,
+        Sent::GoOn => br#"{"is_paused":false}"#,
+    }
+}
+
+fn told_as(it: Told) -> (Status, &'static [u8]) {
+    match it {
+        Told::AllDags => (Status::Ok, ALL_DAGS),
+        Told::OneDag => (Status::Ok, ONE_DAG),
+        Told::Paused => (Status::Ok, PAUSED),
+        Told::Running => (Status::Ok, RUNNING),
+        Told::Version => (Status::Ok, VERSION),
+        Told::Nobody => (Status::Unauthorized, NOBODY),
+        Told::NoList => (Status::Forbidden, NO_LIST),
+        Told::NoA => (Status::Forbidden, NO_A),
+        Told::NoNosuch => (Status::Forbidden, NO_NOSUCH),
+        Told::NoEdit => (Status::Forbidden, NO_EDIT),
+        Told::Absent => (Status::NotFound, ABSENT),
+        Told::BadBody => (Status::BadRequest, BAD_BODY),
+        Told::BadMember => (Status::BadRequest, BAD_MEMBER),
+    }
+}
+
+/// What is told of a row: the status, the number of entries, and the body.
+fn asked(alloc: Global, standing: &mut Standing, policy: &Policy, row: Row) -> Result<Shown, Fail> {
+    let (who, endpoint, part, body, _, _) = row;
+    let token = if who.is_empty() {
+        None
+    } else {
+        Some(who.as_bytes())
+    };
+    let Some(op) = op(alloc, endpoint, part, sent_bytes(body))? else {
+        return Err(Fail::new("a part is no name"));
+    };
+    let now = Instant::read("2024-01-01T00:00:00Z")?;
+    match standing.answer(alloc, policy, token, &op, now) {
+        Served::Shown(shown) => Ok(shown),
+        _ => Err(Fail::new("nothing is shown")),
+    }
+}
+
+fn text(shown: &Shown) -> &[u8] {
+    match &shown.body {
+        Some(body) => body.as_bytes(),
+        None => b"",
+    }
+}
+
+/// How many of these rows, one after another, are told as they should be, up to the first that is not.
+fn play(alloc: Global, rows: &[Row]) -> Result<usize, Fail> {
+    let policy = policy(alloc)?;
+    let mut standing = Standing::open(state(alloc)?);
+    for (place, row) in rows.iter().enumerate() {
+        let shown = asked(alloc, &mut standing, &policy, *row)?;
+        if !is_told(&shown, *row) {
+            return Ok(place);
+        }
+    }
+    Ok(rows.len())
+}
+
+fn is_told(shown: &Shown, row: Row) -> bool {
+    let (status, body) = told_as(row.4);
+    shown.status == status
+        && shown.seq == row.5
+        && shown.version.is_some() == row.5.is_some()
+        && text(shown) == body
+}
+
+#[test]
+fn what_readers_are_told(rt: HostRuntime) -> Result<(), Fail> {
+    assert_eq!(rt; play(rt.alloc(), &READINGS)?, READINGS.len());
+    Ok(())
+}
+
+#[test]
+fn what_is_paused(rt: HostRuntime) -> Result<(), Fail> {
+    assert_eq!(rt; play(rt.alloc(), &CHANGES)?, CHANGES.len());
+    Ok(())
+}
+
+#[test]
+fn a_part_that_is_no_name(rt: HostRuntime) -> Result<(), Fail> {
+    for part in ["", "~", "a b", "a/b"] {
+        assert_eq!(rt;
+            op(rt.alloc(), Endpoint::GetDag, part, b"")?.is_some(),
+            false
+        );
+    }
+    Ok(())
+}
+
+#[test]
+fn a_member_of_each_kind(rt: HostRuntime) -> Result<(), Fail> {
+    let alloc = rt.alloc();
+    let task_id = TaskId::parse(alloc, "t-1")?;
+    let run_id = RunId::parse(alloc, "r+1")?;
+    let date = Instant::read("2024-01-01T00:00:00.000001Z")?;
+    let mut out = Text::with_room(alloc, 0)?;
+    out.text(alloc, false, "asked", "say \"x\"")?;
+    out.instant(alloc, true, "date", Some(date))?;
+    out.texts(alloc, true, "list", &["x", "\\"])?;
+    out.integer(true, "number", -7)?;
+    out.run_id(true, "run", &run_id)?;
+    out.task_id(true, "task", &task_id)?;
+    assert_eq!(rt;
+        out.into_bytes().as_slice(),
+        br#""asked":"say \"x\"","date":"2024-01-01T00:00:00.000001+00:00","list":["x","\\"],"number":-7,"run":"r+1","task":"t-1""#.as_slice()
+    );
+    Ok(())
+}
+
+#[test]
+fn a_page_has_a_hundred_rows(rt: HostRuntime) -> Result<(), Fail> {
+    let alloc = rt.alloc();
+    let policy = policy(alloc)?;
+    let mut state = State::new(alloc)?;
+    for n in 0..1024 {
+        let id = format!(in alloc; "dag{n}")?;
+        state.add_dag(dag(alloc, id.as_str(), false)?)?;
+    }
+    let mut standing = Standing::open(state);
+    let shown = asked(alloc, &mut standing, &policy, READINGS[0])?;
+    let rows = text(&shown)
+        .windows(8)
+        .filter(|window| window.starts_with(b"\"dag_id\""))
+        .count();
+    assert_eq!(rt; rows, 100);
+    assert_eq!(rt; text(&shown).ends_with(b"],\"total_entries\":1024}"), true);
+    Ok(())
+}
