@@ -93,7 +93,7 @@ def check_examples(it):
             data = file.read()
         with open(os.path.join(folder, "expected", name), "rb") as file:
             expected = file.read()
-        words = ["once", os.path.join(folder, "base.json" if stem == "viewer" else "team.json"), NOW]
+        words = ["once", os.path.join(folder, "base.json" if stem in ("viewer", "pause") else "team.json"), NOW]
         if oracle.run(words, data)[1] != expected:
             sys.exit(f"examples/expected/{name} is not what the oracle writes")
         it.case(f"example {stem}", words, data)

@@ -1,7 +1,7 @@
 #!/usr/bin/env python3
 """Refuses each allocation of afplane in turn, and looks at what it does then.
 
-  python3 bench/refusals.py                           the examples: a viewer, one team, a denial, a wrong token
+  python3 bench/refusals.py                           the examples: a viewer, one team, a denial, a wrong token, a pause
   python3 bench/refusals.py --program 'PATH/PROGRAM'
   python3 bench/refusals.py --tests                   each test of the crates below af_http whose tests `rt test` has built
 
@@ -29,7 +29,7 @@ NO_MEMORY = (
 )
 REFUSED = b"afplane: configuration refused: memory\n"
 MOST = 100_000
-INPUTS = [("base.json", "viewer.http"), ("team.json", "one-team.http"), ("team.json", "denied.http"), ("team.json", "wrong-token.http")]
+INPUTS = [("base.json", "viewer.http"), ("team.json", "one-team.http"), ("team.json", "denied.http"), ("team.json", "wrong-token.http"), ("base.json", "pause.http")]
 
 
 def build():

@@ -1,5 +1,11 @@
 """Request texts for differential.py: some as they should be, some hostile, all made from a seeded generator."""
 
+DAGS = [b"a", b"b", b"c", b"a.b", b"A", b"_", b"z" * 250, b"z" * 251, b"gone", b"team.report", b"%61", b"%2e", b"~", b"%7E", b"a%2Fb", b"%ff", b"%", b"%zz", b"a%20b", b"a+b", b"..", b"\xc3\xa9"]
+BODIES = [
+    *[b'{"is_paused":true}', b'{"is_paused":false}', b' {"is_paused" : true , "x":[1]}\n', b'{"is_paused":true,"is_paused":false}'],
+    *[b"", b"{}", b"{", b"null", b"[]", b"true", b'{"is_paused":null}', b'{"is_paused":1}', b'{"is_paused":"true"}', b'{"Is_paused":true}'],
+    *[b'{"is_paused":true}x', b"\xff", b'{"\\u0069s_paused":true}', b'{"is_paused":true,"x":"\\ud800"}', b'{"is_paused":true,"x":1e999}', b"GET /api/v1/version HTTP/1.1\r\n\r\n"],
+]
 METHODS = [b"HEAD", b"PUT", b"POST", b"PATCH", b"DELETE", b"OPTIONS", b"get", b"G!T", b"HEAD ", b"", b"GE\tT", b"GET(", b"\xc3\xa9"]
 TARGETS = [
     *[b"/api/v1/dags?limit=1", b"/api/v1/dags?", b"/api/v1/version?x=1", b"/api/v1/dags??", b"/?/api/v1/dags"],
@@ -22,7 +28,9 @@ BAD_LINES = [
     *[b"X: a\rb", b"X:\ra", b"X\r: a", b"X(: y", b"X@: y", b"X", b"\r", b"X: a\r", b'"X": y', b"X\x00: y", b" "],
 ]
 BODY_LINES = [
-    *[b"Content-Length: 0", b"content-length: 5", b"Content-Length:", b"CONTENT-LENGTH: x", b"Content-Length: 65537"],
+    *[b"Content-Length: 0", b"content-length: 5", b"Content-Length:", b"CONTENT-LENGTH: x", b"Content-Length: 65537", b"Content-Length: 00"],
+    *[b"Content-Length: 65536", b"Content-Length: " + b"9" * 40, b"Content-Length: " + b"0" * 40 + b"1", b"Content-Length: +1", b"Content-Length: 1, 1"],
+    *[b"Content-Length: -1", b"Content-Length: 1 ", b"Content-Length: 0x1", b"Content-Length: 1\t"],
     *[b"Transfer-Encoding: chunked", b"transfer-encoding:", b"Transfer-Encoding: identity"],
 ]
 PLAIN = b"GET /api/v1/version HTTP/1.1\r\nHost: h\r\n\r\n"
@@ -36,6 +44,20 @@ def list_request(token, fields=()):
     return head(b"GET /api/v1/dags HTTP/1.1", [b"Host: h", b"Authorization: Bearer " + token, *fields])
 
 
+def with_body(first, token, body, fields=()):
+    return head(first, [b"Host: h", b"Authorization: Bearer " + token, b"Content-Length: %d" % len(body), *fields]) + body
+
+
+def on_one_dag(rng, token, wild):
+    """One DAG is shown, or paused, or not."""
+    path = b"/api/v1/dags/" + rng.choice(DAGS if rng.random() < wild else DAGS[:6])
+    path += odd([b"/", b"?x=1", b"/x"], rng, wild / 3, b"")
+    if rng.random() < 0.4:
+        return head(odd(METHODS, rng, wild / 3, b"GET") + b" " + path + b" HTTP/1.1", [b"Host: h", b"Authorization: Bearer " + token])
+    body = rng.choice(BODIES if rng.random() < wild else BODIES[:3])
+    return with_body(odd(METHODS, rng, wild / 3, b"PATCH") + b" " + path + b" HTTP/1.1", token, body)
+
+
 def odd(make, rng, chance, plain):
     return rng.choice(make) if rng.random() < chance else plain
 
@@ -44,6 +66,8 @@ def request(rng, tokens, wild):
     """One request; `wild` is how likely each of its parts is an odd one."""
     wrong = [b"nope", b"", b" ", b"\xff"]
     token = odd(wrong, rng, wild, rng.choice(tokens))
+    if rng.random() < 0.5:
+        return on_one_dag(rng, token, wild)
     target = odd(TARGETS, rng, wild, rng.choice([b"/api/v1/dags"] * 4 + [b"/api/v1/version"]))
     gap = odd([b"  ", b"\t", b""], rng, wild / 6, b" ")
     first = gap.join([odd(METHODS, rng, wild, b"GET"), target, odd(VERSIONS, rng, wild / 2, b"HTTP/1.1")])
@@ -128,3 +152,19 @@ def fixed_inputs(token):
         yield list_request(token, [b"Connection: " + value]) + PLAIN
         yield list_request(token, [b"Connection: a", b"connection: " + value]) + PLAIN
     yield b"".join(listing.replace(b"Bearer ", it) for it in SCHEMES)
+    pause = with_body(b"PATCH /api/v1/dags/b HTTP/1.1", b"abc", BODIES[0])
+    shown = head(b"GET /api/v1/dags/b HTTP/1.1", [b"Host: h", b"Authorization: Bearer abc"])
+    yield from ((pause + shown)[:n] for n in range(len(pause + shown) + 1))
+    yield pause + pause + shown + pause.replace(b"true", b"false").replace(b": 18", b": 19") + shown + listing
+    for name in DAGS:
+        yield b"".join((pause + shown).replace(b"dags/b", b"dags/" + name).replace(b"abc", it) for it in (b"abc", token, b"foo", b"hello", b"nope"))
+    for body in BODIES:
+        yield b"".join(with_body(method + b" /api/v1/dags/b HTTP/1.1", it, body) + shown for method in (b"PATCH", b"GET", b"PUT", b"HEAD") for it in (b"abc", b"hello", token))
+        yield with_body(b"PATCH /api/v1/dags/nosuch HTTP/1.1", b"abc", body) + PLAIN
+    for size in (65535, 65536, 65537):
+        yield with_body(b"PATCH /api/v1/dags/b HTTP/1.1", b"abc", b"[" * size) + PLAIN
+        yield with_body(b"GET /api/v1/version HTTP/1.1", b"abc", b"x" * size) + PLAIN
+        yield with_body(b"HEAD /api/v1/version HTTP/1.1", b"abc", b"x" * (size - 1)) + PLAIN
+    for line in BODY_LINES:
+        yield pause.replace(b"Content-Length: 18", line) + PLAIN
+        yield pause.replace(b"Host: h", b"Host: h\r\n" + line) + PLAIN
