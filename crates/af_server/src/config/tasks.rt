@@ -133,12 +133,11 @@ fn pool_text(row: &Value) -> Result<&str, Reason>
     }
 }
 
-/// Whether one of the pools, which are in order of their names, has this name.
+/// Whether one of the pools has this name.
 fn has_pool(pools: &[Pool], name: &PoolName) -> bool
-    requires { ArePools pools.now }
     ensures { result ≡ has_pool pools.now name.now }
 {
-    pools.binary_search_by(|pool| pool.name.cmp(name)).is_ok()
+    pools.iter().any(|pool| pool.name == *name)
 }
 
 /// Reads the numbers of a task.
