@@ -106,7 +106,7 @@ impl Fixed {
                 Some(3u32),
                 vec![in self.alloc; b'x'; self.length]?,
             ),
-            Op::ListDags => (
+            Op::ListDags | Op::GetDag(_) | Op::PauseDag(_, _) => (
                 Status::Unauthorized,
                 Some(3),
                 Vec::from_slice(self.alloc, b"{}")?,
