@@ -101,7 +101,8 @@ impl Instant {
         text.push_str(self.isoformat().as_str())
     }
 
-    fn isoformat(&self) -> ArrayString<38>
+    /// The text that `write` gives, on the stack: 32 bytes at most, none of which JSON escapes.
+    pub fn isoformat(&self) -> ArrayString<38>
         ensures { result.bytes ≡ isoformat self.now }
     {
         let printer = DateTimePrinter::new().precision(Some(self.places()));
