@@ -1,1 +1,9 @@
+pub mod BusyLemmas
+pub mod ChainLemmas
+pub mod DagListLemmas
+pub mod FindLemmas
+pub mod IndexLemmas
+pub mod OkLemmas
+pub mod PlaceLemmas
 pub mod RunLemmas
+pub mod RunsLemmas

@@ -1,8 +1,9 @@
 -- The rows of the runs stay in order, numbered below the next number, apart in ids and dates, and few for each DAG.
-use Rattle.std.proofs.Common.{◌≡◌, refl, sym, ◌∙◌, ap, ℕ, ◌<◌, ◌≤◌, ◌+◌, zero, suc, List, [], ◌∷◌, ◌++◌, length, map, get_or, set, Bool, true, false, cond, ◌||◌, arith, ⊎_elim}
+use Rattle.std.proofs.Common.{◌≡◌, refl, sym, ◌∙◌, ap, subst, ℕ, ◌<◌, ◌≤◌, ◌+◌, zero, suc, List, [], ◌∷◌, ◌++◌, length, map, get_or, set, Bool, true, false, cond, ◌||◌, arith, ⊎_elim, ◌-◌, take, drop, take_all, length-drop}
+use Rattle.std.proofs.Math.ListN.{take-append-drop}
 use Rattle.std.proofs.lemmas.Bool.{cases_Bool}
 use Rattle.std.proofs.lemmas.Bool.Decides.{nat_tests}
-use Rattle.std.specs.Prelude.{filter, nat_le, ◌^◌, Option, Some, None, Result, Ok, Err, MatchResult, MatchOption, slice_set}
+use Rattle.std.specs.Prelude.{filter, nat_le, ◌^◌, Option, Some, None, Result, Ok, Err, MatchResult, MatchOption, slice_set, IfOk, OnErr}
 use Rattle.std.specs.Result.{result_ok}
 use Rattle.std.specs.List.{list_any, IsDistinct, AllByRecursion}
 use Rattle.std.specs.List.Sorted.{IsStrictlySortedBy, IsSearchInRange, IsBinarySearchResult}
@@ -13,7 +14,7 @@ use Rattle.std.specs.Cmp.Lexicographic.{nat_list_eq_equiv}
 use Rattle.std.proofs.lemmas.List.Elements.{All-set, All-push, All-weaker, All-nil, filter-append, filter_agree}
 use Rattle.std.proofs.lemmas.Map.Keys.{IsDistinct-push}
 use Rattle.std.proofs.Math.Seq.{map-set_same}
-use Rattle.std.proofs.lemmas.List.{append-nil}
+use Rattle.std.proofs.lemmas.List.{append-nil, append_assoc}
 use Rattle.std.proofs.Math.ListN.{length-append}
 use Rattle.af_runs.specs.declared.instance.Instance.{Instance}
 use Rattle.af_runs.specs.declared.new_run.NewRun.{NewRun}
@@ -21,7 +22,7 @@ use Rattle.af_runs.specs.declared.run.Run.{Run}
 use Rattle.af_runs.specs.declared.run_fault.RunFault.{RunFault}
 use Rattle.af_runs.specs.declared.run_fault.RunFault.TheVariants.{RunExists, DateTaken, Full}
 use Rattle.af_runs.specs.declared.run_state.RunState.{RunState}
-use Rattle.af_runs.specs.Runs.{AreRuns, is_of, is_run, is_dated, is_numbered, run_at, runs_of, is_full, add_fault, queued_run, same_ids, same_date, with_state, with_instance, advanced, with_advanced}
+use Rattle.af_runs.specs.Runs.{Adds, AreRuns, RunRows, SameRuns, is_of, is_run, is_dated, is_numbered, run_at, runs_of, is_full, add_fault, queued_run, same_ids, same_date, with_state, with_instance, advanced, with_advanced}
 use Rattle.af_runs.specs.Places.{StandsAt, StandsNowhere}
 use Rattle.af_names.proofs.OrderLemmas.{order-push, map-only, map-none, find-only, find-none, search_alone, search_none, search_rises}
 
@@ -29,7 +30,7 @@ abbrev number_of : Run → ℕ
 number_of run = run.number
 
 -- ---- two runs of one id, or of one date
-same_ids_laws : IsEquivalence same_ids
+pub same_ids_laws : IsEquivalence same_ids
 same_ids_laws = back_equiv (and_equiv (on_equiv (λ (run : Run). run.dag_id) nat_list_eq_equiv) (on_equiv (λ (run : Run). run.run_id) nat_list_eq_equiv))
 
 same_date_laws : IsEquivalence same_date
@@ -117,6 +118,13 @@ bounded_push runs run dag_id bounded few =
 pub count-append : (runs more : List Run) (dag_id : List ℕ) → length (runs_of (runs ++ more) dag_id) ≡ length (runs_of runs dag_id) + length (runs_of more dag_id)
 count-append runs more dag_id = rw (filter-append (is_of dag_id) runs more) (length-append (runs_of runs dag_id) (runs_of more dag_id))
 
+-- a DAG's runs among the first rows, and among the others
+pub count_split : (runs : List Run) (listed : ℕ) (dag_id : List ℕ) → listed ≤ length runs → length (runs_of (take listed runs) dag_id) + length (runs_of (take (length runs - listed) (drop listed runs)) dag_id) ≡ length (runs_of runs dag_id)
+count_split runs listed dag_id within =
+    ap (λ (rest : List Run). length (runs_of (take listed runs) dag_id) + length (runs_of rest dag_id)) (take_all (length runs - listed) (drop listed runs) (omega (arith, length-drop listed runs)))
+    ∙ sym (count-append (take listed runs) (drop listed runs) dag_id)
+    ∙ ap (λ (rows : List Run). length (runs_of rows dag_id)) (take-append-drop listed runs)
+
 -- a run that meets no fault, added last
 pub AreRuns-push : (runs : List Run) (next : ℕ) (new : NewRun) → 0 < next → add_fault runs next new.dag_id new.run_id new.logical_date ≡ None → AreRuns runs next → AreRuns (runs ++ queued_run next new ∷ []) (next + 1)
 AreRuns-push runs next new first no_fault are =
@@ -130,6 +138,17 @@ AreRuns-push runs next new first no_fault are =
       one_of_a_date = IsDistinct-push same_date_laws runs run are.one_of_a_date parts.1;
       bounded = λ dag_id. bounded_push runs run dag_id (are.bounded dag_id) (Lt-from_not_le (length (runs_of runs new.dag_id)) (or_left (nat_le 65_536 (length (runs_of runs new.dag_id))) (nat_le (2 ^ 64) next) parts.2));
     }
+
+-- a run that meets no fault, if it is added to those after others
+pub AreRuns-additions : (before : List Run) (old new : RunRows) (run : NewRun) (result : Result ℕ RunFault) → add_fault (before ++ old.rows) old.next run.dag_id run.run_id run.logical_date ≡ None → IfOk result (Adds old new run) → IfOk result (λ number. 0 < number) → OnErr result (SameRuns old new) → AreRuns (before ++ old.rows) old.next → AreRuns (before ++ new.rows) new.next
+AreRuns-additions before old new run (Ok number) no_fault adds above err are =
+    let added = AreRuns-push (before ++ old.rows) old.next run (omega (arith, adds.next_number, above)) no_fault are in
+    subst (λ (next : ℕ). AreRuns (before ++ new.rows) next) (sym adds.next)
+    (subst (λ (rows : List Run). AreRuns rows (old.next + 1))
+    (append_assoc before old.rows (queued_run old.next run ∷ []) ∙ (λ i. before ++ (old.rows ++ queued_run (sym adds.next_number i) run ∷ [])) ∙ ap (λ (rows : List Run). before ++ rows) (sym adds.row))
+    added)
+AreRuns-additions before old new run (Err fault) no_fault adds above err are =
+    subst (λ (next : ℕ). AreRuns (before ++ new.rows) next) (sym err.next) (subst (λ (rows : List Run). AreRuns (before ++ rows) old.next) (sym err.rows) are)
 
 -- a row replaced by one of the same number, ids and date
 pub AreRuns-set : (runs : List Run) (next place : ℕ) (run d : Run) → run.number ≡ (get_or runs place d).number → run.dag_id ≡ (get_or runs place d).dag_id → run.run_id ≡ (get_or runs place d).run_id → run.logical_date ≡ (get_or runs place d).logical_date → place < length runs → AreRuns runs next → AreRuns (set runs place run) next

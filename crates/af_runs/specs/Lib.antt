@@ -1,4 +1,10 @@
 pub mod Additions
+pub mod Busy
+pub mod Chains
+pub mod Codes
+pub mod DagLists
+pub mod Index
 pub mod Instances
 pub mod Places
 pub mod Runs
+pub mod Wanted

@@ -2,6 +2,8 @@
 use Rattle.std.specs.Prelude.{ℕ, ◌≡◌, ◌≢◌, ◌<◌, List, true, false, length, slice_index_or}
 use Rattle.af_runs.specs.declared.run.Run.{Run}
 use Rattle.af_runs.specs.Runs.{is_numbered}
+use Rattle.af_runs.specs.Wanted.{meets}
+use Rattle.af_runs.specs.declared.wanted.Wanted.{Wanted}
 
 -- the row at this place has the number, and no other row has it
 pub record StandsAt (runs : List Run) (number place : ℕ) : Type 0 where
@@ -12,3 +14,12 @@ pub record StandsAt (runs : List Run) (number place : ℕ) : Type 0 where
 -- no row has the number
 pub record StandsNowhere (runs : List Run) (number : ℕ) : Type 0 where
   pub none : (other : ℕ) (d : Run) → other < length runs → is_numbered number (slice_index_or runs other d) ≡ false
+
+-- the run at this place is the one that is wanted
+pub record IsMetAt (wanted : Wanted) (runs : List Run) (place : ℕ) : Type 0 where
+  pub within : place < length runs
+  pub here : (d : Run) → meets wanted (slice_index_or runs place d) ≡ true
+
+-- no run is the one that is wanted
+pub record IsMetNowhere (wanted : Wanted) (runs : List Run) : Type 0 where
+  pub none : (other : ℕ) (d : Run) → other < length runs → meets wanted (slice_index_or runs other d) ≡ false

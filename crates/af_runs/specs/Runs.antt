@@ -1,6 +1,6 @@
 -- Runs of DAGs: one list of rows in order of number, each with its instances (Airflow 2, "DAG Runs"). Numbers, and the
 -- limits, are this product's own rule.
-use Rattle.std.specs.Prelude.{ℕ, ◌≡◌, ◌+◌, ◌^◌, ◌<◌, ◌≤◌, ◌==◌, ◌&&◌, ◌||◌, List, [], ◌∷◌, ◌++◌, Bool, true, false, not, length, map, filter, find, option_map, slice_set, All, nat_lt, nat_le, Option, Some, None, Result, IfErr, if◌then◌else◌}
+use Rattle.std.specs.Prelude.{ℕ, ◌≡◌, ◌+◌, ◌^◌, ◌<◌, ◌≤◌, ◌==◌, ◌&&◌, ◌||◌, List, [], ◌∷◌, ◌++◌, Bool, true, false, length, map, filter, find, option_map, slice_set, All, nat_le, Option, Some, None, Result, IfErr, if◌then◌else◌}
 use Rattle.std.specs.List.{list_any, IsDistinct}
 use Rattle.std.specs.List.Sorted.{IsStrictlySortedBy}
 use Rattle.std.specs.Ordering.{nat_cmp}
@@ -58,10 +58,6 @@ is_finished Queued = false
 is_finished Running = false
 is_finished Success = true
 is_finished Failed = true
-
--- the first run after this number that has not ended
-abbrev pub unfinished_after : List Run → ℕ → Option Run
-unfinished_after runs number = find (λ run. nat_lt number run.number && not (is_finished run.state)) runs
 
 -- whether the DAG has as many runs as it may have, or no number is left for another
 abbrev pub is_full : List Run → ℕ → List ℕ → Bool
@@ -133,6 +129,13 @@ same_ids run other = is_run run.dag_id run.run_id other
 -- whether two runs are of one DAG and have one logical date
 abbrev pub same_date : Run → Run → Bool
 same_date run other = is_dated run.dag_id run.logical_date other
+
+-- a run with the number, the ids and the date of another
+pub record HasKeyOf (run other : Run) : Type 0 where
+  pub number : other.number ≡ run.number
+  pub dag_id : other.dag_id ≡ run.dag_id
+  pub run_id : other.run_id ≡ run.run_id
+  pub date : other.logical_date ≡ run.logical_date
 
 -- what holds of the rows at all times
 pub record AreRuns (runs : List Run) (next : ℕ) : Type 0 where

@@ -4,7 +4,7 @@ ghost use Rattle.af_runs.specs.Additions.{together};
 ghost use Rattle.af_runs.specs.Runs.{AreRuns, Adds, IsOkOrOutOfMemory, add_fault, refusal, is_full, is_run, is_dated, runs_of};
 
 use crate::new_run::NewRun;
-use crate::run::{Run, count_of, has_date, has_ids};
+use crate::run::Run;
 use crate::run_fault::RunFault;
 use crate::runs::{MOST_RUNS, Runs};
 use af_names::{DagId, Instant, RunId};
@@ -16,8 +16,7 @@ use std::marker::Model;
 #[derive(Drop)]
 pub struct Additions<'a> {
     runs: &'a Runs,
-    added: Vec<Run>,
-    last: u64,
+    added: Runs,
 }
 
 impl<'a> Model for Additions<'a> {
@@ -29,12 +28,12 @@ impl<'a> Model for Additions<'a> {
 
     ghost view = { λ a. record {
       before = a.runs.now.rows;
-      added = a.added.items;
-      next = a.last + 1;
+      added = a.added.rows;
+      next = a.added.next;
     } };
 
     // what holds of all runs holds of these after the others
-    ghost invariant = { λ a. AreRuns (a.runs.now.rows ++ a.added.items) (a.last + 1) };
+    ghost invariant = { λ a. AreRuns (a.runs.now.rows ++ a.added.rows) a.added.next };
 }
 
 impl<'a> Additions<'a> {
@@ -46,8 +45,7 @@ impl<'a> Additions<'a> {
     {
         Additions {
             runs,
-            added: Vec::new(alloc),
-            last: runs.last(),
+            added: Runs::after(alloc, runs.last()),
         }
     }
 
@@ -55,7 +53,7 @@ impl<'a> Additions<'a> {
     pub fn rows(&self) -> &[Run]
         ensures { result.now ≡ self.now.added }
     {
-        self.added.as_slice()
+        self.added.rows()
     }
 
     /// Adds a run, queued, and tells its number. Its faults are those of `Runs::add_fault` among the others and the
@@ -70,10 +68,7 @@ impl<'a> Additions<'a> {
         if let Some(fault) = self.add_fault(&new.dag_id, &new.run_id, new.logical_date) {
             return Err(fault);
         }
-        let number = self.last + 1;
-        self.added.push(Run::queued(number, new))?;
-        self.last = number;
-        Ok(number)
+        self.added.add_run(new)
     }
 
     /// The rows that are to be added, and the number of the last run of all, 0 where there is none.
@@ -82,12 +77,8 @@ impl<'a> Additions<'a> {
         ensures next { result.1 + 1 ≡ self.entry.next }
         ensures kept { AreRuns (self.entry.before ++ self.entry.added) self.entry.next }
     {
-        let Additions {
-            runs: _,
-            added,
-            last,
-        } = self;
-        (added, last)
+        let Additions { runs: _, added } = self;
+        added.into_rows()
     }
 
     /// Why a run of these ids and this logical date would not be added, memory aside.
@@ -108,14 +99,13 @@ impl<'a> Additions<'a> {
     fn has_ids(&self, dag_id: &DagId, run_id: &RunId) -> bool
         ensures { result ≡ list_any (is_run dag_id.now run_id.now) (self.now.before ++ self.now.added) }
     {
-        has_ids(self.runs.rows(), dag_id, run_id) || has_ids(self.rows(), dag_id, run_id)
+        self.runs.has_ids(dag_id, run_id) || self.added.has_ids(dag_id, run_id)
     }
 
     fn has_date(&self, dag_id: &DagId, logical_date: Instant) -> bool
         ensures { result ≡ list_any (is_dated dag_id.now logical_date) (self.now.before ++ self.now.added) }
     {
-        has_date(self.runs.rows(), dag_id, logical_date)
-            || has_date(self.rows(), dag_id, logical_date)
+        self.runs.has_date(dag_id, logical_date) || self.added.has_date(dag_id, logical_date)
     }
 
     /// Whether the DAG has as many runs as it may have, or no number is left for another.
@@ -129,13 +119,13 @@ impl<'a> Additions<'a> {
     fn count_of(&self, dag_id: &DagId) -> usize
         ensures { result ≡ length (runs_of (self.now.before ++ self.now.added) dag_id.now) }
     {
-        count_of(self.runs.rows(), dag_id) + count_of(self.rows(), dag_id)
+        self.runs.count_of(dag_id) + self.added.count_of(dag_id)
     }
 
     /// Whether no number is left for another run.
     fn is_spent(&self) -> bool
         ensures { result ≡ nat_le (2 ^ 64) self.now.next }
     {
-        self.last == u64::MAX
+        self.added.is_spent()
     }
 }

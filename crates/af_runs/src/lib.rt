@@ -3,15 +3,22 @@
 #![tactic(auto)]
 
 mod additions;
+mod busy;
+mod chains;
+mod codes;
+mod dag_lists;
+mod index;
 mod instance;
 mod instances;
 mod interval;
 mod new_run;
+mod places;
 mod run;
 mod run_fault;
 mod run_state;
 mod run_type;
 mod runs;
+mod wanted;
 
 pub use additions::Additions;
 pub use instance::Instance;

@@ -1,5 +1,5 @@
 ghost use Rattle.std.specs.Prelude.{◌≡◌, ◌↔◌, IfOk, true, length};
-ghost use Rattle.std.specs.List.{list_any};
+ghost use Rattle.af_runs.specs.Busy.{holds_any, is_busy};
 ghost use Rattle.af_runs.specs.Runs.{is_of, is_run, is_dated, queued_run, runs_of};
 
 use crate::instances::Instances;
@@ -7,6 +7,7 @@ use crate::interval::Interval;
 use crate::new_run::NewRun;
 use crate::run_state::RunState;
 use crate::run_type::RunType;
+use af_graph::TaskState;
 use af_names::{DagId, Instant, RunId};
 use std::alloc::{AllocError, Global};
 
@@ -85,6 +86,23 @@ impl Run {
             && self.instances.is_same(&other.instances)
     }
 
+    /// Whether it has not ended, or one of its instances is queued or running.
+    pub fn is_busy(&self) -> bool
+        ensures { result ≡ is_busy self.now }
+    {
+        !self.state.is_finished() || self.holds_any()
+    }
+
+    /// Whether one of its instances is queued or running.
+    fn holds_any(&self) -> bool
+        ensures { result ≡ holds_any self.now }
+    {
+        self.instances.as_slice().iter().any(|instance| matches!(
+            instance.state,
+            TaskState::Queued | TaskState::Running
+        ))
+    }
+
     /// Whether it is a run of the DAG of this id.
     pub(crate) fn is_of(&self, dag_id: &DagId) -> bool
         ensures { result ≡ is_of dag_id.now self.now }
@@ -93,10 +111,10 @@ impl Run {
     }
 
     /// Whether it is the run of these ids.
-    pub(crate) fn has_ids(&self, dag_id: &DagId, run_id: &RunId) -> bool
+    pub(crate) fn has_ids(&self, dag_id: &DagId, run_id: &str) -> bool
         ensures { result ≡ is_run dag_id.now run_id.now self.now }
     {
-        self.is_of(dag_id) && self.run_id == *run_id
+        self.is_of(dag_id) && self.run_id.as_str() == run_id
     }
 
     /// Whether it is the DAG's run of this logical date.
@@ -105,20 +123,6 @@ impl Run {
     {
         self.is_of(dag_id) && self.logical_date == logical_date
     }
-}
-
-/// Whether one of the runs has these ids.
-pub(crate) fn has_ids(runs: &[Run], dag_id: &DagId, run_id: &RunId) -> bool
-    ensures { result ≡ list_any (is_run dag_id.now run_id.now) runs.now }
-{
-    runs.iter().any(|run| run.has_ids(dag_id, run_id))
-}
-
-/// Whether one of the runs is the DAG's of this logical date.
-pub(crate) fn has_date(runs: &[Run], dag_id: &DagId, logical_date: Instant) -> bool
-    ensures { result ≡ list_any (is_dated dag_id.now logical_date) runs.now }
-{
-    runs.iter().any(|run| run.has_date(dag_id, logical_date))
 }
 
 /// How many of the runs the DAG has.

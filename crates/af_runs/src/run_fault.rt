@@ -1,5 +1,4 @@
-use crate::run::Run;
-use std::alloc::AllocFailed;
+use std::alloc::AllocError;
 
 /// Why a run is not added, in the order in which faults are told.
 #[derive(Clone, Copy, Debug, PartialEq, Eq)]
@@ -14,13 +13,13 @@ pub enum RunFault {
     OutOfMemory,
 }
 
-impl From<AllocFailed<Run>> for RunFault {
+impl From<AllocError> for RunFault {
     ghost use Rattle.std.specs.Prelude.{◌≡◌};
     ghost use Rattle.af_runs.specs.declared.run_fault.RunFault.TheVariants.{OutOfMemory};
 
     ghost from_gives = { λ _ e. e ≡ OutOfMemory };
 
-    fn from(_error: AllocFailed<Run>) -> RunFault {
+    fn from(_error: AllocError) -> RunFault {
         RunFault::OutOfMemory
     }
 }

@@ -1,12 +1,16 @@
-ghost use Rattle.std.specs.Prelude.{◌≡◌, ◌≢◌, ◌+◌, ◌++◌, ◌<◌, ◌≤◌, [], Err, IfOk, IfSome, IsNone, MatchOption, OnOk, OnErr, option_copied, length, nat_le, ◌^◌, IsOk, is_ok, if◌then◌else◌};
-ghost use Rattle.af_runs.specs.Runs.{AreRuns, Adds, SameRuns, IsOkOrOutOfMemory, add_fault, refusal, run_of, run_at, instances_of, unfinished_after, with_state, with_instance, with_advanced, is_full};
-ghost use Rattle.af_runs.specs.Places.{StandsAt, StandsNowhere};
+ghost use Rattle.std.specs.Prelude.{◌≡◌, ◌≢◌, ◌+◌, ◌++◌, ◌<◌, ◌≤◌, [], Err, IfOk, IfSome, IsNone, None, MatchOption, OnOk, OnErr, option_copied, length, nat_le, ◌^◌, IsOk, is_ok, if◌then◌else◌};
+ghost use Rattle.std.specs.List.{list_any};
+ghost use Rattle.af_runs.specs.Runs.{AreRuns, Adds, SameRuns, IsOkOrOutOfMemory, add_fault, refusal, run_of, run_at, runs_of, instances_of, is_dated, is_run, with_state, with_instance, with_advanced, is_full};
+ghost use Rattle.af_runs.specs.Places.{IsMetAt, IsMetNowhere, StandsAt, StandsNowhere};
 
+use crate::index::Index;
 use crate::instance::Instance;
 use crate::new_run::NewRun;
-use crate::run::{Run, count_of, has_date, has_ids};
+use crate::places::{find_place, place_of};
+use crate::run::{Run, count_of};
 use crate::run_fault::RunFault;
 use crate::run_state::RunState;
+use crate::wanted::Wanted;
 use af_names::{DagId, Instant, RunId};
 use std::alloc::{AllocError, Global};
 use std::marker::Model;
@@ -20,10 +24,13 @@ pub(crate) const MOST_RUNS: usize = 65_536;
 pub struct Runs {
     rows: Vec<Run>,
     last: u64,
+    index: Index,
+    spare: usize,
 }
 
 impl Model for Runs {
-    ghost use Rattle.std.specs.Prelude.{◌+◌, ◌-◌, vec_len, vec_capacity};
+    ghost use Rattle.std.specs.Prelude.{◌+◌, ◌≤◌, vec_len, vec_capacity};
+    ghost use Rattle.af_runs.specs.Index.{HasRoomFor, IsIndex};
     ghost use Rattle.af_runs.specs.Runs.{RunRows, AreRuns};
 
     ghost Value = { RunRows };
@@ -31,10 +38,14 @@ impl Model for Runs {
     ghost view = { λ runs. record {
       rows = runs.rows.items;
       next = runs.last + 1;
-      spare = vec_capacity runs.rows - vec_len runs.rows;
+      spare = runs.spare;
     } };
 
-    ghost invariant = { λ runs. AreRuns runs.rows.items (runs.last + 1) };
+    ghost invariant = { λ runs.
+        AreRuns runs.rows.items (runs.last + 1)
+        × IsIndex runs.rows.items runs.index
+        × HasRoomFor runs.spare runs.index
+        × (vec_len runs.rows + runs.spare ≤ vec_capacity runs.rows) };
 }
 
 impl Runs {
@@ -43,24 +54,20 @@ impl Runs {
         ensures rows { result.rows ≡ [] }
         ensures next { result.next ≡ 1 }
     {
-        Runs {
-            rows: Vec::new(alloc),
-            last: 0,
-        }
+        Runs::after(alloc, 0)
     }
 
-    /// The same runs again, without spare room. `AllocError` only where a growth was refused.
-    pub fn copied(&self, alloc: Global) -> Result<Runs, AllocError>
-        ensures { IfOk result (SameRuns self.now) }
+    /// No runs; the first gets the number after this one. It takes no memory.
+    pub(crate) fn after(alloc: Global, last: u64) -> Runs
+        ensures rows { result.rows ≡ [] }
+        ensures next { result.next ≡ last + 1 }
     {
-        let mut rows = Vec::with_capacity(alloc, self.rows.len())?;
-        for run in &self.rows {
-            rows.push(run.copied(alloc)?)?;
+        Runs {
+            rows: Vec::new(alloc),
+            last,
+            index: Index::new(alloc),
+            spare: 0,
         }
-        Ok(Runs {
-            rows,
-            last: self.last,
-        })
     }
 
     /// The rows, in order of number.
@@ -75,7 +82,7 @@ impl Runs {
     pub fn spare(&self) -> usize
         ensures { result ≡ self.now.spare }
     {
-        self.rows.capacity() - self.rows.len()
+        self.spare
     }
 
     /// Reserves memory for that many more runs. `AllocError` only where a growth was refused, so never where there is
@@ -87,14 +94,22 @@ impl Runs {
         ensures rows { SameRuns self.old self.new }
         ensures spare { self.old.spare ≤ self.new.spare }
     {
-        self.rows.reserve(additional)
+        self.index.list_rest(self.rows.as_slice());
+        if additional <= self.spare {
+            return Ok(());
+        }
+        self.index.reserve(additional)?;
+        self.rows.reserve(additional)?;
+        self.spare = additional;
+        Ok(())
     }
 
     /// The run of these ids.
     pub fn find(&self, dag_id: &DagId, run_id: &RunId) -> Option<&Run>
         ensures { option_copied result ≡ run_of self.now.rows dag_id.now run_id.now }
     {
-        self.rows.iter().find(|run| run.has_ids(dag_id, run_id))
+        let place = self.place_by(&Wanted::Ids(dag_id, run_id.as_str()))?;
+        Some(&self.rows[place])
     }
 
     /// The run of this number.
@@ -113,15 +128,6 @@ impl Runs {
             .map(|run| run.instances.as_slice())
     }
 
-    /// The first run after this number that has not ended.
-    pub fn unfinished_after(&self, number: u64) -> Option<&Run>
-        ensures { option_copied result ≡ unfinished_after self.now.rows number }
-    {
-        self.rows
-            .iter()
-            .find(|run| number < run.number && !run.state.is_finished())
-    }
-
     /// Why a run of these ids and this logical date would not be added, memory aside: `RunExists` where the DAG has a
     /// run of that id; `DateTaken` where it has one of that logical date; `Full` where it has 65,536 runs or no number
     /// is left.
@@ -133,9 +139,9 @@ impl Runs {
     ) -> Option<RunFault>
         ensures { result ≡ add_fault self.now.rows self.now.next dag_id.now run_id.now logical_date }
     {
-        if has_ids(self.rows.as_slice(), dag_id, run_id) {
+        if self.has_ids(dag_id, run_id) {
             Some(RunFault::RunExists)
-        } else if has_date(self.rows.as_slice(), dag_id, logical_date) {
+        } else if self.has_date(dag_id, logical_date) {
             Some(RunFault::DateTaken)
         } else if self.is_full(dag_id) {
             Some(RunFault::Full)
@@ -150,6 +156,7 @@ impl Runs {
         ensures refused { IfSome (refusal self.old new) (λ fault. result ≡ Err fault) }
         ensures accepted { IsNone (refusal self.old new) → IsOkOrOutOfMemory result }
         ensures ok { IfOk result (Adds self.old self.new new) }
+        ensures positive { IfOk result (λ number. 0 < number) }
         ensures err { OnErr result (SameRuns self.old self.new) }
         ensures roomy { 0 < self.old.spare → result ≢ Err RunFault.OutOfMemory }
         ensures spare { self.old.spare ≤ self.new.spare + (if is_ok result then 1 else 0) }
@@ -157,10 +164,10 @@ impl Runs {
         if let Some(fault) = self.add_fault(&new.dag_id, &new.run_id, new.logical_date) {
             return Err(fault);
         }
-        let number = self.last + 1;
-        self.rows.push(Run::queued(number, new))?;
-        self.last = number;
-        Ok(number)
+        if self.spare == 0 {
+            self.reserve(1)?;
+        }
+        Ok(self.push(new))
     }
 
     /// Puts the run of this number into a state, with its start and its end. Where there is no such run nothing changes.
@@ -180,6 +187,7 @@ impl Runs {
             run.state = state;
             run.start_date = start_date;
             run.end_date = end_date;
+            self.index.keep_busy(&self.rows[place]);
         }
     }
 
@@ -191,6 +199,7 @@ impl Runs {
     {
         if let Some(row) = self.place_of(number) {
             self.rows[row].instances.set(place, instance);
+            self.index.keep_busy(&self.rows[row]);
         }
     }
 
@@ -205,6 +214,7 @@ impl Runs {
             earlier.start_date = later.start_date;
             earlier.end_date = later.end_date;
             earlier.instances = later.instances;
+            self.index.keep_busy(&self.rows[place]);
         }
     }
 
@@ -219,9 +229,25 @@ impl Runs {
         ensures spare { self.old.spare ≤ self.new.spare + length added.items }
     {
         let mut added = added;
+        self.index.push_all(added.as_slice());
+        self.spare -= added.len();
         // There is room for them, so it succeeds.
         let _done = self.rows.append(&mut added);
         self.last = last;
+    }
+
+    /// The rows, given back, and the number of the last run.
+    pub(crate) fn into_rows(self) -> (Vec<Run>, u64)
+        ensures rows { result.0.items ≡ self.rows }
+        ensures next { result.1 + 1 ≡ self.next }
+    {
+        let Runs {
+            rows,
+            last,
+            index: _,
+            spare: _,
+        } = self;
+        (rows, last)
     }
 
     /// The number of the last run, 0 before the first.
@@ -232,24 +258,75 @@ impl Runs {
         self.last
     }
 
+    /// Adds a run, queued, where memory is reserved for it and none of `add_fault` is met, and tells its number.
+    fn push(&mut self, new: NewRun) -> u64
+        requires free { refusal self.old new ≡ None }
+        requires room { 0 < self.old.spare }
+        ensures added { Adds self.old self.new new result }
+        ensures positive { 0 < result }
+        ensures spare { self.old.spare ≡ self.new.spare + 1 }
+    {
+        let number = self.last + 1;
+        let run = Run::queued(number, new);
+        self.index.push(&run);
+        // There is room, so it succeeds.
+        let _pushed = self.rows.push(run);
+        self.last = number;
+        self.spare -= 1;
+        number
+    }
+
     /// Where the row of the run of this number stands.
     fn place_of(&self, number: u64) -> Option<usize>
         ensures { MatchOption result (StandsNowhere self.now.rows number) (StandsAt self.now.rows number) }
     {
-        self.rows
-            .binary_search_by_key(&number, |run| run.number)
-            .ok()
+        place_of(self.rows.as_slice(), self.last, number)
+    }
+
+    /// Where the row of the run that is wanted stands.
+    fn place_by(&self, wanted: &Wanted<'_>) -> Option<usize>
+        ensures { MatchOption result (IsMetNowhere wanted.now self.now.rows) (IsMetAt wanted.now self.now.rows) }
+    {
+        let chains = match wanted {
+            Wanted::Ids(_, _) => &self.index.ids,
+            Wanted::Date(_, _) => &self.index.dates,
+        };
+        find_place(self.rows.as_slice(), self.last, chains, wanted)
+    }
+
+    /// Whether a run has these ids.
+    pub(crate) fn has_ids(&self, dag_id: &DagId, run_id: &RunId) -> bool
+        ensures { result ≡ list_any (is_run dag_id.now run_id.now) self.now.rows }
+    {
+        self.place_by(&Wanted::Ids(dag_id, run_id.as_str()))
+            .is_some()
+    }
+
+    /// Whether a run is the DAG's of this logical date.
+    pub(crate) fn has_date(&self, dag_id: &DagId, logical_date: Instant) -> bool
+        ensures { result ≡ list_any (is_dated dag_id.now logical_date) self.now.rows }
+    {
+        self.place_by(&Wanted::Date(dag_id, logical_date)).is_some()
+    }
+
+    /// How many runs the DAG has.
+    pub fn count_of(&self, dag_id: &DagId) -> usize
+        ensures count { result ≡ length (runs_of self.now.rows dag_id.now) }
+        ensures kept { AreRuns self.now.rows self.now.next }
+    {
+        let listed = self.index.dags.listed();
+        self.index.dags.of(dag_id).len() + count_of(&self.rows[listed..], dag_id)
     }
 
     /// Whether the DAG has as many runs as it may have, or no number is left for another.
     fn is_full(&self, dag_id: &DagId) -> bool
         ensures { result ≡ is_full self.now.rows self.now.next dag_id.now }
     {
-        count_of(self.rows.as_slice(), dag_id) >= MOST_RUNS || self.is_spent()
+        self.count_of(dag_id) >= MOST_RUNS || self.is_spent()
     }
 
     /// Whether no number is left for another run.
-    fn is_spent(&self) -> bool
+    pub(crate) fn is_spent(&self) -> bool
         ensures { result ≡ nat_le (2 ^ 64) self.now.next }
     {
         self.last == u64::MAX

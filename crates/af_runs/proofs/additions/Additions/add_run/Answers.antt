@@ -1,11 +1,9 @@
-use Rattle.std.proofs.Common.{sym, ◌∙◌, ◌+◌, arith}
-use Rattle.std.proofs.lemmas.List.{append_assoc}
-use Rattle.af_runs.proofs.RunLemmas.{AreRuns-push}
+use Rattle.std.proofs.Common.{sym, ◌∙◌}
+use Rattle.af_runs.proofs.RunLemmas.{AreRuns-additions}
 use Rattle.af_runs.proofs.additions.Additions.add_run.Goals as goal
 
-pub invariant_of-self-2 : goal.invariant_of-self-2
-invariant_of-self-2 c =
+pub invariant_of-self : goal.invariant_of-self
+invariant_of-self c =
     let told = sym c.add_fault.ensures ∙ c.in_default.is in
     let no_fault = rw (← c.self.view_is) at told in
-    rw (c.in_ok-push.ensures.items, c.queued.ensures, ← append_assoc c.self.inside.runs.now.rows c.self.inside.added.items _)
-    (AreRuns-push _ (c.self.inside.last + 1) c.args.new (omega arith) no_fault c.self.invariant)
+    AreRuns-additions c.self.inside.runs.now.rows c.self.inside.added c.add_run.new.self c.args.new c.add_run.result no_fault c.add_run.ensures.ok c.add_run.ensures.positive c.add_run.ensures.err c.self.invariant

@@ -1,20 +1,37 @@
-use Rattle.std.proofs.Common.{◌≡◌, sym, ◌+◌, ◌-◌, set, vec_len, refl}
-use Rattle.std.specs.Prelude.{vec_capacity}
+use Rattle.std.proofs.Common.{◌≡◌, sym, ◌+◌, set, refl}
 use Rattle.af_runs.specs.Runs.{advanced, with_advanced}
+use Rattle.af_runs.proofs.RunsLemmas.{busy_order, busy_room, changed, changed_index}
 use Rattle.af_runs.proofs.RunLemmas.{with_advanced-is_set, with_advanced-same, AreRuns-set}
 use Rattle.af_runs.proofs.runs.Runs.advance.Goals as goal
 
 pub invariant_of-self : goal.invariant_of-self
 invariant_of-self c =
     let stands = rw (← c.self.view_is) at c.in-Some.ensures in
-    rw c.index_mut-earlier.ensures.value (AreRuns-set _ _ _ _ _ refl refl refl refl stands.within c.self.invariant)
+    let is = c.self.invariant in
+    let same = changed c.self.inside.rows.items (c.self.inside.last + 1) is.0 c.self.inside.index is.1 c.in-Some.place _ c.index.result.now c.index_mut-earlier.result.now _ stands.within c.index.ensures (record { number = refl; dag_id = refl; run_id = refl; date = refl }) c.index_mut-earlier.ensures.value in
+    let kept = c.keep_busy.ensures.runs c.self.inside.rows.items c.in-Some.place is.1 stands.within same is.0.in_order in (
+      rw c.index_mut-earlier.ensures.value (AreRuns-set _ _ _ _ _ refl refl refl refl stands.within is.0),
+      changed_index c.self.inside.rows.items (c.self.inside.last + 1) is.0 c.self.inside.index is.1 c.in-Some.place _ c.index.result.now _ c.keep_busy.new.self stands.within c.index.ensures kept,
+      c.keep_busy.ensures.room c.self.inside.spare is.2,
+      is.3,
+    )
+
+pub keep_busy-requires-clause-in_order : goal.keep_busy-requires-clause-in_order
+keep_busy-requires-clause-in_order c = let is = c.self.invariant in busy_order c.self.inside.rows.items (c.self.inside.last + 1) is.0 c.self.inside.index is.1
+
+pub keep_busy-requires-clause-room : goal.keep_busy-requires-clause-room
+keep_busy-requires-clause-room c =
+    let stands = rw (← c.self.view_is) at c.in-Some.ensures in
+    let is = c.self.invariant in
+    let same = changed c.self.inside.rows.items (c.self.inside.last + 1) is.0 c.self.inside.index is.1 c.in-Some.place _ c.index.result.now c.index_mut-earlier.result.now _ stands.within c.index.ensures (record { number = refl; dag_id = refl; run_id = refl; date = refl }) c.index_mut-earlier.ensures.value in
+    busy_room c.self.inside.rows.items (c.self.inside.last + 1) is.0 c.self.inside.index is.1 c.self.inside.spare c.in-Some.place c.index.result.now c.index.result.now is.2 stands.within (same c.index.result.now)
 
 pub returns-in-Some : goal.returns-in-Some
 returns-in-Some c =
     let stands = rw (← c.self.view_is) at c.in-Some.ensures in
     let rows : set c.self.inside.rows.items c.in-Some.place (advanced c.index_mut-earlier.result.now c.args.later) ≡ with_advanced c.self.inside.rows.items c.args.later =
     rw c.index_mut-earlier.ensures.value (sym (with_advanced-is_set _ c.args.later _ stands _)) in
-    rw (← c.self.view_is) (λ i. record { rows = rows i; next = c.self.inside.last + 1; spare = vec_capacity c.self.inside.rows - vec_len c.self.inside.rows })
+    rw (← c.self.view_is) (λ i. record { rows = rows i; next = c.self.inside.last + 1; spare = c.self.inside.spare })
 
 pub returns-in_default : goal.returns-in_default
 returns-in_default c =

@@ -1,0 +1,70 @@
+-- The runs with what stands beside them: a run that is found, and one that changes.
+use Rattle.std.proofs.Common.{◌≡◌, ◌≢◌, sym, ◌∙◌, ap, subst, ℕ, ◌<◌, ◌≤◌, List, map, length, get_or, set, true, false, ⊎_elim, arith}
+use Rattle.std.specs.Prelude.{Option, Some, None, is_some, MatchOption, vec_capacity}
+use Rattle.std.specs.List.{list_any}
+use Rattle.std.specs.List.Sorted.{IsStrictlySortedBy}
+use Rattle.std.specs.Ordering.{nat_cmp}
+use Rattle.std.specs.Cmp.{nat_cmp_total}
+use Rattle.std.proofs.lemmas.Bool.{cases_lt, false_from_ne_true}
+use Rattle.std.proofs.lemmas.List.{get_or-set_same, get_or_default, length-map}
+use Rattle.std.proofs.lemmas.Map.Keys.{apart_from_distinct}
+use Rattle.af_names.proofs.OrderLemmas.{find-only, list_any-only, list_any-none, order-filter}
+use Rattle.af_runs.specs.Busy.{busy_numbers, is_busy, with_number}
+use Rattle.af_runs.specs.Chains.{no_row}
+use Rattle.af_runs.specs.Codes.{by_ids}
+use Rattle.af_runs.specs.Index.{HasRoomFor, IsIndex}
+use Rattle.af_runs.specs.Places.{IsMetAt, IsMetNowhere}
+use Rattle.af_runs.specs.Runs.{AreRuns, HasKeyOf, is_run, run_of, same_ids}
+use Rattle.af_runs.specs.Wanted.{meets}
+use Rattle.af_runs.specs.declared.index.Index.{Index}
+use Rattle.af_runs.specs.declared.run.Run.{Run}
+use Rattle.af_runs.specs.declared.wanted.Wanted.{Wanted}
+use Rattle.af_runs.proofs.BusyLemmas.{busy-set}
+use Rattle.af_runs.proofs.ChainLemmas.{length-earlier_after}
+use Rattle.af_runs.proofs.IndexLemmas.{busy-few, length_set}
+use Rattle.af_runs.proofs.RunLemmas.{same_ids_laws}
+
+-- ---- one that is looked up
+pub met_any : (wanted : Wanted) (runs : List Run) (found : Option ℕ) → MatchOption found (IsMetNowhere wanted runs) (IsMetAt wanted runs) → is_some found ≡ list_any (meets wanted) runs
+met_any wanted runs (Some place) at = sym (list_any-only (meets wanted) runs place at.within at.here)
+met_any wanted runs None nowhere = sym (list_any-none (meets wanted) runs nowhere.none)
+
+-- two runs of the ids sought are of one id
+module _ (dag_id run_id : List ℕ) (runs : List Run) (next : ℕ) (are : AreRuns runs next) where
+  alike : (one other : Run) → is_run dag_id run_id one ≡ true → is_run dag_id run_id other ≡ true → same_ids one other ≡ true
+  alike one other one_is other_is =
+      let sought : Run = record one { dag_id = dag_id; run_id = run_id } in
+      sym (same_ids_laws.congr sought one other one_is) ∙ other_is
+
+  alone : (place : ℕ) → place < length runs → ((e : Run) → is_run dag_id run_id (get_or runs place e) ≡ true) → (j : ℕ) (e : Run) → j < length runs → j ≢ place → is_run dag_id run_id (get_or runs j e) ≡ false
+  alone place within here j e inside apart =
+      false_from_ne_true (is_run dag_id run_id (get_or runs j e)) (λ is.
+      ⊎_elim
+      (λ below. two (get_or runs j e) (get_or runs place e) is (here e) (apart_from_distinct same_ids runs j place e are.one_of_an_id below within))
+      (λ above. two (get_or runs place e) (get_or runs j e) (here e) is (apart_from_distinct same_ids runs place j e are.one_of_an_id (omega arith) inside))
+      (cases_lt j place))
+    where
+      two : (one other : Run) → is_run dag_id run_id one ≡ true → is_run dag_id run_id other ≡ true → same_ids one other ≡ false → ⊥
+      two one other one_is other_is apart_ids = let both = alike one other one_is other_is in absurd (cc)
+
+  pub found_there : (place : ℕ) (d : Run) → place < length runs → ((e : Run) → is_run dag_id run_id (get_or runs place e) ≡ true) → run_of runs dag_id run_id ≡ Some (get_or runs place d)
+  found_there place d within here = find-only (is_run dag_id run_id) runs place d within here (alone place within here)
+
+-- ---- one that changes, and keeps its number, its ids and its date
+module _ (runs : List Run) (next : ℕ) (are : AreRuns runs next) (index : Index) (is : IsIndex runs index) where
+  pub busy_order : IsStrictlySortedBy nat_cmp index.busy.items
+  busy_order = subst (IsStrictlySortedBy nat_cmp) (sym is.busy) (order-filter (λ (run : Run). run.number) nat_cmp_total is_busy runs are.in_order)
+
+  pub busy_room : (spare place : ℕ) (run d : Run) → HasRoomFor spare index → place < length runs → HasKeyOf (get_or runs place d) run → length (with_number run.number (is_busy run) index.busy.items) ≤ vec_capacity index.busy
+  busy_room spare place run d has within same =
+      let kept : with_number run.number (is_busy run) index.busy.items ≡ busy_numbers (set runs place run) =
+      ap (with_number run.number (is_busy run)) is.busy ∙ sym (busy-set runs place run d are.in_order within same.number) in
+      omega (arith, ap length kept, busy-few (set runs place run), length_set runs place run, ap length is.ids.earlier, length-earlier_after no_row (map by_ids runs), length-map runs by_ids, has.busy, index.ids.earlier.ok)
+
+  pub changed : (place : ℕ) (row run old e : Run) → place < length runs → run ≡ get_or (set runs place row) place e → HasKeyOf old row → old ≡ get_or runs place old → (d : Run) → HasKeyOf (get_or runs place d) run
+  changed place row run old e within is_row same is_old d =
+      subst (λ (r : Run). HasKeyOf (get_or runs place d) r) (sym (is_row ∙ get_or-set_same runs place row e within))
+      (subst (λ (r : Run). HasKeyOf r row) (is_old ∙ get_or_default runs place old d within) same)
+
+  pub changed_index : (place : ℕ) (row run e : Run) (after : Index) → place < length runs → run ≡ get_or (set runs place row) place e → IsIndex (set runs place run) after → IsIndex (set runs place row) after
+  changed_index place row run e after within is_row indexed = subst (λ (r : Run). IsIndex (set runs place r) after) (is_row ∙ get_or-set_same runs place row e within) indexed
