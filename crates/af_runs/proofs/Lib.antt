@@ -3,6 +3,7 @@ pub mod ChainLemmas
 pub mod DagListLemmas
 pub mod FindLemmas
 pub mod IndexLemmas
+pub mod NthLemmas
 pub mod OkLemmas
 pub mod PlaceLemmas
 pub mod RunLemmas

@@ -5,13 +5,13 @@ use Rattle.std.proofs.lemmas.Bool.{cases_Bool}
 use Rattle.std.proofs.lemmas.Bool.Decides.{nat_tests}
 use Rattle.std.specs.Prelude.{filter, nat_le, ◌^◌, Option, Some, None, Result, Ok, Err, MatchResult, MatchOption, slice_set, IfOk, OnErr}
 use Rattle.std.specs.Result.{result_ok}
-use Rattle.std.specs.List.{list_any, IsDistinct, AllByRecursion}
+use Rattle.std.specs.List.{list_any, remove, IsDistinct, AllByRecursion}
 use Rattle.std.specs.List.Sorted.{IsStrictlySortedBy, IsSearchInRange, IsBinarySearchResult}
 use Rattle.std.specs.Ordering.{nat_cmp, is_eq}
 use Rattle.std.specs.declared.cmp.Ordering.TheVariants.{Less}
 use Rattle.std.specs.Cmp.{IsEquivalence, unsigned_ties, and_equiv, on_equiv, back_equiv, nat_cmp_total, nat_eq_equiv}
 use Rattle.std.specs.Cmp.Lexicographic.{nat_list_eq_equiv}
-use Rattle.std.proofs.lemmas.List.Elements.{All-set, All-push, All-weaker, All-nil, filter-append, filter_agree}
+use Rattle.std.proofs.lemmas.List.Elements.{All-filter, All-set, All-push, All-weaker, All-nil, filter-append, filter_agree}
 use Rattle.std.proofs.lemmas.Map.Keys.{IsDistinct-push}
 use Rattle.std.proofs.Math.Seq.{map-set_same}
 use Rattle.std.proofs.lemmas.List.{append-nil, append_assoc}
@@ -22,9 +22,9 @@ use Rattle.af_runs.specs.declared.run.Run.{Run}
 use Rattle.af_runs.specs.declared.run_fault.RunFault.{RunFault}
 use Rattle.af_runs.specs.declared.run_fault.RunFault.TheVariants.{RunExists, DateTaken, Full}
 use Rattle.af_runs.specs.declared.run_state.RunState.{RunState}
-use Rattle.af_runs.specs.Runs.{Adds, AreRuns, RunRows, SameRuns, is_of, is_run, is_dated, is_numbered, run_at, runs_of, is_full, add_fault, queued_run, same_ids, same_date, with_state, with_instance, advanced, with_advanced}
+use Rattle.af_runs.specs.Runs.{Adds, AreRuns, RunRows, SameRuns, is_of, is_run, is_dated, is_numbered, run_at, runs_of, is_full, add_fault, queued_run, same_ids, same_date, with_state, with_instance, advanced, with_advanced, without_run}
 use Rattle.af_runs.specs.Places.{StandsAt, StandsNowhere}
-use Rattle.af_names.proofs.OrderLemmas.{order-push, map-only, map-none, find-only, find-none, search_alone, search_none, search_rises}
+use Rattle.af_names.proofs.OrderLemmas.{order-push, order-filter, filter-only, filter-none, map-only, map-none, find-only, find-none, search_alone, search_none, search_rises}
 
 abbrev number_of : Run → ℕ
 number_of run = run.number
@@ -161,6 +161,36 @@ AreRuns-set runs next place run d number dag_id run_id date within are = record 
   bounded = λ id. rw (count_set (is_of id) runs place run d (rw dag_id refl)) (are.bounded id);
 }
 
+-- those that pass a test
+apart_filter : (same : Run → Run → Bool) (p : Run → Bool) (runs : List Run) (run : Run) → AllByRecursion (λ z. same run z ≡ false) runs → AllByRecursion (λ z. same run z ≡ false) (filter p runs)
+apart_filter same p [] run apart = tt
+apart_filter same p (other ∷ runs) run apart = elim (p other) as (λ b. AllByRecursion (λ z. same run z ≡ false) (cond b (other ∷ filter p runs) (filter p runs))) [ true ↦ (apart.0, apart_filter same p runs run apart.1) | false ↦ apart_filter same p runs run apart.1 ]
+
+distinct_filter : (same : Run → Run → Bool) (p : Run → Bool) (runs : List Run) → IsDistinct same runs → IsDistinct same (filter p runs)
+unfolding IsDistinct
+distinct_filter same p [] distinct = distinct
+distinct_filter same p (run ∷ runs) distinct = elim (p run) as (λ b. IsDistinct same (cond b (run ∷ filter p runs) (filter p runs))) [ true ↦ (apart_filter same p runs run distinct.0, distinct_filter same p runs distinct.1) | false ↦ distinct_filter same p runs distinct.1 ]
+
+fewer_case : (q : Run → Bool) (b c : Bool) (run : Run) (some more : List Run) → q run ≡ c → length (filter q some) ≤ length (filter q more) → length (filter q (cond b (run ∷ some) some)) ≤ length (cond c (run ∷ filter q more) (filter q more))
+fewer_case q true true run some more is few = rw is (omega (arith, few))
+fewer_case q true false run some more is few = rw is few
+fewer_case q false true run some more is few = omega (arith, few)
+fewer_case q false false run some more is few = few
+
+few_filter : (p q : Run → Bool) (runs : List Run) → length (filter q (filter p runs)) ≤ length (filter q runs)
+few_filter p q [] = omega arith
+few_filter p q (run ∷ runs) = fewer_case q (p run) (q run) run (filter p runs) runs refl (few_filter p q runs)
+
+pub AreRuns-filter : (p : Run → Bool) (runs : List Run) (next : ℕ) → AreRuns runs next → AreRuns (filter p runs) next
+AreRuns-filter p runs next are = record {
+  in_order = order-filter number_of nat_cmp_total p runs are.in_order;
+  positive = All-filter p (λ (run : Run). 0 < run.number) runs are.positive;
+  numbered = All-filter p (λ (run : Run). run.number < next) runs are.numbered;
+  one_of_an_id = distinct_filter same_ids p runs are.one_of_an_id;
+  one_of_a_date = distinct_filter same_date p runs are.one_of_a_date;
+  bounded = λ dag_id. let few = few_filter p (is_of dag_id) runs in let most = are.bounded dag_id in omega (arith, few, most);
+}
+
 -- ---- where the row of a number stands
 pub stands_from_search : (runs : List Run) (number : ℕ) (r : Result ℕ ℕ) → IsStrictlySortedBy nat_cmp (map number_of runs) → IsSearchInRange r (length runs) → IsBinarySearchResult (λ (run : Run). nat_cmp run.number number) runs r → MatchResult r (StandsAt runs number) (λ _. StandsNowhere runs number)
 stands_from_search runs number (Ok place) in_order within found = record {
@@ -186,6 +216,12 @@ module _ (runs : List Run) (number place : ℕ) (stands : StandsAt runs number p
 
   pub with_instance-is_set : (at : ℕ) (instance : Instance) (d : Run) → with_instance runs number at instance ≡ set runs place (record (get_or runs place d) { instances = slice_set (get_or runs place d).instances at instance })
   with_instance-is_set at instance d = map-only (is_numbered number) (λ (run : Run). record run { instances = slice_set run.instances at instance }) runs place d stands.within stands.here stands.alone
+
+pub without_run-is_remove : (runs : List Run) (number place : ℕ) → StandsAt runs number place → without_run runs number ≡ remove runs place
+without_run-is_remove runs number place stands = filter-only (is_numbered number) runs place stands.within stands.here stands.alone
+
+pub without_run-same : (runs : List Run) (number : ℕ) → StandsNowhere runs number → without_run runs number ≡ runs
+without_run-same runs number nowhere = filter-none (is_numbered number) runs nowhere.none
 
 module _ (runs : List Run) (number : ℕ) (nowhere : StandsNowhere runs number) where
   pub run_at-none : run_at runs number ≡ None

@@ -7,4 +7,5 @@ pub mod Index
 pub mod Instances
 pub mod Places
 pub mod Runs
+pub mod Texts
 pub mod Wanted

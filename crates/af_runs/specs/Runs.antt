@@ -1,6 +1,6 @@
 -- Runs of DAGs: one list of rows in order of number, each with its instances (Airflow 2, "DAG Runs"). Numbers, and the
 -- limits, are this product's own rule.
-use Rattle.std.specs.Prelude.{ℕ, ◌≡◌, ◌+◌, ◌^◌, ◌<◌, ◌≤◌, ◌==◌, ◌&&◌, ◌||◌, List, [], ◌∷◌, ◌++◌, Bool, true, false, length, map, filter, find, option_map, slice_set, All, nat_le, Option, Some, None, Result, IfErr, if◌then◌else◌}
+use Rattle.std.specs.Prelude.{ℕ, ◌≡◌, ◌+◌, ◌^◌, ◌<◌, ◌≤◌, ◌==◌, ◌&&◌, ◌||◌, List, [], ◌∷◌, ◌++◌, Bool, true, false, not, length, map, filter, find, option_map, slice_set, All, nat_le, Option, Some, None, Result, IfErr, if◌then◌else◌}
 use Rattle.std.specs.List.{list_any, IsDistinct}
 use Rattle.std.specs.List.Sorted.{IsStrictlySortedBy}
 use Rattle.std.specs.Ordering.{nat_cmp}
@@ -113,6 +113,10 @@ with_state runs number state start end =
 abbrev pub with_instance : List Run → ℕ → ℕ → Instance → List Run
 with_instance runs number place instance =
     map (λ run. if is_numbered number run then record run { instances = slice_set run.instances place instance } else run) runs
+
+-- the runs without that of this number; without such a run they are the same
+abbrev pub without_run : List Run → ℕ → List Run
+without_run runs number = filter (λ run. not (is_numbered number run)) runs
 
 -- a run with the state, the start, the end and the instances of another
 abbrev pub advanced : Run → Run → Run

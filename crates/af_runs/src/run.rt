@@ -1,4 +1,4 @@
-ghost use Rattle.std.specs.Prelude.{◌≡◌, ◌↔◌, IfOk, true, length};
+ghost use Rattle.std.specs.Prelude.{◌≡◌, ◌↔◌, IfOk, true, length, option_copied, slice_get};
 ghost use Rattle.af_runs.specs.Busy.{holds_any, is_busy};
 ghost use Rattle.af_runs.specs.Runs.{is_of, is_run, is_dated, queued_run, runs_of};
 
@@ -130,4 +130,20 @@ pub(crate) fn count_of(runs: &[Run], dag_id: &DagId) -> usize
     ensures { result ≡ length (runs_of runs.now dag_id.now) }
 {
     runs.iter().filter(|run| run.is_of(dag_id)).count()
+}
+
+/// The run at this place among those of the runs that are the DAG's.
+pub(crate) fn nth_of<'a>(runs: &'a [Run], dag_id: &DagId, place: usize) -> Option<&'a Run>
+    ensures { option_copied result ≡ slice_get (runs_of runs.now dag_id.now) place }
+{
+    let mut left = place;
+    for run in runs {
+        if run.is_of(dag_id) {
+            if left == 0 {
+                return Some(run);
+            }
+            left -= 1;
+        }
+    }
+    None
 }

@@ -1,4 +1,5 @@
 use std::alloc::AllocError;
+use std::fmt;
 
 /// Why a run is not added, in the order in which faults are told.
 #[derive(Clone, Copy, Debug, PartialEq, Eq)]
@@ -21,5 +22,16 @@ impl From<AllocError> for RunFault {
 
     fn from(_error: AllocError) -> RunFault {
         RunFault::OutOfMemory
+    }
+}
+
+impl fmt::Display for RunFault {
+    fn fmt<W: fmt::Write>(&self, f: &mut fmt::Formatter<W>) -> fmt::Result {
+        f.write_str(match self {
+            RunFault::RunExists => "the DAG has a run of that id",
+            RunFault::DateTaken => "the DAG has a run of that logical date",
+            RunFault::Full => "the DAG has as many runs as it may have",
+            RunFault::OutOfMemory => "out of memory",
+        })
     }
 }

@@ -1,13 +1,14 @@
-ghost use Rattle.std.specs.Prelude.{◌≡◌, ◌≢◌, ◌+◌, ◌++◌, ◌<◌, ◌≤◌, [], Err, IfOk, IfSome, IsNone, None, MatchOption, OnOk, OnErr, option_copied, length, nat_le, ◌^◌, IsOk, is_ok, if◌then◌else◌};
+ghost use Rattle.std.specs.Prelude.{◌≡◌, ◌≢◌, ◌+◌, ◌++◌, ◌<◌, ◌≤◌, [], Err, IfOk, IfSome, IsNone, None, MatchOption, OnOk, OnErr, option_copied, slice_get, length, nat_le, ◌^◌, IsOk, is_ok, if◌then◌else◌};
 ghost use Rattle.std.specs.List.{list_any};
-ghost use Rattle.af_runs.specs.Runs.{AreRuns, Adds, SameRuns, IsOkOrOutOfMemory, add_fault, refusal, run_of, run_at, runs_of, instances_of, is_dated, is_run, with_state, with_instance, with_advanced, is_full};
+ghost use Rattle.af_runs.specs.Runs.{AreRuns, Adds, SameRuns, IsOkOrOutOfMemory, add_fault, refusal, run_of, run_at, runs_of, instances_of, is_dated, is_run, with_state, with_instance, with_advanced, without_run, is_full};
+ghost use Rattle.af_runs.specs.Busy.{busy_of};
 ghost use Rattle.af_runs.specs.Places.{IsMetAt, IsMetNowhere, StandsAt, StandsNowhere};
 
 use crate::index::Index;
 use crate::instance::Instance;
 use crate::new_run::NewRun;
 use crate::places::{find_place, place_of};
-use crate::run::{Run, count_of};
+use crate::run::{Run, count_of, nth_of};
 use crate::run_fault::RunFault;
 use crate::run_state::RunState;
 use crate::wanted::Wanted;
@@ -120,6 +121,38 @@ impl Runs {
         Some(&self.rows[place])
     }
 
+    /// How many runs are busy: have not ended, or have an instance that is queued or running.
+    pub fn busy_count(&self) -> usize
+        ensures { result ≡ length (busy_of self.now.rows) }
+    {
+        self.index.busy.len()
+    }
+
+    /// The busy run at this place among the busy ones, which are in order of number.
+    pub fn busy_at(&self, place: usize) -> Option<&Run>
+        ensures { option_copied result ≡ slice_get (busy_of self.now.rows) place }
+    {
+        match self.index.busy.get(place) {
+            Some(number) => self.get(*number),
+            None => None,
+        }
+    }
+
+    /// The run at this place among those of a DAG, which are in order of number.
+    pub fn nth_of(&self, dag_id: &DagId, place: usize) -> Option<&Run>
+        ensures { option_copied result ≡ slice_get (runs_of self.now.rows dag_id.now) place }
+    {
+        let listed = self.index.dags.of(dag_id);
+        match listed.get(place) {
+            Some(number) => self.get(*number),
+            None => nth_of(
+                &self.rows[self.index.dags.listed()..],
+                dag_id,
+                place - listed.len(),
+            ),
+        }
+    }
+
     /// The instances of the run of these ids, in the order of the definition.
     pub fn instances(&self, dag_id: &DagId, run_id: &RunId) -> Option<&[Instance]>
         ensures { option_copied result ≡ instances_of self.now.rows dag_id.now run_id.now }
@@ -168,6 +201,17 @@ impl Runs {
             self.reserve(1)?;
         }
         Ok(self.push(new))
+    }
+
+    /// Takes the run of this number out; the number is not used again. Where there is no such run nothing changes. It takes
+    /// no memory.
+    pub fn remove(&mut self, number: u64)
+        ensures { self.new ≡ record self.old { rows = without_run self.old.rows number } }
+    {
+        if let Some(place) = self.place_of(number) {
+            let run = self.rows.remove(place);
+            self.index.remove(place, &run);
+        }
     }
 
     /// Puts the run of this number into a state, with its start and its end. Where there is no such run nothing changes.

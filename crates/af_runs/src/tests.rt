@@ -1,4 +1,5 @@
 mod additions;
+mod lookups;
 
 use crate::{Instance, Instances, Interval, NewRun, Run, RunFault, RunState, RunType, Runs};
 use af_graph::{Dag, DagSpec, Rule, TaskIds, TaskSpec, TaskSpecs, TaskState};
@@ -191,5 +192,34 @@ fn each_task_has_an_instance(rt: HostRuntime) -> Result<(), Fail> {
         "in order"
     );
     assert!(rt; instances.into_vec().len() == 2, "given back");
+    Ok(())
+}
+
+#[test]
+fn states_types_and_faults_have_texts(rt: HostRuntime) -> Result<(), Fail> {
+    let alloc = rt.alloc();
+    let states = [
+        ("queued", Some(RunState::Queued)),
+        ("running", Some(RunState::Running)),
+        ("success", Some(RunState::Success)),
+        ("failed", Some(RunState::Failed)),
+        ("Queued", None),
+    ];
+    for (text, want) in states {
+        assert!(rt; RunState::read(text) == want, "the state of {text}");
+    }
+    let types = [
+        ("manual", Some(RunType::Manual)),
+        ("scheduled", Some(RunType::Scheduled)),
+        ("backfill", None),
+    ];
+    for (text, want) in types {
+        assert!(rt; RunType::read(text) == want, "the type of {text}");
+    }
+    let told = format!(in alloc; "{}", RunFault::DateTaken)?;
+    assert!(rt;
+        told.as_str() == "the DAG has a run of that logical date",
+        "in words"
+    );
     Ok(())
 }
