@@ -8,3 +8,4 @@ pub mod OkLemmas
 pub mod PlaceLemmas
 pub mod RunLemmas
 pub mod RunsLemmas
+pub mod YieldLemmas

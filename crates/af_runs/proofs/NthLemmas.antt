@@ -93,10 +93,10 @@ module _ (p : Run → Bool) where
   numbered_at (run ∷ runs) k number order is =
       passed_case (p run) run runs (filter p runs) k number (λ j at. above_at run.number runs j number order.0 at) (λ j at. numbered_at runs j number order.1 at) is
 
-  split : (runs : List Run) (n : ℕ) → filter p (take n runs) ++ filter p (drop n runs) ≡ filter p runs
+  pub split : (runs : List Run) (n : ℕ) → filter p (take n runs) ++ filter p (drop n runs) ≡ filter p runs
   split runs n = sym (filter-append p (take n runs) (drop n runs)) ∙ ap (filter p) (take-append-drop n runs)
 
-  map-append : (xs ys : List Run) → map (λ (run : Run). run.number) (xs ++ ys) ≡ map (λ (run : Run). run.number) xs ++ map (λ (run : Run). run.number) ys
+  pub map-append : (xs ys : List Run) → map (λ (run : Run). run.number) (xs ++ ys) ≡ map (λ (run : Run). run.number) xs ++ map (λ (run : Run). run.number) ys
   map-append [] ys = refl
   map-append (x ∷ xs) ys = ap (λ (ns : List ℕ). x.number ∷ ns) (map-append xs ys)
 

@@ -4,6 +4,7 @@
 
 mod additions;
 mod busy;
+mod busy_runs;
 mod chains;
 mod codes;
 mod dag_lists;
@@ -18,9 +19,11 @@ mod run_fault;
 mod run_state;
 mod run_type;
 mod runs;
+mod runs_of;
 mod wanted;
 
 pub use additions::Additions;
+pub use busy_runs::BusyRuns;
 pub use instance::Instance;
 pub use instances::Instances;
 pub use interval::Interval;
@@ -30,6 +33,4 @@ pub use run_fault::RunFault;
 pub use run_state::RunState;
 pub use run_type::RunType;
 pub use runs::Runs;
-
-#[cfg(test)]
-mod tests;
+pub use runs_of::RunsOf;

@@ -1,11 +1,11 @@
 -- A run is advanced to a later one with as many instances: no run loses one.
 use Rattle.std.proofs.Common.{◌≡◌, ◌∙◌, ℕ, List, [], ◌∷◌, length, refl, sym, ap, subst, arith, suc, Bool, true, false, cond, ◌==◌, Some}
-use Rattle.std.specs.Prelude.{All, IfSome}
+use Rattle.std.specs.Prelude.{All, IfSome, not}
 use Rattle.std.specs.List.Sorted.{IsStrictlySortedBy}
 use Rattle.std.specs.Ordering.{nat_cmp}
 use Rattle.std.proofs.lemmas.Bool.Decides.{nat_tests}
-use Rattle.std.proofs.lemmas.List.Elements.{All-cons}
-use Rattle.af_runs.specs.Runs.{AreRuns, advanced, is_numbered, run_at, with_advanced}
+use Rattle.std.proofs.lemmas.List.Elements.{All-cons, All-filter}
+use Rattle.af_runs.specs.Runs.{AreRuns, advanced, is_numbered, run_at, with_advanced, without_run}
 use Rattle.af_runs.specs.declared.run.Run.{Run}
 use Rattle.af_sched.specs.Additions.{HasAsManyInstances}
 use Rattle.af_sched.specs.State.{AreRows, IsWhole}
@@ -37,4 +37,13 @@ AreRows-advanced dags runs next later are same rows = record {
   few = rows.few;
   sound = rows.sound;
   whole = whole_advanced dags later runs are.in_order same rows.whole;
+}
+
+-- a run is taken out
+pub AreRows-without : (dags : List DagRow) (runs : List Run) (number : ℕ) → AreRows dags runs → AreRows dags (without_run runs number)
+AreRows-without dags runs number rows = record {
+  in_order = rows.in_order;
+  few = rows.few;
+  sound = rows.sound;
+  whole = All-filter (λ run. not (is_numbered number run)) (IsWhole dags) runs rows.whole;
 }

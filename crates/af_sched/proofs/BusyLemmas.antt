@@ -10,7 +10,7 @@ use Rattle.std.proofs.lemmas.List.Elements.{All-cons}
 use Rattle.af_pool.specs.declared.pool.Pool.{Pool}
 use Rattle.af_runs.specs.Runs.{advanced, is_numbered, with_advanced}
 use Rattle.af_runs.specs.declared.run.Run.{Run}
-use Rattle.af_sched.specs.Busy.{busy_of, is_busy}
+use Rattle.af_runs.specs.Busy.{busy_of, is_busy}
 use Rattle.af_sched.specs.Moves.{MovesOn}
 use Rattle.af_sched.specs.declared.dag_row.DagRow.{DagRow}
 use Rattle.af_sched.proofs.FillLemmas.{Above, Idle, fill, numbers}

@@ -12,7 +12,11 @@ use Rattle.af_runs.specs.Runs.{is_finished, is_of}
 use Rattle.af_runs.specs.declared.run.Run.{Run}
 use Rattle.af_runs.specs.declared.run_state.RunState.{RunState}
 use Rattle.af_runs.specs.declared.run_state.RunState.TheVariants.{Queued, Running, Success, Failed}
-use Rattle.af_sched.specs.Busy.{holds_any, is_busy}
+use Rattle.af_graph.specs.declared.task_state.TaskState.{TaskState}
+use Rattle.af_graph.specs.declared.task_state.TaskState.TheVariants as task_state
+use Rattle.af_pool.specs.Occupants.{holds_slots}
+use Rattle.af_runs.specs.Busy.{holds_any, is_busy, is_held}
+use Rattle.af_runs.specs.declared.instance.Instance.{Instance}
 use Rattle.af_sched.specs.Finish.{ended_run, finished_run}
 use Rattle.af_sched.specs.Moves.{finished_runs}
 use Rattle.af_sched.specs.Settle.{SettlesIfLive, SettlesRun}
@@ -45,6 +49,21 @@ abbrev pub Idle : List (Option Run) → Type 0
 Idle frame = AllOf (λ run. is_busy run ≡ false) frame
 
 -- ---- what a run that is not busy is
+held_too : (s : TaskState) → is_held s ≡ holds_slots s
+held_too task_state.NoStatus = refl
+held_too task_state.Scheduled = refl
+held_too task_state.Queued = refl
+held_too task_state.Running = refl
+held_too task_state.Success = refl
+held_too task_state.Failed = refl
+held_too task_state.Skipped = refl
+held_too task_state.UpstreamFailed = refl
+held_too task_state.UpForRetry = refl
+
+held_any : (instances : List Instance) → list_any (λ instance. is_held instance.state) instances ≡ list_any (λ instance. holds_slots instance.state) instances
+held_any [] = refl
+held_any (x ∷ xs) = λ i. held_too x.state i || held_any xs i
+
 module _ (run : Run) (idle : is_busy run ≡ false) where
   done_of : (a b : Bool) → (not a || b) ≡ false → (a ≡ true) × (b ≡ false)
   done_of true b none = (refl, none)
@@ -53,8 +72,11 @@ module _ (run : Run) (idle : is_busy run ≡ false) where
   pub idle_ended : is_finished run.state ≡ true
   idle_ended = (done_of (is_finished run.state) (holds_any run) idle).0
 
-  pub idle_holds : holds_any run ≡ false
-  idle_holds = (done_of (is_finished run.state) (holds_any run) idle).1
+  pub idle_not_held : holds_any run ≡ false
+  idle_not_held = (done_of (is_finished run.state) (holds_any run) idle).1
+
+  pub idle_holds : list_any (λ instance. holds_slots instance.state) run.instances ≡ false
+  idle_holds = sym (held_any run.instances) ∙ idle_not_held
 
   pub idle_no_queued : is_queued run.state ≡ false
   idle_no_queued = by run.state refl

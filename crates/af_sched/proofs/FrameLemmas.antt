@@ -15,7 +15,7 @@ use Rattle.af_pool.specs.Pools.{slots_of}
 use Rattle.af_pool.specs.declared.pool.Pool.{Pool}
 use Rattle.af_runs.specs.declared.instance.Instance.{Instance}
 use Rattle.af_runs.specs.declared.run.Run.{Run}
-use Rattle.af_sched.specs.Busy.{is_busy}
+use Rattle.af_runs.specs.Busy.{is_busy}
 use Rattle.af_sched.specs.Moves.{MovesOn}
 use Rattle.af_sched.specs.Placed.{Placed, placed_in, placed_of, comes_before}
 use Rattle.af_sched.specs.Queue.{IsQueueing, QueuesRuns, finds_room, may_queue, occupant_of, occupied, queued_earlier, with_queued}
@@ -46,7 +46,7 @@ abbrev pub PlacedOf : List DagRow → (Placed → Type 0) → Run → Type 0
 PlacedOf dags P run = (placed : Placed) → Contains (placed_of (tasks_of dags run.dag_id) run) placed → P placed
 
 module _ (dags : List DagRow) where
-  placed_fill : (P : Placed → Type 0) (frame : List (Option Run)) (work : List Run) → AllOf (PlacedOf dags P) frame → ((placed : Placed) → Contains (placed_in dags work) placed → P placed) → (placed : Placed) → Contains (placed_in dags (fill frame work)) placed → P placed
+  pub placed_fill : (P : Placed → Type 0) (frame : List (Option Run)) (work : List Run) → AllOf (PlacedOf dags P) frame → ((placed : Placed) → Contains (placed_in dags work) placed → P placed) → (placed : Placed) → Contains (placed_in dags (fill frame work)) placed → P placed
   placed_fill P [] work stay others placed has = others placed has
   placed_fill P (Some run ∷ frame) work stay others placed has =
       ⊎_elim (stay.0 placed) (placed_fill P frame work stay.1 others placed)

@@ -1,5 +1,6 @@
 mod AdvanceLemmas
 mod BusyLemmas
+mod BusyPlacedLemmas
 mod CandidateLemmas
 mod ChoosingLemmas
 mod ClaimLemmas
@@ -12,6 +13,7 @@ mod FrameLemmas
 mod IdleLemmas
 mod KeyLemmas
 mod LikeLemmas
+mod NamedLemmas
 mod PassingLemmas
 mod PlanLemmas
 mod PooledLemmas

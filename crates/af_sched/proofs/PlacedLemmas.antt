@@ -208,7 +208,7 @@ none_placed test tasks run none placed has = go 0 tasks run.instances none has
 
 -- ---- what is found where one row alone may have it
 module _ {X Y : Type 0} (test : Y → Bool) (g : X → List Y) where
-  find-absent : (ys : List Y) → ((y : Y) → Contains ys y → test y ≡ false) → find test ys ≡ None
+  pub find-absent : (ys : List Y) → ((y : Y) → Contains ys y → test y ≡ false) → find test ys ≡ None
   find-absent [] fails = refl
   find-absent (y ∷ ys) fails = rw (fails y (zero, omega arith, refl)) (find-absent ys (λ z has. fails z (suc has.0, omega (arith, has.1), has.2)))
 
@@ -218,7 +218,7 @@ module _ {X Y : Type 0} (test : Y → Bool) (g : X → List Y) where
       find-append test (g x) (flat_map g xs)
       ∙ (λ i. option_or (find-absent (g x) (fails 0 x (omega arith)) i) (find-nowhere xs (λ j e inside. fails (suc j) e (omega arith)) i))
 
-  or_none : (o : Option Y) → option_or o None ≡ o
+  pub or_none : (o : Option Y) → option_or o None ≡ o
   or_none None = refl
   or_none (Some y) = refl
 

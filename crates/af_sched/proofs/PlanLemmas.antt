@@ -19,7 +19,7 @@ use Rattle.af_runs.specs.Additions.{RunAdditions, together}
 use Rattle.af_runs.specs.Runs.{AreRuns, RunRows, add_fault, queued_run, with_advanced}
 use Rattle.af_runs.specs.declared.new_run.NewRun.{NewRun}
 use Rattle.af_runs.specs.declared.run.Run.{Run}
-use Rattle.af_sched.specs.Busy.{busy_of}
+use Rattle.af_runs.specs.Busy.{busy_of}
 use Rattle.af_sched.specs.Create.{with_run, with_runs_of, runs_of_row, runs_due, run_for, moved_row, created}
 use Rattle.af_sched.specs.Due.{taken_points}
 use Rattle.af_sched.specs.Moves.{MovesOn}

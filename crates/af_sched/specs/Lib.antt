@@ -1,5 +1,4 @@
 pub mod Additions
-pub mod Busy
 pub mod Choosing
 pub mod Claims
 pub mod Create

@@ -2,7 +2,7 @@
 use Rattle.std.specs.Prelude.{ℕ, ◌≡◌, ◌≤◌, ◌↔◌, ◌++◌, List, [], Bool, false, All, map, zip, fold, length, Option}
 use Rattle.af_runs.specs.Runs.{AreRuns, with_advanced}
 use Rattle.af_runs.specs.declared.run.Run.{Run}
-use Rattle.af_sched.specs.Busy.{busy_of}
+use Rattle.af_runs.specs.Busy.{busy_of}
 use Rattle.af_sched.specs.State.{StateRows, IsWhole}
 use Rattle.af_sched.specs.Tick.{IsTick}
 use Rattle.af_sched.specs.declared.dag_row.DagRow.{DagRow}

@@ -1,7 +1,7 @@
 ghost use Rattle.std.specs.Prelude.{◌≡◌, ◌++◌, All, IfOk, OnOk, length, map};
 ghost use Rattle.std.specs.List.Sorted.{IsStrictlySortedBy};
 ghost use Rattle.std.specs.Ordering.{nat_cmp};
-ghost use Rattle.af_sched.specs.Busy.{busy_of};
+ghost use Rattle.af_runs.specs.Busy.{busy_of};
 ghost use Rattle.af_sched.specs.Moves.{MovesOn};
 ghost use Rattle.af_sched.specs.State.{IsWhole};
 
@@ -12,7 +12,7 @@ use crate::queueing::queue_all;
 use crate::starting::start_all;
 use af_names::Instant;
 use af_pool::Pools;
-use af_runs::Run;
+use af_runs::{Run, Runs};
 use std::alloc::{AllocError, Global};
 
 /// The busy ones of these runs, and the added ones, after the second to the fifth phase of a tick. `AllocError` only where a
@@ -22,13 +22,13 @@ pub(crate) fn moved_on(
     dags: &Dags<'_>,
     pools: &Pools,
     at: Instant,
-    runs: &[Run],
+    runs: &Runs,
     added: Vec<Run>,
 ) -> Result<(Vec<Run>, Vec<Run>), AllocError>
-    requires whole { All (IsWhole dags.now) (runs.now ++ added.items) }
-    requires in_order { IsStrictlySortedBy nat_cmp (map (λ run. run.number) (runs.now ++ added.items)) }
-    ensures runs { IfOk result (λ moved. MovesOn at dags.now pools.now.rows (busy_of runs.now ++ added.items) (moved.0.items ++ moved.1.items)) }
-    ensures count { IfOk result (λ moved. length moved.0.items ≡ length (busy_of runs.now)) }
+    requires whole { All (IsWhole dags.now) (runs.now.rows ++ added.items) }
+    requires in_order { IsStrictlySortedBy nat_cmp (map (λ run. run.number) (runs.now.rows ++ added.items)) }
+    ensures runs { IfOk result (λ moved. MovesOn at dags.now pools.now.rows (busy_of runs.now.rows ++ added.items) (moved.0.items ++ moved.1.items)) }
+    ensures count { IfOk result (λ moved. length moved.0.items ≡ length (busy_of runs.now.rows)) }
 {
     let mut added = added;
     let mut work = busy_of(alloc, runs)?;

@@ -45,7 +45,7 @@ fn queue_at(runs: &mut [Run], seat: Seat)
 }
 
 /// Where the run of this number stands.
-pub(crate) fn row_of(runs: &[Run], number: u64) -> Option<usize>
+fn row_of(runs: &[Run], number: u64) -> Option<usize>
     requires { IsStrictlySortedBy nat_cmp (map (λ run. run.number) runs.now) }
     ensures { MatchOption result (StandsNowhere runs.now number) (StandsAt runs.now number) }
 {

@@ -1,19 +1,19 @@
 ghost use Rattle.std.specs.Prelude.{◌≡◌, [], ◌∷◌, IfOk, option_copied};
 ghost use Rattle.af_pool.specs.Pools.{ArePools, default_name};
-ghost use Rattle.af_runs.specs.Runs.{AreRuns, run_at, run_of};
 ghost use Rattle.af_sched.specs.State.{AreRows, dag_of};
 
 use crate::dag_row::DagRow;
 use crate::dags::Dags;
-use af_names::{DagId, RunId};
+use af_names::DagId;
 use af_pool::{Pool, Pools};
-use af_runs::{Run, Runs};
+use af_runs::Runs;
 use std::alloc::{AllocError, Global};
 use std::marker::Model;
 
 mod adding;
 mod changing;
 mod claiming;
+mod reading;
 mod reporting;
 mod reserving;
 mod ticking;
@@ -82,28 +82,6 @@ impl State {
         ensures { result ≡ self.now.rows.dags }
     {
         Dags::of(self.dags())
-    }
-
-    /// The runs of all DAGs, by number.
-    pub fn runs(&self) -> &[Run]
-        ensures rows { result.now ≡ self.now.rows.runs }
-        ensures kept { AreRuns self.now.rows.runs self.now.rows.next_run }
-    {
-        self.runs.rows()
-    }
-
-    /// The run of these ids.
-    pub fn run(&self, dag_id: &DagId, run_id: &RunId) -> Option<&Run>
-        ensures { option_copied result ≡ run_of self.now.rows.runs dag_id.now run_id.now }
-    {
-        self.runs.find(dag_id, run_id)
-    }
-
-    /// The run of this number, found by binary search.
-    pub fn run_numbered(&self, number: u64) -> Option<&Run>
-        ensures { option_copied result ≡ run_at self.now.rows.runs number }
-    {
-        self.runs.get(number)
     }
 
     /// The pools, by name.

@@ -2,6 +2,7 @@ mod adding;
 mod claims;
 mod creating;
 mod openings;
+mod reads;
 mod rules;
 mod seen;
 mod steps;

@@ -1,6 +1,6 @@
 ghost use Rattle.std.specs.Prelude.{◌≡◌, Err, IfSome, IsNone, IsOk, OnErr, OnOk};
 ghost use Rattle.af_pool.specs.Pools as pools;
-ghost use Rattle.af_runs.specs.Runs.{with_advanced};
+ghost use Rattle.af_runs.specs.Runs.{with_advanced, without_run};
 ghost use Rattle.af_sched.specs.Additions.{HasAsManyInstances};
 ghost use Rattle.af_sched.specs.State.{with_paused};
 
@@ -32,6 +32,16 @@ impl State {
         // No two runs have one number.
         let _rows = self.runs.rows();
         self.runs.advance(later);
+    }
+
+    /// Takes the run of this number out; the number is not used again. Where there is no such run nothing changes. It takes
+    /// no memory.
+    pub fn remove_run(&mut self, number: u64)
+        ensures { self.new ≡ record self.old {
+          rows = record self.old.rows { runs = without_run self.old.rows.runs number };
+        } }
+    {
+        self.runs.remove(number);
     }
 
     /// Gives a pool other slots. Its faults are those of `Pools::set_slots`; a fault leaves the state as it was.

@@ -10,7 +10,7 @@ use crate::placed::PlacedInstance;
 use crate::state::State;
 use af_graph::{TaskSpec, TaskState};
 use af_names::Instant;
-use af_runs::Run;
+use af_runs::{Run, Runs};
 use std::alloc::{AllocError, Global};
 
 impl State {
@@ -24,7 +24,7 @@ impl State {
         ensures spare_runs { self.new.spare_runs ≡ self.old.spare_runs }
         ensures spare_pools { self.new.spare_pools ≡ self.old.spare_pools }
     {
-        let Some(first) = first_claimable(&self.by_id(), self.runs.rows()) else {
+        let Some(first) = first_claimable(&self.by_id(), &self.runs) else {
             return Ok(None);
         };
         let claim = claim_of(alloc, &first)?;
@@ -35,12 +35,12 @@ impl State {
     }
 }
 
-/// Of the instances that may be claimed, the first in the order.
-fn first_claimable<'a>(dags: &Dags<'a>, runs: &'a [Run]) -> Option<PlacedInstance<'a>>
-    ensures { IsFirstOf is_claimable (placed_in dags.now runs.now) result }
+/// Of the instances that may be claimed, the first in the order. Only busy runs have any.
+fn first_claimable<'a>(dags: &Dags<'a>, runs: &'a Runs) -> Option<PlacedInstance<'a>>
+    ensures { IsFirstOf is_claimable (placed_in dags.now runs.now.rows) result }
 {
     let mut first = None;
-    for run in runs {
+    for run in runs.busy() {
         first = first_after(first, dags, run);
     }
     first

@@ -1,6 +1,4 @@
-ghost use Rattle.std.specs.Prelude.{◌≡◌, Err, Some, IfSome, IsNone, IsOk, OnOk, OnErr, find, map};
-ghost use Rattle.std.specs.List.Sorted.{IsStrictlySortedBy};
-ghost use Rattle.std.specs.Ordering.{nat_cmp};
+ghost use Rattle.std.specs.Prelude.{◌≡◌, Err, Some, IfSome, IsNone, IsOk, OnOk, OnErr, find};
 ghost use Rattle.af_sched.specs.Placed.{placed_of, placed_in};
 ghost use Rattle.af_sched.specs.Reports.{fault_at, is_claimed, report_fault, reported, reported_instance, failed_instance};
 
@@ -8,12 +6,11 @@ use crate::claim::Claim;
 use crate::dags::Dags;
 use crate::outcome::Outcome;
 use crate::placed::PlacedInstance;
-use crate::queueing::row_of;
 use crate::report_fault::ReportFault;
 use crate::state::State;
 use af_graph::{TaskSpec, TaskState};
 use af_names::Instant;
-use af_runs::{Instance, Run};
+use af_runs::{Instance, Run, Runs};
 
 impl State {
     /// Takes the outcome of a claimed try: success and skipped end the instance at this moment; failed ends it too,
@@ -31,7 +28,7 @@ impl State {
         ensures ok { OnOk result (self.new ≡ record self.old { rows = reported at outcome self.old.rows claim.now }) }
         ensures err { OnErr result (self.new ≡ self.old) }
     {
-        let Some(placed) = instance_of(&self.by_id(), self.runs.rows(), claim) else {
+        let Some(placed) = instance_of(&self.by_id(), &self.runs, claim) else {
             return Err(ReportFault::NoSuchInstance);
         };
         if let Some(fault) = fault_at(claim, &placed) {
@@ -44,13 +41,13 @@ impl State {
     }
 }
 
-/// The instance that a claim names: by the number of its run, which is found by binary search, and the id of its task.
-fn instance_of<'a>(dags: &Dags<'a>, runs: &'a [Run], claim: &Claim) -> Option<PlacedInstance<'a>>
-    requires { IsStrictlySortedBy nat_cmp (map (λ run. run.number) runs.now) }
-    ensures { result ≡ find (is_claimed claim.now) (placed_in dags.now runs.now) }
+/// The instance that a claim names: by the number of its run and the id of its task.
+fn instance_of<'a>(dags: &Dags<'a>, runs: &'a Runs, claim: &Claim) -> Option<PlacedInstance<'a>>
+    ensures { result ≡ find (is_claimed claim.now) (placed_in dags.now runs.now.rows) }
 {
-    let row = row_of(runs, claim.run_number)?;
-    let run = &runs[row];
+    // No two runs have one number.
+    let _rows = runs.rows();
+    let run = runs.get(claim.run_number)?;
     instance_in_run(dags.tasks_of(&run.dag_id), run, claim)
 }
 

@@ -37,14 +37,7 @@ impl State {
         let mut additions = Additions::of(alloc, &self.runs);
         let cursors = create_all(alloc, dags, at, &mut additions)?;
         let (added, last) = additions.into_rows();
-        let (moved, added) = moved_on(
-            alloc,
-            &self.by_id(),
-            &self.pools,
-            at,
-            self.runs.rows(),
-            added,
-        )?;
+        let (moved, added) = moved_on(alloc, &self.by_id(), &self.pools, at, &self.runs, added)?;
         let is_change = !self.has(cursors.as_slice(), moved.as_slice(), added.as_slice());
         Ok(Plan {
             cursors,
@@ -97,7 +90,7 @@ impl State {
     {
         added.is_empty()
             && have_cursors(self.dags.as_slice(), cursors)
-            && are_busy_of(self.runs.rows(), moved)
+            && are_busy_of(&self.runs, moved)
     }
 }
 

@@ -14,7 +14,7 @@ moved_on-requires-clause-whole c =
     let stays : c.create_all.new.additions.before ≡ state.runs = c.in_ok-cursors.ensures.before ∙ c.of-additions.ensures.before in
     let takes = rw (c.as_slice-dags.ensures.value) at c.in_ok-cursors.ensures.runs in
     let same : c.of-additions.result.before ++ c.of-additions.result.added ≡ state.runs = (λ i. c.of-additions.ensures.before i ++ c.of-additions.ensures.added i) ∙ append-nil state.runs in
-    rw (c.by_id.ensures, ← c.self.view_is, c.rows.ensures.rows, c.into_rows-added.ensures.added)
+    rw (c.by_id.ensures, ← c.self.view_is, c.into_rows-added.ensures.added)
     (subst (λ (runs : List Run). All (IsWhole state.dags) (runs ++ c.create_all.new.additions.added)) stays
     (whole_created c.args.at state (together c.of-additions.result) (together c.create_all.new.additions) c.self.invariant same takes))
 
@@ -34,7 +34,7 @@ returns c =
       takes = rw (c.as_slice-dags.ensures.value) at c.in_ok-cursors.ensures.runs;
       kept = rw stays at c.into_rows-added.ensures.kept;
       told = rw (c.as_slice-dags.ensures.value) at c.in_ok-cursors.ensures.cursors;
-      moves = rw (c.by_id.ensures, ← c.self.view_is, c.rows.ensures.rows, c.into_rows-added.ensures.added) at c.in_ok-moved.ensures.runs;
-      count = rw (c.rows.ensures.rows) at c.in_ok-moved.ensures.count;
+      moves = rw (c.by_id.ensures, ← c.self.view_is, c.into_rows-added.ensures.added) at c.in_ok-moved.ensures.runs;
+      count = c.in_ok-moved.ensures.count;
     })
     c.has-is_change.result tells))

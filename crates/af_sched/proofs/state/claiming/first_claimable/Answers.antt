@@ -1,18 +1,33 @@
-use Rattle.std.proofs.Common.{◌≡◌, ◌+◌, ◌∙◌, sym, subst, ℕ, List, ◌++◌, take}
+use Rattle.std.proofs.Common.{◌≡◌, ◌∙◌, sym, subst, ap, List, [], ◌∷◌, ◌++◌, append_assoc, append-nil}
+use Rattle.std.proofs.lemmas.Grind.{flat_map-append}
+use Rattle.af_runs.specs.Busy.{busy_of}
 use Rattle.af_runs.specs.declared.run.Run.{Run}
 use Rattle.af_sched.specs.Claims.{is_claimable}
 use Rattle.af_sched.specs.Placed.{Placed, placed_of, placed_in, IsFirstOf}
 use Rattle.af_sched.specs.State.{tasks_of}
-use Rattle.af_sched.proofs.PlacedLemmas.{flat_map-more, IsFirstOf-none}
+use Rattle.af_sched.proofs.BusyPlacedLemmas.{first_of_busy}
+use Rattle.af_sched.proofs.PlacedLemmas.{IsFirstOf-none}
 use Rattle.af_sched.proofs.state.claiming.first_claimable.Goals as goal
 
 pub loop-run-init : goal.loop-run-init
-loop-run-init c = IsFirstOf-none is_claimable
+loop-run-init c = rw c.into_iter-run-iterator.ensures.into_iter_gives ([], c.busy-run-items.ensures, IsFirstOf-none is_claimable)
 
 pub loop-run-preserved : goal.loop-run-preserved
 loop-run-preserved c =
-    let k : ℕ = c.loop-run.run-index in
-    let before : List Placed = placed_in c.args.dags.now (take k c.args.runs.now) in
-    let lists : before ++ placed_of (tasks_of c.args.dags.now c.run-item.result.dag_id) c.run-item.result ≡ placed_in c.args.dags.now (take (k + 1) c.args.runs.now) =
-    (λ i. before ++ placed_of (tasks_of c.args.dags.now (c.run-item.is i).dag_id) (c.run-item.is i)) ∙ sym (flat_map-more (λ (run : Run). placed_of (tasks_of c.args.dags.now run.dag_id) run) c.args.runs.now k c.run-item.result c.loop-run-test.true) in
-    subst (λ (xs : List Placed). IsFirstOf is_claimable xs c.first_after-first.result) lists (c.first_after-first.ensures before c.loop-run.invariant)
+    let step = c.in-Some.ensures.steps in
+    let so_far = c.loop-run.invariant in
+    let run : Run = c.in-Some.run'.now in
+    let here : List Placed = placed_of (tasks_of c.args.dags.now run.dag_id) run in
+    let lists : placed_in c.args.dags.now so_far.0 ++ here ≡ placed_in c.args.dags.now (so_far.0 ++ run ∷ []) =
+    ap (λ (ys : List Placed). placed_in c.args.dags.now so_far.0 ++ ys) (sym (append-nil here))
+    ∙ sym (flat_map-append (λ (r : Run). placed_of (tasks_of c.args.dags.now r.dag_id) r) so_far.0 (run ∷ [])) in (
+      so_far.0 ++ run ∷ [],
+      append_assoc so_far.0 (run ∷ []) c.next.new.self ∙ ap (λ (rest : List Run). so_far.0 ++ rest) (sym step) ∙ so_far.1,
+      subst (λ (xs : List Placed). IsFirstOf is_claimable xs c.first_after-first.result) lists (c.first_after-first.ensures (placed_in c.args.dags.now so_far.0) so_far.2),
+    )
+
+pub returns : goal.returns
+returns c =
+    let so_far = c.loop-run.invariant in
+    let all : so_far.0 ≡ busy_of c.args.runs.now.rows = sym (append-nil so_far.0) ∙ ap (λ (rest : List Run). so_far.0 ++ rest) (sym c.in-None.ensures.steps.0) ∙ so_far.1 in
+    first_of_busy c.args.dags.now c.args.runs.now.rows c.loop-run.first (subst (λ (seen : List Run). IsFirstOf is_claimable (placed_in c.args.dags.now seen) c.loop-run.first) all so_far.2)

@@ -1,6 +1,6 @@
 use super::{failed, has_rows, moment, new_run, untried};
-use crate::{Additions, Instances, Run, RunFault, RunState, Runs};
 use af_names::{DagId, RunId};
+use af_runs::{Additions, Instances, Run, RunFault, RunState, Runs};
 use std::alloc::Global;
 use std::test::Fail;
 

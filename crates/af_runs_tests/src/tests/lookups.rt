@@ -1,7 +1,7 @@
 use super::moment;
-use crate::{Instance, Instances, Interval, NewRun, Run, RunFault, RunState, RunType, Runs};
 use af_graph::TaskState;
 use af_names::{DagId, RunId};
+use af_runs::{Instance, Instances, Interval, NewRun, Run, RunFault, RunState, RunType, Runs};
 use std::alloc::Global;
 use std::test::Fail;
 
@@ -68,6 +68,30 @@ fn is_it(run: Option<&Run>, plain: Option<&Plain>) -> bool {
     }
 }
 
+/// Whether the runs of a DAG from a place on begin as a filter says.
+fn is_page(runs: &Runs, plain: &[Plain], dag: usize, dag_id: &DagId, from: usize) -> bool {
+    let mut page = runs.of_dag(dag_id, from);
+    for place in 0..3 {
+        let place = from.saturating_add(place);
+        let wanted = plain.iter().filter(|row| row.dag == dag).nth(place);
+        if !is_it(page.next(), wanted) {
+            return false;
+        }
+    }
+    true
+}
+
+/// Whether the busy runs are those of a filter.
+fn are_busy(runs: &Runs, plain: &[Plain]) -> bool {
+    let mut wanted = plain.iter().filter(|row| row.is_busy());
+    for run in runs.busy() {
+        if !is_it(Some(run), wanted.next()) {
+            return false;
+        }
+    }
+    wanted.next().is_none()
+}
+
 /// Whether each look-up for a key answers what a filter over the plain list answers.
 fn agrees(
     alloc: Global,
@@ -89,7 +113,11 @@ fn agrees(
             && is_it(runs.find(dag_id, &id), there)
             && runs.add_fault(dag_id, &id, date) == fault
             && runs.count_of(dag_id) == count
-            && is_it(runs.nth_of(dag_id, place), nth);
+            && is_it(runs.nth_of(dag_id, place), nth)
+            && is_page(runs, plain, dag, dag_id, (key % 300) as usize);
+    }
+    if key % 16 == 0 {
+        same = same && are_busy(runs, plain);
     }
     let number = key + 1;
     let place = (key % 500) as usize;

@@ -1,9 +1,9 @@
 mod additions;
 mod lookups;
 
-use crate::{Instance, Instances, Interval, NewRun, Run, RunFault, RunState, RunType, Runs};
 use af_graph::{Dag, DagSpec, Rule, TaskIds, TaskSpec, TaskSpecs, TaskState};
 use af_names::{DagId, Instant, PoolName, RunId, TaskId};
+use af_runs::{Instance, Instances, Interval, NewRun, Run, RunFault, RunState, RunType, Runs};
 use std::alloc::Global;
 use std::test::Fail;
 
