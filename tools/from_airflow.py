@@ -4,7 +4,7 @@
     airflow roles export roles.json          (or: airflow roles list --permission --output json > roles.json)
     airflow users export users.json
     airflow dags list --output json > dags.json
-    tools/from_airflow.py --roles roles.json --users users.json --dags dags.json afplane.json > tokens.txt
+    tools/from_airflow.py --roles roles.json --users users.json --dags dags.json --tokens tokens.txt afplane.json
 
 Each file may be left out. Every user gets a fresh token, which is told once, as lines of name, tab and token: on
 standard output, or in the file of --tokens, which only its owner reads. The configuration keeps their SHA-256 alone.
