@@ -24,6 +24,7 @@ import from_airflow  # noqa: E402
 TOOL = pathlib.Path(__file__).resolve().with_name("from_airflow.py")
 TOP = TOOL.parents[1]
 SAMPLES = TOP / "examples" / "airflow"
+README = (SAMPLES / "README.md").read_text(encoding="utf-8")
 PROGRAM = pathlib.Path(os.environ.get("AFPLANE_PROGRAM", TOP / "crates/af_server/out/af_server"))
 ADMIN = {"username": "root", "roles": ["Admin"]}
 
@@ -124,6 +125,11 @@ class Samples(Case):
             "4 roles, 5 users, 4 DAGs; left out: 3",
         ):
             self.assertIn(line, err)
+
+    def test_what_the_page_shows_is_told(self):
+        _, _, err = self.read(roles="roles.json", users="users.json", dags="dags.json")
+        told = [it.strip() for it in README.splitlines() if it.startswith("    from_airflow: ")]
+        self.assertEqual(told[:-2], err.splitlines()[:-2])
 
     def test_older_roles_are_names(self):
         config, _, err = self.read(roles="roles-names.json", users="users.json")
@@ -356,6 +362,7 @@ class Program(Case):
         ran = subprocess.run(words, input=request.encode(), capture_output=True)
         self.assertEqual((ran.returncode, ran.stderr), (0, b""))
         head, body = ran.stdout.decode().split("\r\n\r\n", 1)
+        self.answer = ran.stdout.decode().replace("\r\n", "\n")
         return head.split("\r\n")[0], json.loads(body)
 
     def test_samples(self):
@@ -368,6 +375,7 @@ class Program(Case):
         ):
             status, body = self.ask(tokens[name], "/dags")
             self.assertEqual((status, [it["dag_id"] for it in body["dags"]]), ("HTTP/1.1 200 OK", wanted))
+        self.assertIn(self.answer, README.replace("\n    ", "\n"))
         for name in ("audrey", "guest"):
             status, body = self.ask(tokens[name], "/dags")
             self.assertEqual((status, body["detail"]), ("HTTP/1.1 403 Forbidden", "missing permission DAGs.can_read"))
