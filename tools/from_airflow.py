@@ -118,12 +118,10 @@ def read_rows(path, name, tell):
     return rows
 
 
-def text_of(path, number, row, *members):
-    """The text under the first of these members that the row has."""
-    for name in members:
-        if type(row) is dict and type(row.get(name)) is str:
-            return row[name]
-    raise Unusable(f"{path}: row {number} has no text {members[0]!r}: it is not as Airflow exports it")
+def text_of(path, number, row, name):
+    if type(row) is dict and type(row.get(name)) is str:
+        return row[name]
+    raise Unusable(f"{path}: row {number} has no text {name!r}: it is not as Airflow exports it")
 
 
 def permissions_of(path, number, row):
