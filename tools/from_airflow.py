@@ -1,0 +1,427 @@
+#!/usr/bin/env python3
+"""Writes a configuration of afplane from what Airflow 2 exports.
+
+    airflow roles export roles.json          (or: airflow roles list --permission --output json > roles.json)
+    airflow users export users.json
+    airflow dags list --output json > dags.json
+    tools/from_airflow.py --roles roles.json --users users.json --dags dags.json --tokens tokens.txt afplane.json
+
+Each file may be left out. Every user gets a fresh token, which is told once, as lines of name, tab and token: on
+standard output, or in the file of --tokens, which only its owner reads. The configuration keeps their SHA-256 alone.
+What has no place in the configuration is left out and told on standard error, with the reason.
+"""
+import argparse
+import hashlib
+import json
+import os
+import re
+import secrets
+import sys
+
+ACTIONS = ["can_create", "can_read", "can_edit", "can_delete"]
+RESOURCES = ["DAGs", "DAG Runs", "Task Instances", "Pools", "Variables", "Audit Logs", "Roles", "Users"]
+MOST_ROLES, MOST_USERS, MOST_DAGS, MOST_BYTES = 4096, 65536, 1024, 16 * 1024 * 1024
+
+VIEWER = {(it, "can_read") for it in RESOURCES[:3]}
+USER = VIEWER | {(it, action) for it in RESOURCES[:3] for action in ACTIONS} - {("DAGs", "can_create")}
+OP = USER | {(it, action) for it in ("Pools", "Variables") for action in ACTIONS} | {("Audit Logs", "can_read")}
+ADMIN = OP | {(it, action) for it in ("Roles", "Users") for action in ACTIONS}
+DEFAULT_ROLES = {"Public": set(), "Viewer": VIEWER, "User": USER, "Op": OP, "Admin": ADMIN}
+
+# Airflow's resources that have no place here, by the reason.
+WITHOUT_PLACE = {
+    "there are no web pages": ["Website", "Browse", "Admin", "Docs", "Documentation", "Security", "Cluster Activity"],
+    "users have no passwords or profiles, and bring a token": ["My Password", "My Profile", "Passwords", "User Stats Chart"],
+    "which permissions there are is fixed": ["Permissions", "Permission Views", "View Menus", "Actions", "Resources"],
+    "there are no connections": ["Connections"],
+    "the server's own settings are not shown": ["Configurations", "Plugins", "Providers"],
+    "DAGs are rows of the configuration, and not files of code": ["DAG Code", "DAG Warnings", "ImportError"],
+    "there are no datasets": ["DAG Dependencies", "Datasets"],
+    "tasks leave no logs and no values": ["Task Logs", "XComs"],
+    "there are no deferred or rescheduled tasks and no SLAs": ["Jobs", "SLA Misses", "Task Reschedules", "Triggers"],
+}
+REASONS = {resource: reason for reason, resources in WITHOUT_PLACE.items() for resource in resources}
+OLD_ACTIONS = {"can_dag_read": "can_read", "can_dag_edit": "can_edit"}
+
+LABEL = "a name is 1 to 64 characters from the blank to ~ of ASCII"
+DAG_ID = "an id is 1 to 250 letters, digits, _, - and . of ASCII"
+PLACEHOLDER = "placeholder"
+
+
+class Unusable(Exception):
+    """Nothing is written; the text says why, and what to do."""
+
+
+def is_label(text):
+    """Whether the text may name a user or a role."""
+    return re.fullmatch(r"[ -~]{1,64}", text) is not None
+
+
+def is_dag_id(text):
+    return re.fullmatch(r"[A-Za-z0-9_.-]{1,250}", text) is not None
+
+
+# ---- What Airflow wrote -------------------------------------------------------------------------------------
+
+
+def read_text(path):
+    try:
+        with sys.stdin.buffer if path == "-" else open(path, "rb") as file:
+            return file.read().decode("utf-8-sig")
+    except OSError as fault:
+        raise Unusable(f"{path}: can not be read: {fault.strerror}") from fault
+    except UnicodeDecodeError as fault:
+        raise Unusable(f"{path}: is no UTF-8 at byte {fault.start}") from fault
+
+
+def list_below(text):
+    """The list that some line begins and that is all of the rest, with the number of lines before it; none where there is none."""
+    for passed, line in enumerate(re.finditer("^", text, re.MULTILINE)):
+        if text.startswith("[", line.start()):
+            try:
+                value, end = json.JSONDecoder().raw_decode(text, line.start())
+            except ValueError:
+                continue
+            if not text[end:].strip():
+                return value, passed
+    return None
+
+
+def read_json(path):
+    """What the file holds as JSON, and the number of lines before it: Airflow logs to standard output too."""
+    text = read_text(path)
+    try:
+        try:
+            return json.loads(text), 0
+        except ValueError:
+            found = list_below(text)
+            if found is None:
+                raise
+            return found
+    except RecursionError as fault:
+        raise Unusable(f"{path}: is nested too deep") from fault
+    except json.JSONDecodeError as fault:
+        where = f"line {fault.lineno}, column {fault.colno}"
+        raise Unusable(f"{path}: is no JSON ({fault.msg} at {where}); ask Airflow for JSON, not a table") from fault
+    except ValueError as fault:
+        raise Unusable(f"{path}: is no JSON that can be read: {fault}") from fault
+
+
+def read_rows(path, name, tell):
+    """The rows of a list; of an object, as the REST API answers, those of its member of that name."""
+    value, passed = read_json(path)
+    if passed:
+        tell(f"{path}: the first {passed} lines are no part of the list, and are passed over")
+    rows = value.get(name) if type(value) is dict else value
+    if type(rows) is not list:
+        raise Unusable(f"{path}: is no list of {name}, as Airflow exports it")
+    return rows
+
+
+def text_of(path, number, row, name):
+    if type(row) is dict and type(row.get(name)) is str:
+        return row[name]
+    raise Unusable(f"{path}: row {number} has no text {name!r}: it is not as Airflow exports it")
+
+
+def permissions_of(path, number, row):
+    """The pairs of resource and action that a row gives its role, or none where the row tells of no permissions."""
+    if type(row) is str or type(row) is dict and not row.keys() & {"resource", "action", "actions"}:
+        return None
+    if type(row.get("actions")) is list:
+        names = [(it.get("resource"), it.get("action")) if type(it) is dict else (0, 0) for it in row["actions"]]
+        return [(text_of(path, number, it, "name"), text_of(path, number, action, "name")) for it, action in names]
+    resource, actions = text_of(path, number, row, "resource"), text_of(path, number, row, "action")
+    return [(resource, it.strip()) for it in actions.split(",") if resource.strip() or it.strip()]
+
+
+def read_roles(path, tell):
+    """The pairs of each role by its name, and the names of those whose permissions the file doesn't tell."""
+    roles, untold = {}, set()
+    for number, row in enumerate(read_rows(path, "roles", tell), 1):
+        name = row if type(row) is str else text_of(path, number, row, "name")
+        pairs = permissions_of(path, number, row)
+        untold.update({name} if pairs is None else ())
+        roles.setdefault(name, []).extend(pairs or ())
+    return roles, untold
+
+
+def read_users(path, tell):
+    """The role names of each user by the user's name."""
+    users = {}
+    for number, row in enumerate(read_rows(path, "users", tell), 1):
+        name = text_of(path, number, row, "username")
+        if type(row.get("roles")) is not list:
+            raise Unusable(f"{path}: row {number} has no list 'roles': it is not as Airflow exports it")
+        if name in users:
+            raise Unusable(f"{path}: row {number}: the user {name!r} is there twice; keep one")
+        users[name] = [it if type(it) is str else text_of(path, number, it, "name") for it in row["roles"]]
+    return users
+
+
+def read_dags(path, tell):
+    """Whether each DAG is paused, by its id; None where Airflow doesn't say."""
+    said = {"true": True, "false": False, "none": None, "": None}
+    dags = {}
+    for number, row in enumerate(read_rows(path, "dags", tell), 1):
+        name = text_of(path, number, row, "dag_id")
+        value = row.get("is_paused", row.get("paused"))
+        word = str("" if value is None else value).strip().lower()
+        if type(value) not in (str, bool, type(None)) or word not in said:
+            raise Unusable(f"{path}: row {number}: {name!r} is neither paused nor not: {str(value)[:40]!r}")
+        if name in dags:
+            raise Unusable(f"{path}: row {number}: the DAG {name!r} is there twice; keep one")
+        dags[name] = said[word]
+    return dags
+
+
+# ---- What has a place here ----------------------------------------------------------------------------------
+
+
+def why_not(resource, action):
+    """Why the permission has no place here, or none where it has one."""
+    if action == "menu_access":
+        return "there are no web pages"
+    if resource in REASONS:
+        return REASONS[resource]
+    if resource.startswith("DAG Run:"):
+        return "there are no permissions on the runs of a single DAG"
+    if action in OLD_ACTIONS:
+        return f"a spelling of Airflow 1, which grants nothing in Airflow 2: grant {OLD_ACTIONS[action]} there, and export again"
+    if resource.startswith("DAG:"):
+        if not is_dag_id(resource[4:]):
+            return f"no DAG has this id here: {DAG_ID}"
+        if action not in ACTIONS[1:]:
+            return "a single DAG has can_read, can_edit and can_delete alone"
+        return None
+    if resource not in RESOURCES:
+        return "there is no such resource"
+    return None if action in ACTIONS else "there is no such action"
+
+
+def in_order(pair):
+    """Where a pair is shown: resources in their order, then single DAGs by id; of each its actions in theirs."""
+    resource, action = pair
+    known = RESOURCES.index(resource) if resource in RESOURCES else len(RESOURCES)
+    return known, resource, ACTIONS.index(action) if action in ACTIONS else len(ACTIONS), action
+
+
+def listed(pairs):
+    return ", ".join(f"{resource}.{action}" for resource, action in sorted(pairs, key=in_order))
+
+
+def shown(text):
+    """The text, with what is not to be printed as Python spells it."""
+    return repr(text)[1:-1] if not text.isprintable() else text
+
+
+class Draft:
+    """The configuration in the making, and what is left out of it."""
+
+    def __init__(self, tell):
+        self.tell = tell
+        self.roles, self.users, self.dags = [], [], []
+        self.left_out = 0
+
+    def leave_out(self, what, why):
+        self.left_out += 1
+        self.tell(f"{what}: left out: {why}")
+
+    def add_roles(self, roles, untold):
+        for name, pairs in sorted(roles.items()):
+            if name in DEFAULT_ROLES:
+                if name not in untold:
+                    self.compare_default(name, {it for it in pairs if why_not(*it) is None})
+            elif not is_label(name):
+                self.leave_out(f"role {name!r}", f"{LABEL}: rename it in the files of roles and of users")
+            else:
+                self.add_role(name, {*pairs}, name in untold)
+        if len(self.roles) + len(DEFAULT_ROLES) > MOST_ROLES:
+            most = MOST_ROLES - len(DEFAULT_ROLES)
+            raise Unusable(f"{len(self.roles)} roles are too many: at most {most} stand beside the default ones; take some out")
+
+    def add_role(self, name, pairs, is_untold):
+        if is_untold:
+            self.leave_out(
+                f"permissions of role {name!r}",
+                "this export names roles alone; if your Airflow has it, give what 'airflow roles list --permission --output json' writes",
+            )
+        reasons = {}
+        for pair in pairs:
+            reasons.setdefault(why_not(*pair), set()).add(pair)
+        kept = reasons.pop(None, set())
+        for reason, without in sorted(reasons.items()):
+            self.tell(f"role {name!r}: no place for {shown(listed(without))}: {reason}")
+        actions = [{"action": {"name": action}, "resource": {"name": it}} for it, action in sorted(kept, key=in_order)]
+        self.roles.append({"name": name, "actions": actions})
+
+    def compare_default(self, name, pairs):
+        """Tells how Airflow's role differs from the one of this name that is always there."""
+        here = DEFAULT_ROLES[name]
+        more = {it for it in pairs - here if not (it[0].startswith("DAG:") and ("DAGs", it[1]) in here)}
+        fewer = here - pairs
+        if more:
+            self.tell(f"role {name!r}: is built in, and lacks here: {listed(more)}; a role of another name can grant it")
+        if fewer:
+            self.tell(f"role {name!r}: is built in, and grants more here: {listed(fewer)}; who should not have it needs another role")
+
+    def add_users(self, users, token):
+        known = {*DEFAULT_ROLES, *(it["name"] for it in self.roles)}
+        tokens = []
+        for name, roles in sorted(users.items()):
+            if not is_label(name):
+                self.leave_out(f"user {name!r}", f"{LABEL}: rename the user in the file of users")
+                continue
+            for it in sorted({*roles} - known):
+                self.leave_out(f"role {it!r} of user {name!r}", "no such role is written; see the file of roles")
+            made = token()
+            digest = hashlib.sha256(made.encode()).hexdigest()
+            kept = [{"name": it} for it in sorted({*roles} & known)]
+            self.users.append({"username": name, "roles": kept, "token_sha256": digest})
+            tokens.append((name, made))
+        if len(self.users) > MOST_USERS:
+            raise Unusable(f"{len(self.users)} users are too many: there is room for {MOST_USERS}; take some out")
+        if not any({"name": "Admin"} in it["roles"] for it in self.users):
+            raise Unusable("no user has the role Admin, and some user has to: --admin NAME gives it to NAME")
+        return tokens
+
+    def add_dags(self, dags):
+        unsaid = []
+        for name, is_paused in sorted(dags.items()):
+            if not is_dag_id(name):
+                self.leave_out(f"DAG {name!r}", DAG_ID)
+                continue
+            unsaid += [name] if is_paused is None else []
+            tasks = [{"task_id": PLACEHOLDER}]
+            self.dags.append({"dag_id": name, "is_paused": is_paused is not False, "tasks": tasks})
+        for name in unsaid:
+            self.tell(f"DAG {name!r}: Airflow does not say whether it is paused; it is paused here")
+        if len(self.dags) > MOST_DAGS:
+            raise Unusable(f"{len(self.dags)} DAGs are too many: there is room for {MOST_DAGS}; take some out")
+        if self.dags:
+            self.tell(f"each DAG has one task, {PLACEHOLDER!r}, and no schedule, since Airflow's list tells of none: write in its own")
+
+    def text(self):
+        """The configuration, a row a line."""
+        lists = {"roles": self.roles, "users": self.users, "dags": self.dags}
+        parts = [f"{json.dumps(name)}: [\n  " + ",\n  ".join(map(json.dumps, rows)) + "]" for name, rows in lists.items() if rows]
+        text = "{" + ",\n".join(parts) + "}\n"
+        if len(text) > MOST_BYTES:
+            raise Unusable(f"the configuration has {len(text)} bytes, and at most {MOST_BYTES} are read; take rows out")
+        return text
+
+
+# ---- Writing it ---------------------------------------------------------------------------------------------
+
+
+def write_new(path, text, mode):
+    """Writes a file that is not there yet."""
+    with os.fdopen(os.open(path, os.O_WRONLY | os.O_CREAT | os.O_EXCL, mode), "w", encoding="ascii") as out:
+        out.write(text)
+
+
+def tell_tokens(told):
+    if sys.stdout is None:
+        raise Unusable("there is no standard output for the tokens; --tokens FILE writes them into a file")
+    try:
+        print(told, end="", flush=True)
+    except OSError:
+        # What is left in the buffer would be tried again at the end.
+        os.dup2(os.open(os.devnull, os.O_WRONLY), sys.stdout.fileno())
+        raise
+
+
+def write(asked, text, tokens):
+    """Writes the configuration last, so that none stands whose tokens were not told."""
+    part = f"{asked.config}.part"
+    told = "".join(f"{name}\t{token}\n" for name, token in tokens)
+    try:
+        write_new(part, text, 0o666)
+        try:
+            if asked.tokens is None:
+                tell_tokens(told)
+            else:
+                if asked.force and os.path.lexists(asked.tokens):
+                    os.remove(asked.tokens)
+                write_new(asked.tokens, told, 0o600)
+            os.replace(part, asked.config)
+        except (OSError, Unusable):
+            os.remove(part)
+            raise
+    except OSError as fault:
+        raise Unusable(f"{fault.filename or 'standard output'}: can not be written: {fault.strerror}") from fault
+
+
+def words_of(words):
+    usage = "%(prog)s [--roles FILE] [--users FILE] [--dags FILE] [OPTION..] CONFIG"
+    parser = argparse.ArgumentParser(
+        prog="from_airflow.py",
+        usage=usage,
+        description=__doc__,
+        formatter_class=argparse.RawDescriptionHelpFormatter,
+        epilog="Status: 0 CONFIG is written, 1 nothing is written and standard error says why, 2 wrong words.\n"
+        "A FILE that is - is standard input. Airflow's export does not tell who is inactive: take such users out.",
+    )
+    parser.add_argument("config", metavar="CONFIG", help="the configuration to write")
+    parser.add_argument("--roles", metavar="FILE", help="what 'airflow roles export FILE' wrote, --pretty or not")
+    parser.add_argument("--users", metavar="FILE", help="what 'airflow users export FILE' wrote")
+    parser.add_argument("--dags", metavar="FILE", help="what 'airflow dags list --output json' wrote")
+    parser.add_argument("--admin", metavar="NAME", help="this user, of the file or a new one, has the role Admin")
+    parser.add_argument("--tokens", metavar="FILE", help="write the tokens there, for its owner alone (mode 600)")
+    parser.add_argument("--force", action="store_true", help="replace CONFIG and the file of --tokens if they are there")
+    parser.add_argument("--strict", action="store_true", help="status 1, and nothing written, where a role, user or DAG is left out")
+    asked = parser.parse_args(words)
+    asked.tokens = None if asked.tokens == "-" else asked.tokens
+    files = [it for it in (asked.roles, asked.users, asked.dags) if it is not None]
+    if not files:
+        parser.error("give one of --roles, --users and --dags")
+    if files.count("-") > 1:
+        parser.error("only one file can be standard input")
+    if asked.admin is not None and not is_label(asked.admin):
+        parser.error(f"--admin: {LABEL}")
+    if asked.tokens is not None and os.path.realpath(asked.tokens) == os.path.realpath(asked.config):
+        parser.error("--tokens: the tokens do not belong into the configuration")
+    return asked
+
+
+def convert(asked, tell, token):
+    """The configuration's text and the tokens, by name."""
+    draft = Draft(tell)
+    if asked.roles is not None:
+        draft.add_roles(*read_roles(asked.roles, tell))
+    users = {} if asked.users is None else read_users(asked.users, tell)
+    if asked.admin is not None:
+        users[asked.admin] = [*users.get(asked.admin, []), "Admin"]
+    tokens = draft.add_users(users, token)
+    if asked.dags is not None:
+        draft.add_dags(read_dags(asked.dags, tell))
+    if asked.strict and draft.left_out:
+        raise Unusable(f"{draft.left_out} left out, as told above, and --strict allows none")
+    text = draft.text()
+    counts = ((draft.roles, "roles"), (draft.users, "users"), (draft.dags, "DAGs"))
+    tell(f"{asked.config}: {', '.join(f'{len(rows)} {name}' for rows, name in counts)}; left out: {draft.left_out}")
+    return text, tokens
+
+
+def main(words, token=lambda: secrets.token_urlsafe(32)):
+    asked = words_of(words)
+
+    def tell(line):
+        print(f"from_airflow: {line}", file=sys.stderr)
+
+    try:
+        for path in (asked.config, asked.tokens):
+            if path is not None and os.path.lexists(path) and not asked.force:
+                raise Unusable(f"{path}: is there already; --force replaces it, and gives every user a new token")
+        text, tokens = convert(asked, tell, token)
+        write(asked, text, tokens)
+    except Unusable as fault:
+        tell(fault)
+        return 1
+    where = "standard output" if asked.tokens is None else asked.tokens
+    tell(f"{len(tokens)} tokens are told once, on {where}: {asked.config} keeps their SHA-256 alone")
+    return 0
+
+
+if __name__ == "__main__":
+    sys.exit(main(sys.argv[1:]))

@@ -1,0 +1,397 @@
+#!/usr/bin/env python3
+"""Tests of from_airflow.py on samples in Airflow's own formats (examples/airflow/), and on bad ones.
+
+    python3 tools/test_from_airflow.py
+
+The last tests hand what is written to the program; they need it built, in crates/af_server/out/af_server or where the
+variable AFPLANE_PROGRAM says, and are skipped where it is not.
+"""
+import contextlib
+import hashlib
+import io
+import json
+import os
+import pathlib
+import stat
+import subprocess
+import sys
+import tempfile
+import unittest
+
+sys.dont_write_bytecode = True
+import from_airflow  # noqa: E402
+
+TOOL = pathlib.Path(__file__).resolve().with_name("from_airflow.py")
+TOP = TOOL.parents[1]
+SAMPLES = TOP / "examples" / "airflow"
+README = (SAMPLES / "README.md").read_text(encoding="utf-8")
+PROGRAM = pathlib.Path(os.environ.get("AFPLANE_PROGRAM", TOP / "crates/af_server/out/af_server"))
+ADMIN = {"username": "root", "roles": ["Admin"]}
+
+
+def flat(name, resource, action):
+    return {"name": name, "resource": resource, "action": action}
+
+
+def granted(config, name):
+    """The permissions of a role of a configuration, as texts, in their order."""
+    (role,) = (it for it in config["roles"] if it["name"] == name)
+    return [f"{it['resource']['name']}.{it['action']['name']}" for it in role["actions"]]
+
+
+class Case(unittest.TestCase):
+    def setUp(self):
+        kept = tempfile.TemporaryDirectory()
+        self.addCleanup(kept.cleanup)
+        self.folder = pathlib.Path(kept.name)
+        self.config = self.folder / "afplane.json"
+
+    def file(self, name, value):
+        """A file of this text, of these bytes, or of this value as JSON."""
+        path = self.folder / name
+        text = value if isinstance(value, (str, bytes)) else json.dumps(value)
+        path.write_bytes(text if isinstance(text, bytes) else text.encode())
+        return str(path)
+
+    def call(self, *words):
+        """The status, and what standard output and standard error have."""
+        out, err = io.StringIO(), io.StringIO()
+        with contextlib.redirect_stdout(out), contextlib.redirect_stderr(err):
+            try:
+                status = from_airflow.main([str(it) for it in words])
+            except SystemExit as ended:
+                status = ended.code
+        return status, out.getvalue(), err.getvalue()
+
+    def convert(self, *words, **files):
+        """The configuration from these files, the tokens by name, and what is told."""
+        given = [it for name, value in files.items() for it in (f"--{name}", self.file(name, value))]
+        status, out, err = self.call(*given, *words, self.config)
+        self.assertEqual(status, 0, err)
+        tokens = dict(line.split("\t") for line in out.splitlines())
+        return json.loads(self.config.read_text()), tokens, err
+
+    def refused(self, *words, **files):
+        """What is told where nothing is written."""
+        given = [it for name, value in files.items() for it in (f"--{name}", self.file(name, value))]
+        status, out, err = self.call(*given, *words, self.config)
+        self.assertEqual((status, out), (1, ""), err)
+        self.assertEqual([it.name for it in self.folder.iterdir() if it.name.startswith("afplane")], [])
+        return err
+
+
+class Samples(Case):
+    def read(self, *words, **names):
+        return self.convert(*words, **{kind: (SAMPLES / name).read_bytes() for kind, name in names.items()})
+
+    def test_all_three(self):
+        config, tokens, err = self.read(roles="roles.json", users="users.json", dags="dags.json")
+        self.assertEqual([it["name"] for it in config["roles"]], ["Auditor", "Data Engineer", "Newcomer", "Sales Analyst"])
+        self.assertEqual(granted(config, "Auditor"), ["Audit Logs.can_read"])
+        self.assertEqual(granted(config, "Newcomer"), [])
+        self.assertEqual(
+            granted(config, "Sales Analyst"),
+            [
+                *["DAG Runs.can_create", "DAG Runs.can_read", "Task Instances.can_read"],
+                *["DAG:sales.forecast.can_read", "DAG:sales_daily_orders.can_read", "DAG:sales_daily_orders.can_edit"],
+            ],
+        )
+        self.assertIn("DAGs.can_edit", granted(config, "Data Engineer"))
+        users = {it["username"]: [role["name"] for role in it["roles"]] for it in config["users"]}
+        self.assertEqual(
+            users,
+            {
+                "admin": ["Admin"],
+                "audrey": ["Auditor"],
+                "guest": ["Public"],
+                "jane.doe@example.com": ["Data Engineer", "Viewer"],
+                "sam": ["Sales Analyst"],
+            },
+        )
+        paused = {it["dag_id"]: it["is_paused"] for it in config["dags"]}
+        self.assertEqual(
+            paused, {"logistics_stock": True, "sales.forecast": False, "sales_daily_orders": False, "sales_new": True}
+        )
+        self.assertTrue(all(it["tasks"] == [{"task_id": "placeholder"}] for it in config["dags"]))
+        digests = {it["username"]: it["token_sha256"] for it in config["users"]}
+        self.assertEqual(digests, {name: hashlib.sha256(it.encode()).hexdigest() for name, it in tokens.items()})
+        self.assertTrue(all(len(it) >= 43 for it in tokens.values()))
+        for line in (
+            "role 'Data Engineer': no place for DAGs.menu_access, Browse.menu_access, Website.can_read: there are no web pages",
+            "role 'Retired Role' of user 'audrey': left out: no such role is written",
+            "user 'zoë': left out: a name is 1 to 64 characters",
+            "DAG 'übersicht': left out: an id is 1 to 250",
+            "DAG 'sales_new': Airflow does not say whether it is paused; it is paused here",
+            "4 roles, 5 users, 4 DAGs; left out: 3",
+        ):
+            self.assertIn(line, err)
+
+    def test_what_the_page_shows_is_told(self):
+        _, _, err = self.read(roles="roles.json", users="users.json", dags="dags.json")
+        told = [it.strip() for it in README.splitlines() if it.startswith("    from_airflow: ")]
+        self.assertEqual(told[:-2], err.splitlines()[:-2])
+
+    def test_older_roles_are_names(self):
+        config, _, err = self.read(roles="roles-names.json", users="users.json")
+        self.assertEqual([it["actions"] for it in config["roles"]], [[]] * 4)
+        self.assertIn("permissions of role 'Auditor': left out: this export names roles alone", err)
+
+    def test_listed_roles_have_the_default_ones(self):
+        config, _, err = self.read(roles="roles-list.json", users="users.json")
+        self.assertEqual([it["name"] for it in config["roles"]], ["Auditor", "Data Engineer", "Sales Analyst"])
+        self.assertIn("role 'Public': is built in, and lacks here: DAGs.can_read;", err)
+        self.assertIn("role 'Viewer': is built in, and lacks here: Audit Logs.can_read, DAG:sales.forecast.can_edit;", err)
+        self.assertNotIn("grants more", err)
+
+    def test_newer_list_of_dags(self):
+        config, _, _ = self.read(users="users.json", dags="dags-columns.json")
+        paused = {it["dag_id"]: it["is_paused"] for it in config["dags"]}
+        self.assertEqual(
+            paused, {"logistics_stock": True, "sales.forecast": False, "sales_daily_orders": False, "sales_new": True}
+        )
+
+    def test_pretty_or_not(self):
+        rows = json.loads((SAMPLES / "roles.json").read_text())
+        one, _, _ = self.convert(roles=json.dumps(rows), users=[ADMIN])
+        other, _, _ = self.convert("--force", roles=json.dumps(rows, indent=4, sort_keys=True), users=[ADMIN])
+        self.assertEqual(one["roles"], other["roles"])
+
+
+class Formats(Case):
+    def test_a_role_as_the_api_shows_it(self):
+        row = {"name": "R", "actions": [{"action": {"name": "can_read"}, "resource": {"name": "DAG:b"}}]}
+        for roles in ([row], {"roles": [row], "total_entries": 1}):
+            config, _, _ = self.convert("--force", roles=roles, users=[{"username": "u", "roles": [{"name": "Admin"}]}])
+            self.assertEqual(config["roles"], [row])
+
+    def test_reasons(self):
+        rows = [
+            ("DAG:b", "can_create", "a single DAG has can_read, can_edit and can_delete alone"),
+            ("DAG:b", "menu_access", "there are no web pages"),
+            ("DAG:a b", "can_read", "no DAG has this id here"),
+            ("DAG Run:b", "can_read", "there are no permissions on the runs of a single DAG"),
+            ("all_dags", "can_dag_read", "a spelling of Airflow 1, which grants nothing in Airflow 2: grant can_read"),
+            ("DAG:b", "can_dag_edit", "a spelling of Airflow 1, which grants nothing in Airflow 2: grant can_edit"),
+            ("DAGs", "can_list", "there is no such action"),
+            ("dags", "can_read", "there is no such resource"),
+            ("XComs", "can_read", "tasks leave no logs and no values"),
+            ("Passwords", "can_read", "users have no passwords"),
+        ]
+        for resource, action, reason in rows:
+            with self.subTest(resource=resource, action=action):
+                config, _, err = self.convert("--force", roles=[flat("R", resource, action)], users=[ADMIN])
+                self.assertEqual(config["roles"], [{"name": "R", "actions": []}])
+                self.assertIn(f"role 'R': no place for {resource}.{action}: {reason}", err)
+
+    def test_each_permission_with_a_place(self):
+        roles = [flat("R", it, ",".join(from_airflow.ACTIONS)) for it in reversed(from_airflow.RESOURCES)]
+        roles += [flat("R", "DAG:b", "can_delete, can_edit,can_read"), flat("R", "DAG:a", "can_read")]
+        config, _, err = self.convert(roles=roles, users=[ADMIN])
+        wanted = [f"{it}.{action}" for it in from_airflow.RESOURCES for action in from_airflow.ACTIONS]
+        wanted += ["DAG:a.can_read", "DAG:b.can_read", "DAG:b.can_edit", "DAG:b.can_delete"]
+        self.assertEqual(granted(config, "R"), wanted)
+        self.assertNotIn("no place", err)
+
+    def test_a_default_role_that_grants_less_in_airflow(self):
+        rows = [flat("Viewer", it, "can_read") for it in ("DAGs", "DAG Runs")] + [flat("Admin", "DAG:b", "can_edit")]
+        config, _, err = self.convert(roles=rows, users=[ADMIN])
+        self.assertNotIn("roles", config)
+        self.assertIn("role 'Viewer': is built in, and grants more here: Task Instances.can_read;", err)
+        self.assertNotIn("lacks here: DAG:b", err)
+
+    def test_log_lines_before_a_list(self):
+        log = "[2024-01-01T00:00:00.000+0000] {dagbag.py:500} INFO - Filling up the DagBag\nloading\n"
+        config, _, err = self.convert(users=[ADMIN], dags=log + '[{"dag_id": "a", "paused": "False"}]   \n')
+        self.assertEqual([it["dag_id"] for it in config["dags"]], ["a"])
+        self.assertIn("the first 2 lines are no part of the list", err)
+
+    def test_what_paused_may_be(self):
+        rows = [("True", True), ("False", False), (True, True), (False, False), (None, True), ("None", True)]
+        for said, is_paused in rows:
+            with self.subTest(said=said):
+                config, _, _ = self.convert("--force", users=[ADMIN], dags=[{"dag_id": "a", "paused": said}])
+                self.assertIs(config["dags"][0]["is_paused"], is_paused)
+
+    def test_an_administrator_is_made(self):
+        config, tokens, _ = self.convert("--admin", "new", dags=[{"dag_id": "a", "paused": "False"}])
+        self.assertEqual([(it["username"], it["roles"]) for it in config["users"]], [("new", [{"name": "Admin"}])])
+        self.assertEqual([*tokens], ["new"])
+        config, _, _ = self.convert("--force", "--admin", "u", users=[{"username": "u", "roles": ["Viewer"]}])
+        self.assertEqual(config["users"][0]["roles"], [{"name": "Admin"}, {"name": "Viewer"}])
+
+    def test_limits_of_names(self):
+        roles = [flat("r" * 64, "DAGs", "can_read"), flat("r" * 65, "DAGs", "can_read"), flat("", "DAGs", "can_read")]
+        users = [ADMIN, {"username": "u" * 65, "roles": []}, {"username": "u" * 64, "roles": ["r" * 64, "r" * 65]}]
+        dags = [{"dag_id": it, "paused": "True"} for it in ("d" * 250, "d" * 251, "", "a b")]
+        config, _, err = self.convert(roles=roles, users=users, dags=dags)
+        self.assertEqual([it["name"] for it in config["roles"]], ["r" * 64])
+        self.assertEqual([it["username"] for it in config["users"]], ["root", "u" * 64])
+        self.assertEqual(config["users"][1]["roles"], [{"name": "r" * 64}])
+        self.assertEqual([it["dag_id"] for it in config["dags"]], ["d" * 250])
+        self.assertIn("left out: 7", err)
+
+    def test_what_is_told_can_be_printed(self):
+        _, _, err = self.convert(roles=[flat("R\x1b[2J", "X\n\x07", "can_read"), flat("S", "X\n\x07", "can_read")], users=[ADMIN])
+        self.assertTrue(all(it.isprintable() for it in err.splitlines()), err)
+
+
+class Refusals(Case):
+    def test_what_is_no_export(self):
+        rows = [
+            ("roles", b"", "is no JSON"),
+            ("roles", "name  | resource\n======\n", "ask Airflow for JSON"),
+            ("users", "[" * 100_000, "nested too deep"),
+            ("users", b'[{"username": "\xff"}]', "is no UTF-8 at byte 15"),
+            ("roles", {"name": "R"}, "is no list of roles"),
+            ("roles", [5], "row 1 has no text 'name'"),
+            ("roles", [flat("R", "DAGs", "can_read"), {"name": "R", "resource": "DAGs"}], "row 2 has no text 'action'"),
+            ("roles", [{"name": "R", "actions": ["can_read"]}], "row 1 has no text 'name'"),
+            ("roles", [{"name": "R", "actions": 5}], "row 1 has no text 'resource'"),
+            ("users", [{"roles": []}], "row 1 has no text 'username'"),
+            ("users", [{"username": "a", "roles": "Admin"}], "row 1 has no list 'roles'"),
+            ("users", [{"username": "a", "roles": [5]}], "row 1 has no text 'name'"),
+            ("users", [ADMIN, ADMIN], "row 2: the user 'root' is there twice"),
+            ("dags", [{"paused": "True"}], "row 1 has no text 'dag_id'"),
+            ("dags", [{"dag_id": "a", "paused": "maybe"}], "neither paused nor not"),
+            ("dags", [{"dag_id": "a", "paused": 1}], "neither paused nor not"),
+            ("dags", [{"dag_id": "a"}, {"dag_id": "a"}], "row 2: the DAG 'a' is there twice"),
+        ]
+        for kind, value, reason in rows:
+            with self.subTest(kind=kind, reason=reason):
+                self.assertIn(reason, self.refused("--admin", "new", **{kind: value}))
+
+    def test_no_administrator(self):
+        self.assertIn("--admin NAME gives it", self.refused(users=[{"username": "u", "roles": ["Viewer"]}]))
+        self.assertIn("--admin NAME gives it", self.refused(users=[{"username": "ü", "roles": ["Admin"]}]))
+        self.assertIn("--admin NAME gives it", self.refused(dags=[]))
+
+    def test_numbers_of_rows(self):
+        roles = [flat(f"r{n}", "DAGs", "can_read") for n in range(4092)]
+        users = [{"username": f"u{n}", "roles": ["Admin"]} for n in range(65537)]
+        dags = [{"dag_id": f"d{n}", "paused": "True"} for n in range(1025)]
+        self.assertIn("4092 roles are too many: at most 4091", self.refused(roles=roles, users=[ADMIN]))
+        self.assertIn("65537 users are too many", self.refused(users=users))
+        self.assertIn("1025 DAGs are too many", self.refused(users=[ADMIN], dags=dags))
+        config, _, _ = self.convert(roles=roles[1:], users=users[1:], dags=dags[1:])
+        self.assertEqual([len(config[it]) for it in ("roles", "users", "dags")], [4091, 65536, 1024])
+
+    def test_length(self):
+        roles = [flat(f"r{n}", f"DAG:{pair:0250}", "can_read") for n in range(60) for pair in range(1000)]
+        self.assertIn("bytes, and at most 16777216 are read", self.refused(roles=roles, users=[ADMIN]))
+
+    def test_strict(self):
+        self.assertIn("1 left out", self.refused("--strict", users=[ADMIN, {"username": "ü", "roles": []}]))
+        config, _, _ = self.convert("--strict", users=[ADMIN], roles=[flat("R", "Website", "can_read")])
+        self.assertEqual(config["roles"], [{"name": "R", "actions": []}])
+
+    def test_files(self):
+        status, _, err = self.call("--users", self.folder / "nosuch", self.config)
+        self.assertEqual(status, 1)
+        self.assertIn("nosuch: can not be read: No such file", err)
+        self.config.write_text("kept")
+        status, out, err = self.call("--users", self.file("users", [ADMIN]), self.config)
+        self.assertEqual((status, out, self.config.read_text()), (1, "", "kept"))
+        self.assertIn("is there already; --force replaces it", err)
+        status, out, err = self.call("--users", self.file("users", [ADMIN]), self.folder / "nosuch" / "afplane.json")
+        self.assertEqual((status, out), (1, ""))
+        self.assertIn("can not be written", err)
+
+    def test_usage(self):
+        users = self.file("users", [ADMIN])
+        rows = [
+            [],
+            [self.config],
+            ["--users", users],
+            ["--nosuch", self.config],
+            ["--users", "-", "--roles", "-", self.config],
+            ["--users", users, "--admin", "ü", self.config],
+            ["--users", users, "--tokens", self.config, self.config],
+        ]
+        for words in rows:
+            with self.subTest(words=words):
+                status, out, err = self.call(*words)
+                self.assertEqual((status, out), (2, ""))
+                self.assertTrue(err.startswith("usage: from_airflow.py"), err)
+        status, out, err = self.call("--help")
+        self.assertEqual((status, err), (0, ""))
+        self.assertIn("airflow roles export roles.json", out)
+
+
+class Tokens(Case):
+    def test_a_file_for_its_owner_alone(self):
+        tokens = self.folder / "tokens"
+        with contextlib.ExitStack() as kept:
+            kept.callback(os.umask, os.umask(0))
+            _, out, err = self.convert("--tokens", tokens, users=[ADMIN])
+        self.assertEqual(out, {})
+        self.assertEqual(stat.S_IMODE(tokens.stat().st_mode), 0o600)
+        (name, token), = (line.split("\t") for line in tokens.read_text().splitlines())
+        self.assertEqual(name, "root")
+        self.assertNotIn(token, self.config.read_text() + err)
+        status, _, err = self.call("--users", self.file("users", [ADMIN]), "--tokens", tokens, self.folder / "other")
+        self.assertEqual(status, 1)
+        self.assertIn("tokens: is there already", err)
+        os.chmod(tokens, 0o644)
+        self.convert("--force", "--tokens", tokens, users=[ADMIN])
+        self.assertEqual(stat.S_IMODE(tokens.stat().st_mode), 0o600)
+
+    def test_a_closed_output_leaves_no_configuration(self):
+        for ending in (">/dev/full", ">&-"):
+            with self.subTest(ending=ending):
+                words = ["--users", self.file("users", [ADMIN]), str(self.config)]
+                ran = subprocess.run(["sh", "-c", f'"$@" {ending}', "sh", sys.executable, str(TOOL), *words], capture_output=True)
+                self.assertEqual(ran.returncode, 1, ran.stderr)
+                self.assertEqual([*self.folder.glob("afplane*")], [])
+                self.assertNotIn(b"Traceback", ran.stderr)
+
+    def test_standard_input(self):
+        words = [sys.executable, str(TOOL), "--users", "-", str(self.config)]
+        ran = subprocess.run(words, input=json.dumps([ADMIN]).encode(), capture_output=True)
+        self.assertEqual(ran.returncode, 0, ran.stderr)
+        self.assertEqual(json.loads(self.config.read_text())["users"][0]["username"], "root")
+
+
+@unittest.skipUnless(PROGRAM.exists(), f"{PROGRAM} is not built")
+class Program(Case):
+    """What is written is a configuration that the program takes, and answers under."""
+
+    def ask(self, token, target):
+        """The status line and the body that the program answers."""
+        request = f"GET /api/v1{target} HTTP/1.1\r\nHost: h\r\nAuthorization: Bearer {token}\r\n\r\n"
+        words = [str(PROGRAM), "once", str(self.config), "2024-01-01T00:00:00Z"]
+        ran = subprocess.run(words, input=request.encode(), capture_output=True)
+        self.assertEqual((ran.returncode, ran.stderr), (0, b""))
+        head, body = ran.stdout.decode().split("\r\n\r\n", 1)
+        self.answer = ran.stdout.decode().replace("\r\n", "\n")
+        return head.split("\r\n")[0], json.loads(body)
+
+    def test_samples(self):
+        files = {it: (SAMPLES / f"{it}.json").read_bytes() for it in ("roles", "users", "dags")}
+        _, tokens, _ = self.convert(**files)
+        for name, wanted in (
+            ("admin", ["logistics_stock", "sales.forecast", "sales_daily_orders", "sales_new"]),
+            ("jane.doe@example.com", ["logistics_stock", "sales.forecast", "sales_daily_orders", "sales_new"]),
+            ("sam", ["sales.forecast", "sales_daily_orders"]),
+        ):
+            status, body = self.ask(tokens[name], "/dags")
+            self.assertEqual((status, [it["dag_id"] for it in body["dags"]]), ("HTTP/1.1 200 OK", wanted))
+        self.assertIn(self.answer, README.replace("\n    ", "\n"))
+        for name in ("audrey", "guest"):
+            status, body = self.ask(tokens[name], "/dags")
+            self.assertEqual((status, body["detail"]), ("HTTP/1.1 403 Forbidden", "missing permission DAGs.can_read"))
+        self.assertEqual(self.ask("nobody", "/dags")[0], "HTTP/1.1 401 Unauthorized")
+
+    def test_at_each_limit(self):
+        blank, tilde = " " * 64, "~" * 64
+        roles = [flat(f"r{n}", "DAG:" + "d" * 250, "can_delete") for n in range(4089)]
+        roles += [flat(it, "DAGs", "can_read") for it in (blank, tilde)]
+        users = [{"username": f"u{n}", "roles": ["Admin"]} for n in range(65534)]
+        users += [{"username": it, "roles": [it, "Admin", it]} for it in (blank, tilde)]
+        dags = [{"dag_id": f"d{n}", "paused": None} for n in range(1021)]
+        dags += [{"dag_id": it, "paused": None} for it in ("-" * 250, "..", "_")]
+        _, tokens, _ = self.convert(roles=roles, users=users, dags=dags)
+        self.assertEqual(self.ask(tokens[tilde], "/dags")[1]["total_entries"], 1024)
+
+
+if __name__ == "__main__":
+    unittest.main()
