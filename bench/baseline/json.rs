@@ -1,5 +1,10 @@
 //! A strict JSON reader (RFC 8259): texts without escapes are borrowed. The last of a repeated member counts.
+//! Compiled with `--cfg copied` each text is copied instead, as a tree that owns its texts does.
 use std::borrow::Cow;
+
+fn plain(text: &str) -> Cow<'_, str> {
+    if cfg!(copied) { Cow::Owned(text.to_string()) } else { Cow::Borrowed(text) }
+}
 
 pub enum Value<'a> {
     Null,
@@ -164,7 +169,7 @@ impl<'a> Reader<'a> {
                     let rest = &self.text[start..self.at];
                     self.at += 1;
                     return Some(match built {
-                        None => Cow::Borrowed(rest),
+                        None => plain(rest),
                         Some(text) => Cow::Owned(text + rest),
                     });
                 }
