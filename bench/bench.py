@@ -41,6 +41,8 @@ BASELINE = os.path.join(HERE, "out", "baseline")
 NOW = "2024-01-01T00:00:00Z"
 MOST = 999  # a connection closes with its 1,000th request
 SECONDS = 120
+# Under valgrind the C library is not to fill and copy by `rep`, of which callgrind counts each byte.
+PLAIN = {"GLIBC_TUNABLES": "glibc.cpu.x86_rep_stosb_threshold=1000000000:glibc.cpu.x86_rep_movsb_threshold=1000000000"}
 RULES = ["all_success", "all_done", "none_failed", "one_success", "none_failed_min_one_success"]
 
 
@@ -301,7 +303,7 @@ def timed(program, words, load):
 def instructions(program, words, data):
     """How many instructions a run takes, from its first to its last."""
     call = ["valgrind", "--tool=callgrind", "--callgrind-out-file=/dev/null", program, *words]
-    it = subprocess.run(call, input=data, stdout=subprocess.DEVNULL, stderr=subprocess.PIPE)
+    it = subprocess.run(call, input=data, stdout=subprocess.DEVNULL, stderr=subprocess.PIPE, env={**os.environ, **PLAIN})
     found = re.search(rb"Collected : ([0-9]+)", it.stderr)
     if it.returncode or found is None:
         fail(f"valgrind can't run {program}: {it.stderr[-600:].decode(errors='replace')}")
