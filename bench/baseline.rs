@@ -2,204 +2,107 @@
 //!
 //!   baseline once CONFIG NOW < requests > answers
 //!
-//! It reads the head of each request, finds its fields, routes the path, hashes the token with SHA-256, looks the
-//! user up, tests the user's permissions, filters the DAGs and writes JSON. Buffers are kept from one request to the
-//! next, and the answers to requests that came together share a write. It refuses what afplane refuses in a head,
-//! but trusts its configuration.
-use std::collections::{BTreeMap, BTreeSet, HashMap, HashSet};
+//! It reads and judges the configuration, reads the head and the body of each request, finds its fields, routes the path
+//! by its segments, hashes the token with SHA-256, looks the user up, tests the user's permissions, does the operation and
+//! writes JSON. Buffers are kept from one request to the next, and the answers to requests that came together share a
+//! write. It answers what afplane answers, byte for byte, but that it reads instants of RFC 3339's form alone, and that
+//! want of memory ends it.
 use std::fs::File;
 use std::io::{self, Read, Write};
 use std::os::fd::AsFd;
+use std::process::exit;
 
+#[path = "baseline/answer.rs"]
+mod answer;
+#[path = "baseline/config.rs"]
+mod config;
+#[path = "baseline/graph.rs"]
+mod graph;
 #[path = "baseline/head.rs"]
 mod head;
+#[path = "baseline/instant.rs"]
+mod instant;
 #[path = "baseline/json.rs"]
 mod json;
+#[path = "baseline/names.rs"]
+mod names;
+#[path = "baseline/operations.rs"]
+mod operations;
+#[path = "baseline/plane.rs"]
+mod plane;
+#[path = "baseline/policy.rs"]
+mod policy;
+#[path = "baseline/routes.rs"]
+mod routes;
+#[path = "baseline/rows.rs"]
+mod rows;
 #[path = "baseline/sha256.rs"]
 mod sha256;
 
-use head::{head_end, parse_head, Head};
-use json::Value;
+use answer::{fault, put_fault, put_head, refuse};
+use head::{head_end, parse_head, Head, Refused, MOST_BODY, MOST_HEAD};
+use plane::Plane;
+use policy::Policy;
+use routes::{route, Op, Unrouted};
 
-const MOST_HEAD: usize = 16_384;
 const MOST_REQUESTS: usize = 1_000;
-const PAGE: usize = 100;
 /// As many bytes of answers are written at once, if there are so many.
 const SHARED: usize = 65_536;
 
-/// What a role's permissions say of reading DAGs.
-#[derive(Default)]
-struct Role {
-    reads_all: bool,
-    reads: BTreeSet<String>,
+/// How a connection ends before its last request.
+enum End {
+    /// The input ended between two requests.
+    Closed,
+    Refused(Refused),
 }
-
-struct Dag {
-    is_paused: bool,
-    max_active_runs: u64,
-}
-
-struct Plane {
-    roles: Vec<Role>,
-    users: HashMap<[u8; 32], Vec<usize>>,
-    dags: BTreeMap<String, Dag>,
-}
-
-fn digest_of(hex: &str) -> Option<[u8; 32]> {
-    let mut digest = [0; 32];
-    for (byte, pair) in digest.iter_mut().zip(hex.as_bytes().chunks_exact(2)) {
-        *byte = u8::from_str_radix(std::str::from_utf8(pair).ok()?, 16).ok()?;
-    }
-    (hex.len() == 64).then_some(digest)
-}
-
-impl Plane {
-    fn read(config: &str) -> Option<Plane> {
-        let config = json::parse(config)?;
-        let mut names = HashMap::new();
-        let mut roles = Vec::new();
-        for (name, reads_all) in [("Public", false), ("Viewer", true), ("User", true), ("Op", true), ("Admin", true)] {
-            names.insert(name, roles.len());
-            roles.push(Role { reads_all, ..Role::default() });
-        }
-        for row in config.list("roles") {
-            let mut role = Role::default();
-            for pair in row.list("actions") {
-                let (action, resource) = (pair.get("action")?.text("name")?, pair.get("resource")?.text("name")?);
-                match (action, resource.strip_prefix("DAG:")) {
-                    ("can_read", Some(dag)) => drop(role.reads.insert(dag.to_string())),
-                    ("can_read", None) => role.reads_all |= resource == "DAGs",
-                    _ => {}
-                }
-            }
-            names.insert(row.text("name")?, roles.len());
-            roles.push(role);
-        }
-        let (mut users, mut seen) = (HashMap::new(), HashSet::new());
-        for row in config.list("users") {
-            let of = row.list("roles").iter().map(|it| names.get(it.text("name")?).copied());
-            let of = of.collect::<Option<Vec<usize>>>()?;
-            if !seen.insert(row.text("username")?) || users.insert(digest_of(row.text("token_sha256")?)?, of).is_some() {
-                return None;
-            }
-        }
-        let mut dags = BTreeMap::new();
-        for row in config.list("dags") {
-            let is_paused = matches!(row.get("is_paused"), Some(Value::Bool(true)));
-            let max_active_runs = match row.get("max_active_runs") {
-                Some(Value::Number(it)) => *it as u64,
-                _ => 16,
-            };
-            dags.insert(row.text("dag_id")?.to_string(), Dag { is_paused, max_active_runs });
-        }
-        Some(Plane { roles, users, dags })
-    }
-
-    /// Writes the list of DAGs that the token's user reads.
-    fn list_dags(&self, token: Option<&[u8]>, body: &mut Vec<u8>) -> Result<(), Fault> {
-        let user = token.and_then(|it| self.users.get(&sha256::digest(it)));
-        let roles = || user.into_iter().flatten().map(|&it| &self.roles[it]);
-        if user.is_none() {
-            return Err(Fault(401, "Unauthorized", "authentication required", "WWW-Authenticate: Bearer\r\n"));
-        }
-        let reads_all = roles().any(|it| it.reads_all);
-        body.extend_from_slice(b"{\"dags\":[");
-        let mut total = 0;
-        for (id, dag) in &self.dags {
-            if !reads_all && !roles().any(|it| it.reads.contains(id)) {
-                continue;
-            }
-            total += 1;
-            if total <= PAGE {
-                put_dag(id, dag, total == 1, body);
-            }
-        }
-        if !reads_all && total == 0 {
-            return Err(Fault(403, "Forbidden", "missing permission DAGs.can_read", ""));
-        }
-        body.extend_from_slice(b"],\"total_entries\":");
-        put_number(total as u64, body);
-        body.push(b'}');
-        Ok(())
-    }
-}
-
-/// A DAG's id needs no escapes: it has letters, digits, `_`, `-` and `.` alone.
-fn put_dag(id: &str, dag: &Dag, is_first: bool, body: &mut Vec<u8>) {
-    body.extend_from_slice(if is_first { b"{\"dag_id\":\"" } else { b",{\"dag_id\":\"" });
-    body.extend_from_slice(id.as_bytes());
-    body.extend_from_slice(if dag.is_paused { b"\",\"is_paused\":true" } else { b"\",\"is_paused\":false" });
-    body.extend_from_slice(b",\"max_active_runs\":");
-    put_number(dag.max_active_runs, body);
-    body.extend_from_slice(b",\"next_dagrun\":null,\"schedule_interval\":null}");
-}
-
-fn put_number(mut number: u64, out: &mut Vec<u8>) {
-    let mut digits = [0u8; 20];
-    let mut at = digits.len();
-    loop {
-        at -= 1;
-        digits[at] = b'0' + (number % 10) as u8;
-        number /= 10;
-        if number == 0 {
-            break;
-        }
-    }
-    out.extend_from_slice(&digits[at..]);
-}
-
-/// Status, title, detail, and a further field.
-struct Fault(u16, &'static str, &'static str, &'static str);
-
-const BAD_HEAD: Fault = Fault(400, "Bad Request", "bad request head", "");
-
 
 struct Connection {
+    policy: Policy,
     plane: Plane,
+    now: u64,
     reader: File,
     writer: File,
     input: Vec<u8>,
+    /// What is read and not yet answered is `input[start..end]`.
+    start: usize,
+    end: usize,
     out: Vec<u8>,
-    body: Vec<u8>,
+    /// The body of a reply, before its length is known.
+    reply: Vec<u8>,
 }
 
 impl Connection {
-    fn answer(&mut self, head: &Head, closes: bool) {
-        self.body.clear();
+    fn answer(&mut self, head: &Head<'_>, body: &[u8], closes: bool) {
         let path = head.target.split(|&it| it == b'?').next().unwrap_or(b"");
-        let (is_list, is_get) = (path == b"/api/v1/dags", head.method == b"GET");
-        let decided = if !is_list && path != b"/api/v1/version" {
-            Err(Fault(404, "Not Found", "no such path", ""))
-        } else if !is_get {
-            Err(Fault(405, "Method Not Allowed", "method not allowed", "Allow: GET\r\n"))
-        } else if is_list {
-            self.plane.list_dags(head.token, &mut self.body)
-        } else {
-            self.body.extend_from_slice(b"{\"git_version\":null,\"version\":\"afplane 1\"}");
-            Ok(())
-        };
-        let versions: &[u8] = if is_list && is_get { b"X-Policy-Version: 0\r\nX-Plane-Seq: 0\r\n" } else { b"" };
-        match decided {
-            Ok(()) => {
-                self.out.extend_from_slice(b"HTTP/1.1 200 OK\r\nContent-Type: application/json\r\nContent-Length: ");
-                put_number(self.body.len() as u64, &mut self.out);
-                self.out.extend_from_slice(b"\r\n");
-                self.out.extend_from_slice(versions);
-                self.out.extend_from_slice(if closes { b"Connection: close\r\n\r\n" } else { b"\r\n" });
-                self.out.extend_from_slice(&self.body);
+        self.reply.clear();
+        let op = match route(head.method, path) {
+            Ok(Op::Version) => {
+                self.reply.extend_from_slice(b"{\"git_version\":null,\"version\":\"afplane 1\"}");
+                put_head(&mut self.out, 200, self.reply.len(), None, None, closes);
+                return self.out.extend_from_slice(&self.reply);
             }
-            Err(fault) => self.refuse(fault, versions, closes, head.method == b"HEAD"),
-        }
-    }
-
-    fn refuse(&mut self, fault: Fault, versions: &[u8], closes: bool, is_bare: bool) {
-        let Fault(status, title, detail, field) = fault;
-        let body = format!("{{\"detail\":\"{detail}\",\"status\":{status},\"title\":\"{title}\",\"type\":\"about:blank\"}}");
-        let length = body.len();
-        self.out.extend_from_slice(format!("HTTP/1.1 {status} {title}\r\nContent-Type: application/problem+json\r\nContent-Length: {length}\r\n{field}").as_bytes());
-        self.out.extend_from_slice(versions);
-        self.out.extend_from_slice(if closes { b"Connection: close\r\n\r\n" } else { b"\r\n" });
-        self.out.extend_from_slice(if is_bare { b"" } else { body.as_bytes() });
+            Ok(op) => op,
+            Err(why) => {
+                let (fault, allow) = match why {
+                    Unrouted::NoPath => (fault(404, "no such path"), None),
+                    Unrouted::BadMethod(allow) => (fault(405, "method not allowed"), Some(allow)),
+                };
+                return refuse(&mut self.out, &fault, allow, closes, head.method == b"HEAD");
+            }
+        };
+        let decided = match head.token.and_then(|it| self.policy.bearer(it)) {
+            Some(bearer) => operations::decide(&mut self.plane, &bearer, &op, body, self.now, &mut self.reply),
+            None => Err(fault(401, "authentication required")),
+        };
+        let status = match decided {
+            Ok(()) => 200,
+            Err(fault) => {
+                put_fault(&mut self.reply, &fault);
+                fault.status
+            }
+        };
+        put_head(&mut self.out, status, self.reply.len(), None, Some(self.plane.entries), closes);
+        self.out.extend_from_slice(&self.reply);
     }
 
     fn flush(&mut self) -> io::Result<()> {
@@ -208,62 +111,85 @@ impl Connection {
         Ok(())
     }
 
-    /// The next whole head as a range of `input`, from `start` on; else whether the input ended between requests.
-    fn gather(&mut self, mut start: usize, end: &mut usize) -> io::Result<Result<(usize, usize), bool>> {
+    /// Reads on, once what was answered is written. False at the end of the input.
+    fn read_more(&mut self) -> io::Result<bool> {
+        self.flush()?;
+        self.input.copy_within(self.start..self.end, 0);
+        (self.start, self.end) = (0, self.end - self.start);
+        let read = self.reader.read(&mut self.input[self.end..])?;
+        self.end += read;
+        Ok(read > 0)
+    }
+
+    /// Gathers a head: its length, and how many lines it has.
+    fn gather_head(&mut self) -> io::Result<Result<(usize, usize), End>> {
         loop {
-            while let [b'\n', ..] | [b'\r', b'\n', ..] = self.input[start..*end] {
-                start += if self.input[start] == b'\n' { 1 } else { 2 };
+            while let [b'\n', ..] | [b'\r', b'\n', ..] = self.input[self.start..self.end] {
+                self.start += if self.input[self.start] == b'\n' { 1 } else { 2 };
             }
-            let held = &self.input[start..(*end).min(start + MOST_HEAD + 1)];
-            if let Some(length) = head_end(held) {
-                return Ok(Ok((start, start + length)));
+            let held = &self.input[self.start..self.end.min(self.start + MOST_HEAD + 1)];
+            if let Some(found) = head_end(held) {
+                return Ok(Ok(found));
             }
-            let is_large = held.len() > MOST_HEAD;
-            if is_large {
-                self.refuse(Fault(431, "Request Header Fields Too Large", "request head too large", ""), b"", true, false);
-                return Ok(Err(false));
+            if held.len() > MOST_HEAD {
+                return Ok(Err(End::Refused((fault(431, "request head too large"), false))));
             }
-            self.flush()?;
-            self.input.copy_within(start..*end, 0);
-            (start, *end) = (0, *end - start);
-            let read = self.reader.read(&mut self.input[*end..])?;
-            if read == 0 {
-                if *end > 0 {
-                    self.refuse(Fault(400, "Bad Request", "incomplete request", ""), b"", true, false);
-                }
-                return Ok(Err(*end == 0));
+            if !self.read_more()? {
+                let is_between = self.start == self.end;
+                let incomplete = || End::Refused((fault(400, "incomplete request"), false));
+                return Ok(Err(if is_between { End::Closed } else { incomplete() }));
             }
-            *end += read;
         }
+    }
+
+    /// Answers the next request. Whether the connection goes on, or how it ends.
+    fn turn(&mut self, is_last: bool) -> io::Result<Result<bool, End>> {
+        let (size, lines) = match self.gather_head()? {
+            Ok(it) => it,
+            Err(end) => return Ok(Err(end)),
+        };
+        let mut bytes = std::mem::take(&mut self.input);
+        let mut head = parse_head(&bytes[self.start..self.start + size], lines);
+        if let Ok(Head { length, method, .. }) = head {
+            if self.end - self.start < size + length {
+                // The head is read again once its body is there.
+                let is_bare = method == b"HEAD";
+                self.input = bytes;
+                while self.end - self.start < size + length {
+                    if !self.read_more()? {
+                        return Ok(Err(End::Refused((fault(400, "incomplete request"), is_bare))));
+                    }
+                }
+                bytes = std::mem::take(&mut self.input);
+                head = parse_head(&bytes[self.start..self.start + size], lines);
+            }
+        }
+        let done = match head {
+            Ok(head) => {
+                let (body, closes) = (self.start + size, head.closes || is_last);
+                let next = body + head.length;
+                self.answer(&head, &bytes[body..next], closes);
+                self.start = next;
+                Ok(!closes)
+            }
+            Err(refused) => Err(End::Refused(refused)),
+        };
+        self.input = bytes;
+        Ok(done)
     }
 
     /// Serves the connection; whether it ended without a refusal.
     fn serve(mut self) -> io::Result<bool> {
-        let (mut start, mut end, mut is_well) = (0, 0, true);
-        for turn in 1..=MOST_REQUESTS {
-            let (from, to) = match self.gather(start, &mut end)? {
-                Ok(it) => it,
-                Err(is_closed) => {
-                    is_well = is_closed;
+        let mut is_well = true;
+        for count in 1..=MOST_REQUESTS {
+            match self.turn(count == MOST_REQUESTS)? {
+                Ok(true) => {}
+                Ok(false) | Err(End::Closed) => break,
+                Err(End::Refused((fault, is_bare))) => {
+                    refuse(&mut self.out, &fault, None, true, is_bare);
+                    is_well = false;
                     break;
                 }
-            };
-            let bytes = std::mem::take(&mut self.input);
-            let closes = match parse_head(&bytes[from..to]) {
-                Ok(head) => {
-                    let closes = head.closes || turn == MOST_REQUESTS;
-                    self.answer(&head, closes);
-                    closes
-                }
-                Err(is_bare) => {
-                    self.refuse(BAD_HEAD, b"", true, is_bare);
-                    is_well = false;
-                    true
-                }
-            };
-            (self.input, start) = (bytes, to);
-            if closes {
-                break;
             }
             if self.out.len() >= SHARED {
                 self.flush()?;
@@ -274,20 +200,40 @@ impl Connection {
     }
 }
 
+fn read_file(path: &str) -> Result<Vec<u8>, &'static str> {
+    let bytes = std::fs::read(path).map_err(|_| "unreadable")?;
+    if bytes.len() > config::MOST_BYTES { Err("unreadable") } else { Ok(bytes) }
+}
+
 fn main() -> io::Result<()> {
     let words: Vec<String> = std::env::args().collect();
-    let [_, once, config, _] = &words[..] else {
+    let (path, now) = match &words[..] {
+        [_, once, path, now] if once == "once" => (path, instant::read(now)),
+        _ => (&words[0], None),
+    };
+    let Some(now) = now else {
         eprintln!("usage: baseline once CONFIG NOW");
-        std::process::exit(2)
+        exit(2)
     };
-    let config = std::fs::read_to_string(config)?;
-    let Some(plane) = Plane::read(&config).filter(|_| once == "once") else {
-        eprintln!("baseline: the configuration is refused");
-        std::process::exit(3)
+    let bytes = read_file(path);
+    let read = bytes.as_deref().map_err(|&it| it).and_then(config::read);
+    let (policy, plane) = read.unwrap_or_else(|reason| {
+        eprintln!("afplane: configuration refused: {reason}");
+        exit(3)
+    });
+    drop(bytes);
+    let connection = Connection {
+        policy,
+        plane,
+        now,
+        reader: File::from(io::stdin().as_fd().try_clone_to_owned()?),
+        writer: File::from(io::stdout().as_fd().try_clone_to_owned()?),
+        input: vec![0; 2 * (MOST_HEAD + MOST_BODY)],
+        start: 0,
+        end: 0,
+        out: Vec::with_capacity(2 * SHARED),
+        reply: Vec::with_capacity(SHARED),
     };
-    let reader = File::from(io::stdin().as_fd().try_clone_to_owned()?);
-    let writer = File::from(io::stdout().as_fd().try_clone_to_owned()?);
-    let input = vec![0; 2 * SHARED];
-    let connection = Connection { plane, reader, writer, input, out: Vec::with_capacity(2 * SHARED), body: Vec::new() };
-    std::process::exit(if connection.serve()? { 0 } else { 1 })
+    let is_well = connection.serve()?;
+    exit(if is_well { 0 } else { 1 })
 }

@@ -1,0 +1,73 @@
+//! Answers: status line, fields, and the body of a fault.
+use std::borrow::Cow;
+
+use crate::rows::{put, put_number};
+
+pub struct Fault {
+    pub status: u16,
+    pub detail: Cow<'static, str>,
+}
+
+/// A fault, whose detail needs no escapes.
+pub fn fault(status: u16, detail: impl Into<Cow<'static, str>>) -> Fault {
+    Fault { status, detail: detail.into() }
+}
+
+fn title(status: u16) -> &'static str {
+    match status {
+        200 => "OK",
+        400 => "Bad Request",
+        401 => "Unauthorized",
+        403 => "Forbidden",
+        404 => "Not Found",
+        405 => "Method Not Allowed",
+        409 => "Conflict",
+        413 => "Content Too Large",
+        431 => "Request Header Fields Too Large",
+        501 => "Not Implemented",
+        _ => "Insufficient Storage",
+    }
+}
+
+pub fn put_fault(out: &mut Vec<u8>, fault: &Fault) {
+    put(out, "{\"detail\":\"");
+    put(out, &fault.detail);
+    put(out, "\",\"status\":");
+    put_number(out, fault.status.into());
+    put(out, ",\"title\":\"");
+    put(out, title(fault.status));
+    put(out, "\",\"type\":\"about:blank\"}");
+}
+
+/// Writes the head of an answer. `entries` is their number, where the answer was decided under a policy.
+pub fn put_head(out: &mut Vec<u8>, status: u16, length: usize, allow: Option<&str>, entries: Option<u64>, closes: bool) {
+    put(out, "HTTP/1.1 ");
+    put_number(out, status.into());
+    put(out, " ");
+    put(out, title(status));
+    put(out, if status == 200 { "\r\nContent-Type: application/json" } else { "\r\nContent-Type: application/problem+json" });
+    put(out, "\r\nContent-Length: ");
+    put_number(out, length as u64);
+    if let Some(allow) = allow {
+        put(out, "\r\nAllow: ");
+        put(out, allow);
+    }
+    if status == 401 {
+        put(out, "\r\nWWW-Authenticate: Bearer");
+    }
+    if let Some(entries) = entries {
+        put(out, "\r\nX-Policy-Version: 0\r\nX-Plane-Seq: ");
+        put_number(out, entries);
+    }
+    put(out, if closes { "\r\nConnection: close\r\n\r\n" } else { "\r\n\r\n" });
+}
+
+/// Writes a refusal that no policy decided. Without its body, where a HEAD is answered.
+pub fn refuse(out: &mut Vec<u8>, fault: &Fault, allow: Option<&str>, closes: bool, is_bare: bool) {
+    let mut body = Vec::with_capacity(128);
+    put_fault(&mut body, fault);
+    put_head(out, fault.status, body.len(), allow, None, closes);
+    if !is_bare {
+        out.extend_from_slice(&body);
+    }
+}
