@@ -4,9 +4,10 @@
   python3 bench/differential.py                       2,000 cases of seed 1, after the examples and the limits
   python3 bench/differential.py --cases 20000 --seed 7
   python3 bench/differential.py --program 'PATH/PROGRAM'
+  python3 bench/differential.py --has landed,runs     a program that also has the operations on runs
 
 A case is one run of the program: words, a configuration and an input of one or more requests, as they should be
-or hostile. Exit status, standard output and standard error must be the oracle's. The first difference is shown,
+or hostile, few or hundreds that build on one another. Exit status, standard output and standard error must be the oracle's. The first difference is shown,
 and its configuration and input are left in bench/out/ with the command that shows it again. The last line is
 `N passed, N failed`, and the status 0 only where nothing failed.
 """
@@ -20,13 +21,17 @@ import tempfile
 
 import config_cases
 import oracle
+import policy_cases
 import request_cases
+import state_cases
+from oracle_table import GROUPS, having
 
 ROOT = os.path.dirname(os.path.dirname(os.path.realpath(__file__)))
 PROGRAM = os.path.join(ROOT, "crates", "af_server", "out", "af_server")
 OUT = os.path.join(ROOT, "bench", "out")
 NOW = "2024-01-01T00:00:00Z"
 SECONDS = 30
+WANTED = {"morning": "runs"}  # examples that want more operations than the first ones
 MOMENTS = [
     *["2024-01-01T00:00:00.000001+00:00", "2024-01-01 00:00:00z", "20240101T000000Z", "2024-01-01T00Z", "2024-02-29T00:00Z", "2023-02-29T00:00Z"],
     *["1970-01-01T00:00:00Z", "1969-12-31T23:59:59Z", "1969-12-31T23:59:59.9999999Z", "1970-01-01T01:00:00+01:00", "1970-01-01T00:00:00+01:00"],
@@ -51,12 +56,13 @@ def first_difference(wanted, got):
 
 
 class Comparison:
-    def __init__(self, program):
-        self.program, self.passed, self.failed = program, 0, 0
+    def __init__(self, program, has):
+        self.program, self.has, self.passed, self.failed, self.answers = program, has, 0, 0, 0
 
     def case(self, name, words, data):
         """Runs one case; `words` name the configuration's file."""
-        wanted, got = oracle.run(words, data), ran(self.program, words, data)
+        wanted, got = oracle.run(words, data, self.has), ran(self.program, words, data)
+        self.answers += wanted[1].count(b"HTTP/1.1 ")
         if wanted == got:
             self.passed += 1
             return
@@ -85,16 +91,18 @@ class Comparison:
 
 
 def check_examples(it):
-    """The examples, against the files that stand beside them."""
+    """The examples, against the files that stand beside them; those alone whose operations the program has."""
     folder = os.path.join(ROOT, "examples")
     for name in sorted(os.listdir(os.path.join(folder, "expected"))):
         stem = name.removesuffix(".out")
+        if not GROUPS[WANTED.get(stem, "landed")] <= it.has:
+            continue
         with open(os.path.join(folder, stem + ".http"), "rb") as file:
             data = file.read()
         with open(os.path.join(folder, "expected", name), "rb") as file:
             expected = file.read()
         words = ["once", os.path.join(folder, "base.json" if stem in ("viewer", "pause") else "team.json"), NOW]
-        if oracle.run(words, data)[1] != expected:
+        if oracle.run(words, data, it.has)[1] != expected:
             sys.exit(f"examples/expected/{name} is not what the oracle writes")
         it.case(f"example {stem}", words, data)
 
@@ -116,13 +124,14 @@ def main():
     options.add_argument("--program", default=None, metavar="COMMAND", help="in place of the built program")
     options.add_argument("--cases", type=int, default=2000, help="random cases (0 to 10,000,000)")
     options.add_argument("--seed", type=int, default=1)
+    options.add_argument("--has", type=having, default=having("landed"), metavar="NAMES", help=f"what the program has: {', '.join(GROUPS)}, or single names")
     args = options.parse_args()
     program = shlex.split(args.program) if args.program else [PROGRAM]
     if not args.program and not os.path.exists(PROGRAM):
         sys.exit("differential.py: the program isn't built: run ./afplane once, or name one by --program")
     if not 0 <= args.cases <= 10_000_000:
         sys.exit("differential.py: --cases is 0 to 10,000,000")
-    rng, it = random.Random(args.seed), Comparison(program)
+    rng, it = random.Random(args.seed), Comparison(program, args.has)
     with tempfile.TemporaryDirectory(prefix="afplane-cases-") as folder:
         config = os.path.join(folder, "config.json")
 
@@ -136,8 +145,12 @@ def main():
         words = ["once", os.path.join(ROOT, "examples", "base.json"), NOW]
         for n, data in enumerate(request_cases.fixed_inputs(b"test")):
             it.case(f"limit of requests {n}", words, data)
+        for n, data in enumerate(state_cases.fixed()):
+            it.case(f"each operation {n}", words, data)
         for n, data in enumerate(config_cases.fixed_configs()):
             it.case(f"limit of configurations {n}", write(data), request_cases.list_request(b"test"))
+        for n, (data, requests) in enumerate(policy_cases.fixed_full()):
+            it.case(f"full lists {n}", write(data), requests)
         before = it.passed + it.failed
         print(f"{before} fixed cases, {it.failed} failed", file=sys.stderr)
         for n in range(args.cases):
@@ -146,9 +159,16 @@ def main():
                 good = config_cases.written(rng, made)
             if n % 4 == 3:
                 data = request_cases.list_request(rng.choice(config_cases.TOKENS))
-                it.case(f"seed {args.seed}, configuration {n}", write(config_cases.faulty(rng)), data)
-            else:
+                spoil = lambda made: policy_cases.add_fault(rng, made)
+                it.case(f"seed {args.seed}, configuration {n}", write(config_cases.faulty(rng, spoil)), data)
+            elif n % 4 == 0:
                 it.case(f"seed {args.seed}, connection {n}", write(good), request_cases.connection(rng, tokens))
+            else:
+                state, users = state_cases.config(rng, args.has)
+                data = state_cases.Asker(rng, state, users, args.has).connection()
+                words = write(config_cases.written(rng, state))
+                it.case(f"seed {args.seed}, operations {n}", [*words[:2], rng.choice(state_cases.NOWS)], data)
+    print(f"{it.answers} answers", file=sys.stderr)
     print(f"{it.passed} passed, {it.failed} failed")
     sys.exit(1 if it.failed else 0)
 
