@@ -8,10 +8,11 @@
 
 A case is one run of the program: words, a configuration and an input of one or more requests, as they should be
 or hostile, few or hundreds that build on one another. Exit status, standard output and standard error must be the oracle's. The first difference is shown,
-and its configuration and input are left in bench/out/ with the command that shows it again. The last line is
+with as few of its requests as it needs, and its configuration and input are left in bench/out/ with the command that shows it again. The last line is
 `N passed, N failed`, and the status 0 only where nothing failed.
 """
 import argparse
+import json
 import os
 import random
 import shlex
@@ -24,6 +25,7 @@ import oracle
 import policy_cases
 import request_cases
 import state_cases
+import worked_cases
 from oracle_table import GROUPS, having
 
 ROOT = os.path.dirname(os.path.dirname(os.path.realpath(__file__)))
@@ -31,6 +33,7 @@ PROGRAM = os.path.join(ROOT, "crates", "af_server", "out", "af_server")
 OUT = os.path.join(ROOT, "bench", "out")
 NOW = "2024-01-01T00:00:00Z"
 SECONDS = 30
+MOST_TRIES = 300
 WANTED = {"morning": "runs"}  # examples that want more operations than the first ones
 MOMENTS = [
     *["2024-01-01T00:00:00.000001+00:00", "2024-01-01 00:00:00z", "20240101T000000Z", "2024-01-01T00Z", "2024-02-29T00:00Z", "2023-02-29T00:00Z"],
@@ -55,6 +58,20 @@ def first_difference(wanted, got):
     return f"byte {at}: wanted .. {wanted[max(0, at - 120):at + 200]!r}\n{' ' * len(f'byte {at}:')} got    .. {got[max(0, at - 120):at + 200]!r}"
 
 
+def pieces_of(data):
+    """The requests of an input, one by one, and last what is none."""
+    pieces, at = [], 0
+    try:
+        while at < len(data):
+            end = oracle.head_end(data, at)
+            end += oracle.Request(data[at:end]).length
+            pieces.append(data[at:end])
+            at = end
+    except oracle.Turned:
+        pieces.append(data[at:])
+    return pieces
+
+
 class Comparison:
     def __init__(self, program, has):
         self.program, self.has, self.passed, self.failed, self.answers = program, has, 0, 0, 0
@@ -69,6 +86,9 @@ class Comparison:
         self.failed += 1
         if self.failed > 1:
             return
+        if len(pieces_of(data)) > 1:
+            data = self.smaller(words, data)
+            wanted, got = oracle.run(words, data, self.has), ran(self.program, words, data)
         os.makedirs(OUT, exist_ok=True)
         kept = [os.path.join(OUT, "difference.json"), os.path.join(OUT, "difference.http")]
         shown = list(words)
@@ -88,6 +108,23 @@ class Comparison:
             else:
                 print(f"  {part}: wanted {len(a)} bytes, got {len(b)}, with {b.count(b'HTTP/1.1 ')} answers for {a.count(b'HTTP/1.1 ')}")
                 print(f"    {first_difference(a, b)}")
+
+    def smaller(self, words, data):
+        """The same input without requests that the difference does not need."""
+        pieces = pieces_of(data)
+        size, tries = max(1, len(pieces) // 2), 0
+        while tries < MOST_TRIES:
+            at, dropped = 0, False
+            while at < len(pieces) and len(pieces) > 1 and tries < MOST_TRIES:
+                fewer, tries = b"".join(pieces[:at] + pieces[at + size :]), tries + 1
+                if oracle.run(words, fewer, self.has) != ran(self.program, words, fewer):
+                    pieces, dropped = pieces[:at] + pieces[at + size :], True
+                else:
+                    at += size
+            if size == 1 and not dropped:
+                break
+            size = max(1, size // 2)
+        return b"".join(pieces)
 
 
 def check_examples(it):
@@ -143,8 +180,13 @@ def main():
         check_examples(it)
         check_calls(it, folder)
         words = ["once", os.path.join(ROOT, "examples", "base.json"), NOW]
+        with open(words[1], "rb") as file:
+            base = json.load(file)
         for n, data in enumerate(request_cases.fixed_inputs(b"test")):
             it.case(f"limit of requests {n}", words, data)
+        for title, _, now, members, steps in worked_cases.CONNECTIONS:
+            data = b"".join(worked_cases.request(*step[:3]) for step in steps)
+            it.case(f"worked: {title}", [*write(json.dumps({**base, **members}).encode())[:2], now], data)
         for n, data in enumerate(state_cases.fixed()):
             it.case(f"each operation {n}", words, data)
         for n, data in enumerate(config_cases.fixed_configs()):

@@ -44,25 +44,25 @@ def access(rng, wild):
     return found
 
 
-def sync_body(rng, wild):
+def sync_body(rng, wild, focus):
     return members(rng, wild, access_control=([access(rng, wild)], ["x", [], 1, [["own0", []]]]))
 
 
-def role_body(rng, wild):
+def role_body(rng, wild, focus):
     return needed(rng, wild, actions=([pairs(rng, wild)], BAD_LISTS))
 
 
-def new_role_body(rng, wild):
-    return needed(rng, wild, name=(ROLE_NAMES, ["", "\u00e9", "n" * 65, 1]), actions=([pairs(rng, wild)], BAD_LISTS))
+def new_role_body(rng, wild, focus):
+    return needed(rng, wild, name=([focus["O"], *ROLE_NAMES], ["", "\u00e9", "n" * 65, 1]), actions=([pairs(rng, wild)], BAD_LISTS))
 
 
-def user_body(rng, wild):
+def user_body(rng, wild, focus):
     return members(rng, wild, roles=([role_list(rng)], BAD_ROLE_LISTS), token_sha256=(DIGESTS, BAD_DIGESTS))
 
 
-def new_user_body(rng, wild):
+def new_user_body(rng, wild, focus):
     fresh = [hashlib.sha256(b"%d" % rng.randrange(1000)).hexdigest(), *DIGESTS]
-    return needed(rng, wild, username=(USER_NAMES, ["", "\u00e9", "n" * 65, 1]), roles=([role_list(rng)], BAD_ROLE_LISTS), token_sha256=(fresh, BAD_DIGESTS))
+    return needed(rng, wild, username=([focus["U"], *USER_NAMES], ["", "\u00e9", "n" * 65, 1]), roles=([role_list(rng)], BAD_ROLE_LISTS), token_sha256=(fresh, BAD_DIGESTS))
 
 
 MAKERS = [

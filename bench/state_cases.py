@@ -28,22 +28,18 @@ QUERIES = [b"?", b"?x=1", b"?limit=2", b"?limit=1&offset=1", b"?offset=2", b"?li
 QUERIES += [b"?%6cimit=1", b"?LIMIT=1", b"?limit=1&limit=x", b"?limit=" + b"9" * 30, b"?offset=" + b"9" * 30, b"?limit=+1", b"?limit=%31", b"?limit=1%", b"?&&limit=3&", b"?limit=000", b"?offset=1?limit=2"]
 
 
-def run_id(rng):
-    return rng.choice(RUN_IDS[:3] if rng.random() < 0.75 else RUN_IDS)
-
-
-def trigger_body(rng, wild):
+def trigger_body(rng, wild, focus):
     dates = (DATES, BAD_DATES)
-    found = members(rng, wild, dag_run_id=([run_id(rng)], BAD_RUN_IDS), conf=([{}], [{"a": 1}, "{}", []]), logical_date=dates, execution_date=dates)
+    found = members(rng, wild, dag_run_id=([focus["R"], rng.choice(RUN_IDS)], BAD_RUN_IDS), conf=([{}], [{"a": 1}, "{}", []]), logical_date=dates, execution_date=dates)
     if rng.random() < 0.5:
         found.pop("execution_date", None)
     return found
 
 
-def clear_body(rng, wild):
+def clear_body(rng, wild, focus):
     truths, dates = ([True, False, False, False], ["false", 0]), (DATES, BAD_DATES)
     ids = [rng.choices(TASK_IDS, k=rng.randint(0, 3)) for _ in range(3)]
-    found = members(rng, wild, dry_run=truths, only_failed=truths, task_ids=(ids, [["a b"], [""], "t", [1], [None]]), dag_run_id=([run_id(rng)], BAD_RUN_IDS), start_date=dates, end_date=dates)
+    found = members(rng, wild, dry_run=truths, only_failed=truths, task_ids=(ids, [["a b"], [""], "t", [1], [None]]), dag_run_id=([focus["R"], rng.choice(RUN_IDS)], BAD_RUN_IDS), start_date=dates, end_date=dates)
     for name in ("task_ids", "dag_run_id", "start_date", "end_date"):
         if rng.random() < 0.6:
             found.pop(name, None)
@@ -55,7 +51,7 @@ SLOTS = ([0, 1, 2, 128, 1_000_000], [1_000_001, -1, 1.0, "1", 2**63, 2**64])
 MAKERS = [
     ("list_dags", "GET /dags", None),
     ("show_dag", "GET /dags/D", None),
-    ("patch_dag", "PATCH /dags/D", lambda rng, wild: needed(rng, wild, is_paused=([True, False], [1, "true"]))),
+    ("patch_dag", "PATCH /dags/D", lambda rng, wild, focus: needed(rng, wild, is_paused=([True, False], [1, "true"]))),
     ("list_tasks", "GET /dags/D/tasks", None),
     ("list_runs", "GET /dags/D/dagRuns", None),
     ("list_runs", "GET /dags/~/dagRuns", None),
@@ -63,19 +59,19 @@ MAKERS = [
     ("show_run", "GET /dags/D/dagRuns/R", None),
     ("list_instances", "GET /dags/D/dagRuns/R/taskInstances", None),
     ("show_instance", "GET /dags/D/dagRuns/R/taskInstances/T", None),
-    ("mark_run", "PATCH /dags/D/dagRuns/R", lambda rng, wild: needed(rng, wild, state=(STATES, ["running", "Success", ""]))),
+    ("mark_run", "PATCH /dags/D/dagRuns/R", lambda rng, wild, focus: needed(rng, wild, state=(STATES, ["running", "Success", ""]))),
     ("delete_run", "DELETE /dags/D/dagRuns/R", None),
-    ("clear_run", "POST /dags/D/dagRuns/R/clear", lambda rng, wild: members(rng, wild, dry_run=([True, False, False], ["no", 0]))),
+    ("clear_run", "POST /dags/D/dagRuns/R/clear", lambda rng, wild, focus: members(rng, wild, dry_run=([True, False, False], ["no", 0]))),
     ("clear_instances", "POST /dags/D/clearTaskInstances", clear_body),
     ("list_pools", "GET /pools", None),
-    ("add_pool", "POST /pools", lambda rng, wild: needed(rng, wild, name=(POOLS, ["", "\u00e9", "P" * 251, "a\tb", 1]), slots=SLOTS)),
+    ("add_pool", "POST /pools", lambda rng, wild, focus: needed(rng, wild, name=([focus["P"], *POOLS], ["", "\u00e9", "P" * 251, "a\tb", 1]), slots=SLOTS)),
     ("show_pool", "GET /pools/P", None),
-    ("set_pool", "PATCH /pools/P", lambda rng, wild: needed(rng, wild, slots=SLOTS)),
+    ("set_pool", "PATCH /pools/P", lambda rng, wild, focus: needed(rng, wild, slots=SLOTS)),
     ("delete_pool", "DELETE /pools/P", None),
     ("list_variables", "GET /variables", None),
-    ("add_variable", "POST /variables", lambda rng, wild: needed(rng, wild, key=(KEYS, ["", "\u00e9", "k" * 251, "a\nb", 1]), value=(VALUES, [1, [], True]))),
+    ("add_variable", "POST /variables", lambda rng, wild, focus: needed(rng, wild, key=([focus["K"], *KEYS], ["", "\u00e9", "k" * 251, "a\nb", 1]), value=(VALUES, [1, [], True]))),
     ("show_variable", "GET /variables/K", None),
-    ("set_variable", "PATCH /variables/K", lambda rng, wild: needed(rng, wild, value=(VALUES, [1, [], True]))),
+    ("set_variable", "PATCH /variables/K", lambda rng, wild, focus: needed(rng, wild, value=(VALUES, [1, [], True]))),
     ("delete_variable", "DELETE /variables/K", None),
     ("list_entries", "GET /eventLogs", None),
     *policy_cases.MAKERS,
@@ -92,12 +88,20 @@ class Asker:
         self.dags = [it["dag_id"] for it in config["dags"]] or ["a"]
         self.makers = [it for it in MAKERS if it[0] in has]
         self.others = [it for it in MAKERS if it[0] not in has]
+        self.focus = self.look_elsewhere()
         self.weights = [HEAVY.get(it[0], 1) for it in self.makers]
+
+    def look_elsewhere(self):
+        """What is asked for next, mostly: one DAG, run, task, pool, variable, role and user."""
+        rng = self.rng
+        names = {"D": [*self.dags[:2] * 4, *self.dags, "gone"], "R": RUN_IDS[:3] * 5 + RUN_IDS, "T": TASK_IDS, "P": POOLS, "K": KEYS}
+        names.update({"O": policy_cases.ROLE_NAMES, "U": policy_cases.USER_NAMES * 4 + ["root"]})
+        return {it: rng.choice(of) for it, of in names.items()}
 
     def path(self, form, wild):
         rng = self.rng
-        choices = {"D": [*self.dags[:2] * 4, *self.dags, rng.choice(["gone", "a", "b"])], "R": [run_id(rng)], "T": TASK_IDS, "P": POOLS, "K": KEYS}
-        choices.update({"O": policy_cases.ROLE_NAMES, "U": policy_cases.USER_NAMES * 4 + ["root"]})
+        other = self.look_elsewhere()
+        choices = {it: [self.focus[it]] * 3 + [other[it]] for it in other}
         pieces = [part(rng, rng.choice(choices[it]), wild) if it in choices else it.encode() for it in form.split("/")]
         if "~" in form and rng.random() < 0.5:
             pieces = [rng.choice([b"%7E", b"%7e"]) if it == b"~" else it for it in pieces]
@@ -106,6 +110,7 @@ class Asker:
 
     def request(self, wild, among=()):
         rng = self.rng
+        self.focus = self.look_elsewhere() if rng.random() < 0.08 else self.focus
         wanted = [it for it in self.makers if it[0] in among]
         if wanted:
             _, form, body = rng.choice(wanted)
@@ -118,9 +123,19 @@ class Asker:
         first = method + b" " + self.path(form, wild) + odd([b" HTTP/1.0"], rng, wild / 50, b" HTTP/1.1")
         token = odd([b"nope", b"", b"x"], rng, wild / 2, rng.choice(self.tokens))
         if body or rng.random() < 0.03:
-            value = spelled(rng, body(rng, wild) if body else {"x": 1}, wild)
+            value = spelled(rng, body(rng, wild, self.focus) if body else {"x": 1}, wild)
             return request_cases.with_body(first, token, value)
         return request_cases.head(first, [b"Host: h", b"Authorization: Bearer " + token])
+
+    def look(self):
+        """What stands now, by one who may see it."""
+        rng = self.rng
+        makers = [it for it in self.makers if it[1].startswith("GET ")]
+        form = rng.choice(makers)[1].split(" ")[1]
+        letters = {it: of.encode() if it not in "PK" else part(rng, of, 0) for it, of in self.focus.items()}
+        path = b"/".join(letters.get(it, it.encode()) for it in form.split("/")).replace(b" ", b"%20").replace(b'"', b"%22")
+        first = b"GET " + (b"" if form.startswith("/own/") else b"/api/v1") + path + b" HTTP/1.1"
+        return request_cases.head(first, [b"Host: h", b"Authorization: Bearer root-token"])
 
     def many_runs(self):
         """More runs of one DAG than a page holds."""
@@ -134,7 +149,9 @@ class Asker:
         wild = rng.choice([0.01, 0.05, 0.05, 0.2, 0.5])
         data = self.many_runs() if rng.random() < 0.03 else b""
         count = rng.choice([3, 10, 40, 100, 200])
-        pieces = [self.request(0, ["trigger_run"]) for _ in range(rng.choice([0, 0, 3, 8]))] + [self.request(wild) for _ in range(count)]
+        pieces = [self.request(0, ["trigger_run"]) for _ in range(rng.choice([0, 0, 3, 8]))]
+        for _ in range(count):
+            pieces.append(self.request(wild) + (self.look() if rng.random() < 0.3 else b""))
         if rng.random() < 0.1:
             pieces.insert(rng.randrange(count), request_cases.request(rng, self.tokens, 0.1))
         return request_cases.ended(rng, data + b"".join(pieces)) if rng.random() < 0.2 else data + b"".join(pieces)
@@ -161,7 +178,7 @@ def config(rng, has):
     for name in ("variables", "history_limit", "version_limit"):
         made.pop(name, None)
     policy_cases.add_members(rng, made, has)
-    strong = [b"root-token"] * 6 + [b"op-token", b"uma-token"] * 2
+    strong = [b"root-token"] * 12 + [b"op-token", b"uma-token"] * 2
     return made, strong + [name.encode() + b"-token" for name in names] + tokens
 
 
