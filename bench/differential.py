@@ -86,7 +86,7 @@ class Comparison:
         self.failed += 1
         if self.failed > 1:
             return
-        if len(pieces_of(data)) > 1:
+        if len(pieces_of(data)) > 1 and got[0] != "no end":
             data = self.smaller(words, data)
             wanted, got = oracle.run(words, data, self.has), ran(self.program, words, data)
         os.makedirs(OUT, exist_ok=True)

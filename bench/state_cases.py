@@ -138,11 +138,12 @@ class Asker:
         return request_cases.head(first, [b"Host: h", b"Authorization: Bearer root-token"])
 
     def many_runs(self):
-        """More runs of one DAG than a page holds."""
+        """About as many runs of one DAG as a page holds, and their lists."""
         first = b"POST /api/v1/dags/" + self.dags[0].encode() + b"/dagRuns HTTP/1.1"
         count = self.rng.randint(95, 130)
         bodies = [b'{"dag_run_id":"m%d","logical_date":"2024-03-01T00:00:%02d.%06dZ"}' % (n, n % 60, n) for n in range(count)]
-        return b"".join(request_cases.with_body(first, self.tokens[0], it) for it in bodies)
+        lists = [request_cases.head(b"GET /api/v1/dags/" + it + b"/dagRuns HTTP/1.1", [b"Host: h", b"Authorization: Bearer root-token"]) for it in (self.dags[0].encode(), b"~")]
+        return b"".join([*(request_cases.with_body(first, self.tokens[0], it) for it in bodies), *lists])
 
     def connection(self):
         rng = self.rng
