@@ -8,6 +8,7 @@ import os
 import unittest
 
 import oracle
+import oracle_names as names
 import oracle_state
 import worked_cases
 from oracle_names import instant_of, isoformat
@@ -75,6 +76,53 @@ class Answers(unittest.TestCase):
         for length in range(1, 41):
             self.gives(VERSION[:length], INCOMPLETE, status=1)
         self.gives(VERSION + VERSION, VERSION_ANSWER + VERSION_ANSWER)
+
+    def test_refused_messages(self):
+        lines = b"".join(b"N%d: x\r\n" % n for n in range(64))
+        for line, first in ((b"Content-Length: 65537", b"413 "), (b"Transfer-Encoding: chunked", b"501 "), (lines[:-2], b"431 ")):
+            data = VERSION.replace(b"Host: h", b"Host: h\r\n" + line)
+            status, out, _ = oracle.run(["once", BASE, NOW], data + VERSION)
+            self.assertEqual((status, out[:13], out.count(b"HTTP/1.1 "), b"\r\nConnection: close\r\n" in out), (1, b"HTTP/1.1 " + first, 1, True))
+
+    def test_names_and_instants(self):
+        for is_good, good, bad in (
+            (names.is_dag_id, ["a", "a" * 250, "A-b_c.1"], ["a b", "", "a" * 251, "~", "a:b", "\u00e9"]),
+            (names.is_run_id, ["a~b", "~~", "R:1+2", "a" * 250], ["~", "", "a" * 251, "a b", "a/b"]),
+            (names.is_label, [" ", "~", "a" * 64], ["", "a" * 65, "\x7f", "\x1f", "\u00e9"]),
+            (names.is_pool_name, ["a" * 250, "a/b"], ["", "a" * 251, "a\nb"]),
+        ):
+            self.assertEqual([*map(is_good, good), *map(is_good, bad)], [True] * len(good) + [False] * len(bad))
+        self.assertEqual(isoformat(instant_of("2024-01-01T00:00:00.0000019Z")), "2024-01-01T00:00:00.000001+00:00")
+        for text in ("1969-12-31T23:59:59Z", "1969-12-31T23:59:59.9999999Z", "2024-13-01T00:00:00Z", "9999-01-01T00:00:00Z", "2024-01-01T00:00:00"):
+            self.assertIsNone(instant_of(text))
+        self.assertEqual(instant_of("9998-12-31T23:59:59.9999999Z"), names.LAST)
+
+    def test_refused_configurations(self):
+        user = {"username": "u", "roles": [{"name": "Admin"}], "token_sha256": "0" * 64}
+        cycle = {"tasks": [{"task_id": "x", "upstream": ["y"]}, {"task_id": "y", "upstream": ["x"]}]}
+        one = {"tasks": [{"task_id": "t"}]}
+        for reason, dag, more in (
+            ("graph", cycle, {}),
+            ("graph", {}, {}),
+            ("pool", {"tasks": [{"task_id": "t", "pool": "p"}]}, {}),
+            ("schedule", {**one, "schedule": "@daily"}, {}),
+            ("schedule", {**one, "schedule": "@yearly", "start_date": NOW}, {}),
+            ("limit", {**one, "schedule": 0, "start_date": NOW}, {}),
+            ("shape", {**one, "schedule": 1.5, "start_date": NOW}, {}),
+            ("role", {**one, "access_control": {"Nobody": ["can_read"]}}, {}),
+            ("action", {**one, "access_control": {"Nobody": ["can_create"]}}, {}),
+            ("name", {**one, "access_control": {"": ["can_create"]}}, {}),
+            ("shape", {**one, "access_control": {"Viewer": None}}, {}),
+            ("duplicate", one, {"variables": [{"key": "k", "value": ""}] * 2}),
+            ("name", one, {"variables": [{"key": "", "value": 1}]}),
+            ("shape", one, {"variables": [{"key": "k", "value": 1}]}),
+            ("limit", one, {"history_limit": 0}),
+            ("limit", one, {"version_limit": 2**32}),
+            ("admin", one, {"users": []}),
+        ):
+            with self.subTest(reason=reason, dag=dag, more=more), self.assertRaises(oracle.Refused) as why:
+                oracle.Plane(json.dumps({"users": [user], "dags": [{"dag_id": "a", **dag}], **more}).encode(), has=having("all"))
+            self.assertEqual(why.exception.args[0], reason)
 
     def test_refused_calls(self):
         usage = b"usage: afplane once CONFIG NOW | serve CONFIG PORT WORKERS | verify TRACE\n"
