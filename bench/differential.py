@@ -249,9 +249,11 @@ def main():
             elif n % 4 == 0:
                 it.case(f"seed {args.seed}, connection {n}", write(good), request_cases.connection(rng, tokens))
             else:
-                state, users = state_cases.config(rng, args.has)
+                if n % 8 == 1:
+                    state, users = state_cases.config(rng, args.has)
+                    wide = config_cases.written(rng, state)
                 data = state_cases.Asker(rng, state, users, args.has).connection()
-                words = write(config_cases.written(rng, state))
+                words = write(wide)
                 it.case(f"seed {args.seed}, operations {n}", [*words[:2], rng.choice(state_cases.NOWS)], data)
     print(f"{it.answers} answers", file=sys.stderr)
     if args.write:

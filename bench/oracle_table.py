@@ -7,6 +7,7 @@ import hashlib
 from dataclasses import dataclass
 from urllib.parse import unquote_to_bytes
 
+import oracle_bodies as bodies
 import oracle_names as names
 import oracle_ops as ops
 from oracle_ops import CREATE, DAGS, DELETE, EDIT, INSTANCES, LOGS, POOLS, READ, ROLES, RUNS, USERS, VARIABLES
@@ -68,25 +69,25 @@ def table():
     return [
         row("list_dags", "GET /api/v1/dags", [READ_DAG], ops.list_dags, is_listing=True),
         row("show_dag", f"GET {dag}", [READ_DAG], ops.show_dag),
-        row("patch_dag", f"PATCH {dag}", [EDIT_DAG], ops.patch_dag, ops.pause_body, "patch_dag"),
+        row("patch_dag", f"PATCH {dag}", [EDIT_DAG], ops.patch_dag, bodies.pause_body, "patch_dag"),
         row("list_tasks", f"GET {dag}/tasks", [READ_DAG, READ_INSTANCES], ops.list_tasks),
         row("list_runs", f"GET {runs}", [READ_DAG, READ_RUNS], ops.list_runs, is_listing=True),
         row("list_runs", "GET /api/v1/dags/{~}/dagRuns", [READ_DAG, READ_RUNS], ops.list_all_runs, is_listing=True),
-        row("trigger_run", f"POST {runs}", [EDIT_DAG, (CREATE, RUNS)], ops.trigger_run, ops.trigger_body, "trigger_dag_run"),
+        row("trigger_run", f"POST {runs}", [EDIT_DAG, (CREATE, RUNS)], ops.trigger_run, bodies.trigger_body, "trigger_dag_run"),
         row("show_run", f"GET {run}", [READ_DAG, READ_RUNS], ops.show_run),
-        row("mark_run", f"PATCH {run}", [EDIT_DAG, (EDIT, RUNS)], ops.mark_run, ops.mark_body, "patch_dag_run"),
+        row("mark_run", f"PATCH {run}", [EDIT_DAG, (EDIT, RUNS)], ops.mark_run, bodies.mark_body, "patch_dag_run"),
         row("delete_run", f"DELETE {run}", [EDIT_DAG, (DELETE, RUNS)], ops.delete_run, None, "delete_dag_run"),
-        row("clear_run", f"POST {run}/clear", [EDIT_DAG, (EDIT, RUNS)], ops.clear_run, ops.clear_run_body, "clear_dag_run"),
+        row("clear_run", f"POST {run}/clear", [EDIT_DAG, (EDIT, RUNS)], ops.clear_run, bodies.clear_run_body, "clear_dag_run"),
         row("list_instances", f"GET {run}/taskInstances", [READ_DAG, READ_RUNS, READ_INSTANCES], ops.list_instances, is_listing=True),
         row("show_instance", f"GET {run}/taskInstances/{{task_id}}", [READ_DAG, READ_RUNS, READ_INSTANCES], ops.show_instance),
-        row("clear_instances", f"POST {dag}/clearTaskInstances", [EDIT_DAG, READ_RUNS, (EDIT, INSTANCES)], ops.clear_instances, ops.clear_body, "clear_task_instances"),
-        *rows_of("pool", "pools", "/api/v1/pools", "{pool_name}", POOLS, ops.pool_body, ops.new_pool_body),
-        *rows_of("variable", "variables", "/api/v1/variables", "{variable_key}", VARIABLES, ops.variable_body, ops.new_variable_body),
+        row("clear_instances", f"POST {dag}/clearTaskInstances", [EDIT_DAG, READ_RUNS, (EDIT, INSTANCES)], ops.clear_instances, bodies.clear_body, "clear_task_instances"),
+        *rows_of("pool", "pools", "/api/v1/pools", "{pool_name}", POOLS, bodies.pool_body, bodies.new_pool_body),
+        *rows_of("variable", "variables", "/api/v1/variables", "{variable_key}", VARIABLES, bodies.variable_body, bodies.new_variable_body),
         row("list_entries", "GET /api/v1/eventLogs", [(READ, LOGS)], ops.list_entries, is_listing=True),
-        *policy_rows("role", "roles", "/api/v1/roles", "{role_name}", ROLES, ops.pairs_of, ops.new_role_body),
-        *policy_rows("user", "users", "/api/v1/users", "{username}", USERS, ops.user_body, ops.new_user_body),
+        *policy_rows("role", "roles", "/api/v1/roles", "{role_name}", ROLES, bodies.pairs_of, bodies.new_role_body),
+        *policy_rows("user", "users", "/api/v1/users", "{username}", USERS, bodies.user_body, bodies.new_user_body),
         row("me", "GET /own/me", [], ops.me, on_policy=True),
-        row("sync", "POST /own/dags/{dag_id}/sync", [(EDIT, ROLES)], ops.sync, ops.sync_body, on_policy=True),
+        row("sync", "POST /own/dags/{dag_id}/sync", [(EDIT, ROLES)], ops.sync, bodies.sync_body, on_policy=True),
     ]
 
 
@@ -193,7 +194,7 @@ def parameters(query):
     for name, default in (("limit", ops.PAGE), ("offset", 0)):
         digits = given.get(name.encode())
         if digits is not None and not (digits and all(it in b"0123456789" for it in digits)):
-            raise ops.BadInput(f"bad parameter: {name}")
+            raise bodies.BadInput(f"bad parameter: {name}")
         short = None if digits is None else digits.lstrip(b"0") or b"0"
         found.append(default if short is None else int(short) if len(short) < 18 else 10**18)
     return {"limit": min(found[0], ops.PAGE), "offset": found[1]}
@@ -250,10 +251,10 @@ def decide(plane, method, target, token, body):
             if operation.is_listing and "pages" in plane.has:
                 call.limit, call.offset = parameters(query).values()
             if operation.body:
-                call.input = ops.read_body(body, operation.body)
+                call.input = bodies.read_body(body, operation.body)
             answer = (done_on_policy if operation.on_policy else done_on_state)(plane, operation, call)
             decided = ("200 OK" if answer is not None else "204 No Content", answer, [])
-        except ops.BadInput as why:
+        except bodies.BadInput as why:
             decided = told(400, why.args[0])
         except Fault as why:
             decided = told(status_of(why), ": ".join(it for it in why.args if it is not None))
