@@ -180,14 +180,18 @@ def dag_fault(rng, row):
         row.pop(rng.choice(sorted(row)), None)
 
 
-def faulty(rng):
-    """A configuration with one or two faults (now and then the change is none)."""
+def faulty(rng, spoil=None):
+    """A configuration with one or two faults (now and then the change is none); `spoil` may put one into it too."""
     config, _ = good(rng)
     config = copy.deepcopy(config)
     if rng.random() < 0.2:
         text = written(rng, config)
         at = rng.randrange(len(text))
         return rng.choice([text[:at], text[:at] + rng.choice([b"\xff", b"\x00", b",", b"}", b'"', b"\\", b"1"]) + text[at:]])
+    if spoil is not None and rng.random() < 0.3:
+        spoil(config)
+        if rng.random() < 0.5:
+            return written(rng, config)
     for _ in range(rng.choice([1, 1, 2])):
         part = rng.choice(["roles", "users", "pools", "dags", "dags", "dags", "list", "admin", "again"])
         if part == "list":

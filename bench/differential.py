@@ -4,13 +4,17 @@
   python3 bench/differential.py                       2,000 cases of seed 1, after the examples and the limits
   python3 bench/differential.py --cases 20000 --seed 7
   python3 bench/differential.py --program 'PATH/PROGRAM'
+  python3 bench/differential.py --has landed,runs     a program that also has the operations on runs
+  python3 bench/differential.py --write FOLDER --random-only --cases 300
+                                                      the cases as files, for a program that is not proved yet
 
 A case is one run of the program: words, a configuration and an input of one or more requests, as they should be
-or hostile. Exit status, standard output and standard error must be the oracle's. The first difference is shown,
-and its configuration and input are left in bench/out/ with the command that shows it again. The last line is
+or hostile, few or hundreds that build on one another. Exit status, standard output and standard error must be the oracle's. The first difference is shown,
+with as few of its requests as it needs, and its configuration and input are left in bench/out/ with the command that shows it again. The last line is
 `N passed, N failed`, and the status 0 only where nothing failed.
 """
 import argparse
+import json
 import os
 import random
 import shlex
@@ -20,13 +24,20 @@ import tempfile
 
 import config_cases
 import oracle
+import policy_cases
 import request_cases
+import state_cases
+import worked_cases
+from oracle_table import GROUPS, having
 
 ROOT = os.path.dirname(os.path.dirname(os.path.realpath(__file__)))
 PROGRAM = os.path.join(ROOT, "crates", "af_server", "out", "af_server")
 OUT = os.path.join(ROOT, "bench", "out")
 NOW = "2024-01-01T00:00:00Z"
 SECONDS = 30
+MOST_TRIES = 300
+MOST_CONFIG = 100_000
+WANTED = {"morning": "runs"}  # examples that want more operations than the first ones
 MOMENTS = [
     *["2024-01-01T00:00:00.000001+00:00", "2024-01-01 00:00:00z", "20240101T000000Z", "2024-01-01T00Z", "2024-02-29T00:00Z", "2023-02-29T00:00Z"],
     *["1970-01-01T00:00:00Z", "1969-12-31T23:59:59Z", "1969-12-31T23:59:59.9999999Z", "1970-01-01T01:00:00+01:00", "1970-01-01T00:00:00+01:00"],
@@ -50,19 +61,67 @@ def first_difference(wanted, got):
     return f"byte {at}: wanted .. {wanted[max(0, at - 120):at + 200]!r}\n{' ' * len(f'byte {at}:')} got    .. {got[max(0, at - 120):at + 200]!r}"
 
 
+def pieces_of(data):
+    """The requests of an input, one by one, and last what is none."""
+    pieces, at = [], 0
+    try:
+        while at < len(data):
+            end = oracle.head_end(data, at)
+            end += oracle.Request(data[at:end]).length
+            pieces.append(data[at:end])
+            at = end
+    except oracle.Turned:
+        pieces.append(data[at:])
+    return pieces
+
+
+class Files:
+    """In place of a program: the cases as files for `rt try --cases`, which builds what is not proved yet and runs it on each."""
+
+    def __init__(self, folder, has):
+        self.folder, self.has, self.passed, self.failed, self.answers, self.configs = folder, has, 0, 0, 0, {}
+        os.makedirs(os.path.join(folder, "cases"))
+
+    def case(self, name, words, data):
+        if len(words) != 3 or not os.path.isfile(words[1]) or not words[2].isprintable():
+            return
+        with open(words[1], "rb") as file:
+            config = file.read()
+        if len(config) > MOST_CONFIG:
+            return
+        stem = self.configs.setdefault(config, f"c{len(self.configs)}.json")
+        with open(os.path.join(self.folder, stem), "wb") as file:
+            file.write(config)
+        out = oracle.run(words, data, self.has)[1]
+        self.passed += 1
+        self.answers += out.count(b"HTTP/1.1 ")
+        path = os.path.join(self.folder, "cases", f"n{self.passed}")
+        for end, text in (("", data), (".args", f"{words[0]}\n{stem}\n{words[2]}\n".encode()), (".stdout", out)):
+            with open(path + end, "wb") as file:
+                file.write(text)
+
+    def command(self):
+        given = " ".join(f"--data {it}={os.path.join(self.folder, it)}" for it in self.configs.values())
+        return f"rt try {given} --cases {os.path.join(self.folder, 'cases')}"
+
+
 class Comparison:
-    def __init__(self, program):
-        self.program, self.passed, self.failed = program, 0, 0
+    def __init__(self, program, has):
+        self.program, self.has, self.passed, self.failed, self.answers = program, has, 0, 0, 0
 
     def case(self, name, words, data):
         """Runs one case; `words` name the configuration's file."""
-        wanted, got = oracle.run(words, data), ran(self.program, words, data)
+        wanted, got = oracle.run(words, data, self.has), ran(self.program, words, data)
+        self.answers += wanted[1].count(b"HTTP/1.1 ")
         if wanted == got:
             self.passed += 1
             return
         self.failed += 1
         if self.failed > 1:
             return
+        if len(pieces_of(data)) > 1 and got[0] != "no end":
+            data = self.smaller(words, data)
+            wanted, got = oracle.run(words, data, self.has), ran(self.program, words, data)
         os.makedirs(OUT, exist_ok=True)
         kept = [os.path.join(OUT, "difference.json"), os.path.join(OUT, "difference.http")]
         shown = list(words)
@@ -83,18 +142,37 @@ class Comparison:
                 print(f"  {part}: wanted {len(a)} bytes, got {len(b)}, with {b.count(b'HTTP/1.1 ')} answers for {a.count(b'HTTP/1.1 ')}")
                 print(f"    {first_difference(a, b)}")
 
+    def smaller(self, words, data):
+        """The same input without requests that the difference does not need."""
+        pieces = pieces_of(data)
+        size, tries = max(1, len(pieces) // 2), 0
+        while tries < MOST_TRIES:
+            at, dropped = 0, False
+            while at < len(pieces) and len(pieces) > 1 and tries < MOST_TRIES:
+                fewer, tries = b"".join(pieces[:at] + pieces[at + size :]), tries + 1
+                if oracle.run(words, fewer, self.has) != ran(self.program, words, fewer):
+                    pieces, dropped = pieces[:at] + pieces[at + size :], True
+                else:
+                    at += size
+            if size == 1 and not dropped:
+                break
+            size = max(1, size // 2)
+        return b"".join(pieces)
+
 
 def check_examples(it):
-    """The examples, against the files that stand beside them."""
+    """The examples, against the files that stand beside them; those alone whose operations the program has."""
     folder = os.path.join(ROOT, "examples")
     for name in sorted(os.listdir(os.path.join(folder, "expected"))):
         stem = name.removesuffix(".out")
+        if not GROUPS[WANTED.get(stem, "landed")] <= it.has:
+            continue
         with open(os.path.join(folder, stem + ".http"), "rb") as file:
             data = file.read()
         with open(os.path.join(folder, "expected", name), "rb") as file:
             expected = file.read()
         words = ["once", os.path.join(folder, "base.json" if stem in ("viewer", "pause") else "team.json"), NOW]
-        if oracle.run(words, data)[1] != expected:
+        if oracle.run(words, data, it.has)[1] != expected:
             sys.exit(f"examples/expected/{name} is not what the oracle writes")
         it.case(f"example {stem}", words, data)
 
@@ -111,18 +189,43 @@ def check_calls(it, folder):
     it.case("a bad moment before a bad file", ["once", os.path.join(folder, "none"), "x"], no_end)
 
 
+def fixed_cases(it, folder, write):
+    """The examples, the calls, the worked connections, and what lies at the limits: once each."""
+    check_examples(it)
+    check_calls(it, folder)
+    words = ["once", os.path.join(ROOT, "examples", "base.json"), NOW]
+    with open(words[1], "rb") as file:
+        base = json.load(file)
+    for n, data in enumerate(request_cases.fixed_inputs(b"test")):
+        it.case(f"limit of requests {n}", words, data)
+    for title, _, now, members, steps in worked_cases.CONNECTIONS:
+        data = b"".join(worked_cases.request(*step[:3]) for step in steps)
+        it.case(f"worked: {title}", [*write(json.dumps({**base, **members}).encode())[:2], now], data)
+    for n, data in enumerate(state_cases.fixed()):
+        it.case(f"each operation {n}", words, data)
+    for n, data in enumerate(config_cases.fixed_configs()):
+        it.case(f"limit of configurations {n}", write(data), request_cases.list_request(b"test"))
+    for n, (data, requests) in enumerate(policy_cases.fixed_full()):
+        it.case(f"full lists {n}", write(data), requests)
+
+
 def main():
     options = argparse.ArgumentParser(description=__doc__, formatter_class=argparse.RawDescriptionHelpFormatter)
     options.add_argument("--program", default=None, metavar="COMMAND", help="in place of the built program")
     options.add_argument("--cases", type=int, default=2000, help="random cases (0 to 10,000,000)")
     options.add_argument("--seed", type=int, default=1)
+    options.add_argument("--has", type=having, default=having("landed"), metavar="NAMES", help=f"what the program has: {', '.join(GROUPS)}, or single names")
+    options.add_argument("--write", metavar="FOLDER", help="write the cases as files for `rt try --cases` into a new folder, and run nothing")
+    options.add_argument("--random-only", action="store_true", help="without the examples and the limits")
     args = options.parse_args()
     program = shlex.split(args.program) if args.program else [PROGRAM]
-    if not args.program and not os.path.exists(PROGRAM):
+    if not args.program and not args.write and not os.path.exists(PROGRAM):
         sys.exit("differential.py: the program isn't built: run ./afplane once, or name one by --program")
+    if args.write and os.path.exists(args.write):
+        sys.exit(f"differential.py: {args.write} is there already; --write makes a new folder")
     if not 0 <= args.cases <= 10_000_000:
         sys.exit("differential.py: --cases is 0 to 10,000,000")
-    rng, it = random.Random(args.seed), Comparison(program)
+    rng, it = random.Random(args.seed), Files(os.path.abspath(args.write), args.has) if args.write else Comparison(program, args.has)
     with tempfile.TemporaryDirectory(prefix="afplane-cases-") as folder:
         config = os.path.join(folder, "config.json")
 
@@ -131,13 +234,8 @@ def main():
                 file.write(data)
             return ["once", config, NOW]
 
-        check_examples(it)
-        check_calls(it, folder)
-        words = ["once", os.path.join(ROOT, "examples", "base.json"), NOW]
-        for n, data in enumerate(request_cases.fixed_inputs(b"test")):
-            it.case(f"limit of requests {n}", words, data)
-        for n, data in enumerate(config_cases.fixed_configs()):
-            it.case(f"limit of configurations {n}", write(data), request_cases.list_request(b"test"))
+        if not args.random_only:
+            fixed_cases(it, folder, write)
         before = it.passed + it.failed
         print(f"{before} fixed cases, {it.failed} failed", file=sys.stderr)
         for n in range(args.cases):
@@ -146,9 +244,21 @@ def main():
                 good = config_cases.written(rng, made)
             if n % 4 == 3:
                 data = request_cases.list_request(rng.choice(config_cases.TOKENS))
-                it.case(f"seed {args.seed}, configuration {n}", write(config_cases.faulty(rng)), data)
-            else:
+                spoil = lambda made: policy_cases.add_fault(rng, made)
+                it.case(f"seed {args.seed}, configuration {n}", write(config_cases.faulty(rng, spoil)), data)
+            elif n % 4 == 0:
                 it.case(f"seed {args.seed}, connection {n}", write(good), request_cases.connection(rng, tokens))
+            else:
+                if n % 8 == 1:
+                    state, users = state_cases.config(rng, args.has)
+                    wide = config_cases.written(rng, state)
+                data = state_cases.Asker(rng, state, users, args.has).connection()
+                words = write(wide)
+                it.case(f"seed {args.seed}, operations {n}", [*words[:2], rng.choice(state_cases.NOWS)], data)
+    print(f"{it.answers} answers", file=sys.stderr)
+    if args.write:
+        print(it.command())
+        sys.exit()
     print(f"{it.passed} passed, {it.failed} failed")
     sys.exit(1 if it.failed else 0)
 

@@ -3,10 +3,19 @@
 
   python3 bench/oracle_test.py
 """
+import json
 import os
 import unittest
 
 import oracle
+import oracle_names as names
+import oracle_state
+import worked_cases
+from oracle_names import instant_of, isoformat
+from oracle_sched import claim, report, tick
+from oracle_policy import Fault
+from oracle_table import having
+from worked_cases import request
 
 BASE = os.path.join(os.path.dirname(os.path.realpath(__file__)), "..", "examples", "base.json")
 NOW = "2024-01-01T00:00:00Z"
@@ -68,10 +77,168 @@ class Answers(unittest.TestCase):
             self.gives(VERSION[:length], INCOMPLETE, status=1)
         self.gives(VERSION + VERSION, VERSION_ANSWER + VERSION_ANSWER)
 
+    def test_refused_messages(self):
+        lines = b"".join(b"N%d: x\r\n" % n for n in range(64))
+        for line, first in ((b"Content-Length: 65537", b"413 "), (b"Transfer-Encoding: chunked", b"501 "), (lines[:-2], b"431 ")):
+            data = VERSION.replace(b"Host: h", b"Host: h\r\n" + line)
+            status, out, _ = oracle.run(["once", BASE, NOW], data + VERSION)
+            self.assertEqual((status, out[:13], out.count(b"HTTP/1.1 "), b"\r\nConnection: close\r\n" in out), (1, b"HTTP/1.1 " + first, 1, True))
+
+    def test_names_and_instants(self):
+        for is_good, good, bad in (
+            (names.is_dag_id, ["a", "a" * 250, "A-b_c.1"], ["a b", "", "a" * 251, "~", "a:b", "\u00e9"]),
+            (names.is_run_id, ["a~b", "~~", "R:1+2", "a" * 250], ["~", "", "a" * 251, "a b", "a/b"]),
+            (names.is_label, [" ", "~", "a" * 64], ["", "a" * 65, "\x7f", "\x1f", "\u00e9"]),
+            (names.is_pool_name, ["a" * 250, "a/b"], ["", "a" * 251, "a\nb"]),
+        ):
+            self.assertEqual([*map(is_good, good), *map(is_good, bad)], [True] * len(good) + [False] * len(bad))
+        self.assertEqual(isoformat(instant_of("2024-01-01T00:00:00.0000019Z")), "2024-01-01T00:00:00.000001+00:00")
+        for text in ("1969-12-31T23:59:59Z", "1969-12-31T23:59:59.9999999Z", "2024-13-01T00:00:00Z", "9999-01-01T00:00:00Z", "2024-01-01T00:00:00"):
+            self.assertIsNone(instant_of(text))
+        self.assertEqual(instant_of("9998-12-31T23:59:59.9999999Z"), names.LAST)
+
+    def test_refused_configurations(self):
+        user = {"username": "u", "roles": [{"name": "Admin"}], "token_sha256": "0" * 64}
+        cycle = {"tasks": [{"task_id": "x", "upstream": ["y"]}, {"task_id": "y", "upstream": ["x"]}]}
+        one = {"tasks": [{"task_id": "t"}]}
+        for reason, dag, more in (
+            ("graph", cycle, {}),
+            ("graph", {}, {}),
+            ("pool", {"tasks": [{"task_id": "t", "pool": "p"}]}, {}),
+            ("schedule", {**one, "schedule": "@daily"}, {}),
+            ("schedule", {**one, "schedule": "@yearly", "start_date": NOW}, {}),
+            ("limit", {**one, "schedule": 0, "start_date": NOW}, {}),
+            ("shape", {**one, "schedule": 1.5, "start_date": NOW}, {}),
+            ("role", {**one, "access_control": {"Nobody": ["can_read"]}}, {}),
+            ("action", {**one, "access_control": {"Nobody": ["can_create"]}}, {}),
+            ("name", {**one, "access_control": {"": ["can_create"]}}, {}),
+            ("shape", {**one, "access_control": {"Viewer": None}}, {}),
+            ("duplicate", one, {"variables": [{"key": "k", "value": ""}] * 2}),
+            ("name", one, {"variables": [{"key": "", "value": 1}]}),
+            ("shape", one, {"variables": [{"key": "k", "value": 1}]}),
+            ("limit", one, {"history_limit": 0}),
+            ("limit", one, {"version_limit": 2**32}),
+            ("admin", one, {"users": []}),
+        ):
+            with self.subTest(reason=reason, dag=dag, more=more), self.assertRaises(oracle.Refused) as why:
+                oracle.Plane(json.dumps({"users": [user], "dags": [{"dag_id": "a", **dag}], **more}).encode(), has=having("all"))
+            self.assertEqual(why.exception.args[0], reason)
+
     def test_refused_calls(self):
         usage = b"usage: afplane once CONFIG NOW | serve CONFIG PORT WORKERS | verify TRACE\n"
         self.assertEqual(oracle.run(["once", BASE], b""), (2, b"", usage))
         self.assertEqual(oracle.run(["once", BASE + "x", NOW], b""), (3, b"", b"afplane: configuration refused: unreadable\n"))
+
+
+def one_answer(plane, data):
+    """Status, what is told, version and number of entries of the answer to one request; none for a field that is not there."""
+    text, closed = oracle.answers(plane, data)
+    assert closed
+    head, _, body = text.decode().partition("\r\n\r\n")
+    status, *lines = head.split("\r\n")
+    fields = dict(it.split(": ", 1) for it in lines)
+    assert int(fields.get("Content-Length", 0)) == len(body.encode())
+    numbers = [int(fields[it]) if it in fields else None for it in ("X-Policy-Version", "X-Plane-Seq")]
+    status = int(status.split(" ")[1])
+    return status, body if status < 300 else json.loads(body)["detail"], *numbers
+
+
+def opened(has, now=NOW, members=()):
+    """What stands when base.json, with some members changed, has been read."""
+    with open(BASE, "rb") as file:
+        config = json.dumps({**json.load(file), **dict(members)}).encode()
+    return oracle.Plane(config, instant_of(now), having(has))
+
+
+class Connections(unittest.TestCase):
+    def test_worked_connections(self):
+        for title, has, now, members, steps in worked_cases.CONNECTIONS:
+            for names in (has, "all"):
+                if names == "all" and ("not cut yet" in title):
+                    continue
+                plane, version = opened(names, now, members.items()), 0
+                for name, asked, body, status, wanted, seq, *more in steps:
+                    with self.subTest(title=title, has=names, name=name, asked=asked, body=body):
+                        version = more[0] if more and more[0] is not None else version
+                        got = one_answer(plane, worked_cases.request(name, asked, body))
+                        self.assertEqual(got, (status, got[1] if wanted is None else wanted, None if more == [None] else version, seq))
+
+    def test_clear_and_try_again(self):
+        plane, now = opened("all"), instant_of(NOW)
+        one_answer(plane, request("uma", "POST /dags/b/dagRuns", '{"dag_run_id":"r1"}'))
+        plane.state = tick(plane.state, now)
+        plane.state, first = claim(plane.state, now)
+        self.assertEqual(first, (1, "t", 1))
+        plane.state = tick(report(plane.state, first, "failed", now), now)
+        self.assertEqual(plane.state.runs[0].state, "failed")
+        clear = "POST /dags/b/clearTaskInstances"
+        wanted = '{"task_instances":[{"dag_id":"b","dag_run_id":"r1","logical_date":"2024-01-01T00:00:00+00:00","task_id":"t"}]}'
+        before = plane.state
+        self.assertEqual(one_answer(plane, request("uma", clear, "{}")), (200, wanted, 0, 1))
+        self.assertEqual(plane.state, before)
+        self.assertEqual(one_answer(plane, request("uma", clear, '{"dry_run":false}')), (200, wanted, 0, 2))
+        self.fails(plane, first, "NotRunning")
+        plane.state, second = claim(tick(plane.state, now), now)
+        self.assertEqual(second, (1, "t", 2))
+        self.fails(plane, first, "WrongTry")
+        plane.state = report(plane.state, second, "success", now)
+        self.assertEqual(plane.state.runs[0].instances[0].state, "success")
+        self.assertEqual(one_answer(plane, request("adam", "DELETE /dags/b/dagRuns/r1")), (204, "", 0, 3))
+        self.fails(plane, second, "NoSuchInstance")
+
+    def fails(self, plane, claimed, wanted):
+        with self.assertRaises(Fault) as why:
+            report(plane.state, claimed, "success", plane.now)
+        self.assertEqual(why.exception.args[0], wanted)
+
+
+class Ticks(unittest.TestCase):
+    def state(self, dag, pools=()):
+        dag = {"dag_id": "d", "tasks": [{"task_id": "t"}], **dag}
+        user = {"username": "u", "roles": [{"name": "Admin"}], "token_sha256": "0" * 64}
+        return oracle.Plane(json.dumps({"users": [user], "pools": list(pools), "dags": [dag]}).encode()).state
+
+    def test_months(self):
+        monthly = {"schedule": "@monthly", "start_date": "2024-01-31T00:00:00Z"}
+        begun = self.state(monthly)
+        self.assertEqual(tick(begun, instant_of("2024-02-29T23:59:59.999999Z")), begun)
+        state = tick(begun, instant_of("2024-03-01T00:00:00Z"))
+        (run,) = state.runs
+        self.assertEqual((run.run_id, run.state), ("scheduled__2024-02-01T00:00:00+00:00", "running"))
+        self.assertEqual([isoformat(it) for it in (run.interval_end, state.dags["d"].cursor)], ["2024-03-01T00:00:00+00:00"] * 2)
+        self.assertEqual([it.state for it in run.instances], ["queued"])
+        state = tick(self.state({**monthly, "catchup": False}), instant_of("2024-05-15T00:00:00Z"))
+        self.assertEqual([isoformat(it.date) for it in state.runs], ["2024-04-01T00:00:00+00:00"])
+        self.assertEqual(isoformat(state.dags["d"].cursor), "2024-05-01T00:00:00+00:00")
+        weekly = self.state({"schedule": "@weekly", "start_date": NOW})
+        self.assertEqual(isoformat(weekly.dags["d"].cursor), "2024-01-07T00:00:00+00:00")
+
+    def test_slots(self):
+        tasks = [{"task_id": "x", "pool_slots": 3, "priority_weight": 5}, *({"task_id": it} for it in "yzw")]
+        tasks = [{**it, "pool": "p"} for it in tasks]
+        now = instant_of(NOW)
+        state = self.state({"tasks": tasks}, [{"name": "p", "slots": 2}])
+        state, _ = oracle_state.trigger(state, "d", "r", now)
+        state = tick(state, now)
+        self.assertEqual([it.state for it in state.runs[0].instances], ["scheduled", "queued", "queued", "scheduled"])
+        state = oracle_state.set_pool(state, "p", 1)
+        shown = oracle_state.show_pool(state, "p")
+        self.assertEqual((shown["occupied_slots"], shown["open_slots"]), (2, 0))
+        for name, then in (("y", ["scheduled", "success", "queued", "scheduled"]), ("z", ["scheduled", "success", "success", "queued"])):
+            state, claimed = claim(state, now)
+            self.assertEqual(claimed, (1, name, 1))
+            state = tick(report(state, claimed, "success", now), now)
+            self.assertEqual([it.state for it in state.runs[0].instances], then)
+
+    def test_retry(self):
+        now = instant_of(NOW)
+        state, _ = oracle_state.trigger(self.state({"tasks": [{"task_id": "t", "retries": 1}]}), "d", "r", now)
+        state, first = claim(tick(state, now), now)
+        state = report(state, first, "failed", now)
+        self.assertEqual(state.runs[0].instances[0].state, "up_for_retry")
+        self.assertEqual(tick(state, now + 299_999_999), state)
+        state, second = claim(tick(state, now + 300_000_000), now)
+        self.assertEqual(report(state, second, "failed", now).runs[0].instances[0].state, "failed")
 
 
 if __name__ == "__main__":

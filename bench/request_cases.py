@@ -100,10 +100,8 @@ def request(rng, tokens, wild):
     return odd([b"\r\n", b"\n", b"\n\r\n\n", b"\r\n" * 9000, b"\r", b"\r\r\n", b" \r\n", b"\r\nX"][: rng.choice([4, 8])], rng, wild / 3, b"") + text
 
 
-def connection(rng, tokens):
-    """The input of one run: some requests, whole, cut, or followed by something else."""
-    wild = rng.choice([0.02, 0.05, 0.1, 0.3, 0.5])
-    data = b"".join(request(rng, tokens, wild) for _ in range(rng.choice([1, 1, 2, 3, 5, 8, 12])))
+def ended(rng, data):
+    """The input whole, cut, or followed by something else."""
     end = rng.random()
     if end < 0.12:
         return data[: rng.randint(0, len(data))]
@@ -115,6 +113,12 @@ def connection(rng, tokens):
         at = rng.randrange(len(data) + 1)
         return data[:at] + bytes([rng.choice([0, 9, 10, 13, 32, 58, 127, 128, 255, rng.randrange(256)])]) + data[at + rng.randint(0, 1) :]
     return data
+
+
+def connection(rng, tokens):
+    """The input of one run: some requests."""
+    wild = rng.choice([0.02, 0.05, 0.1, 0.3, 0.5])
+    return ended(rng, b"".join(request(rng, tokens, wild) for _ in range(rng.choice([1, 1, 2, 3, 5, 8, 12]))))
 
 
 def sized(size, ends=b"\r\n"):
