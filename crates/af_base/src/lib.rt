@@ -7,6 +7,7 @@ mod keyed;
 mod members;
 mod ordered;
 mod parsing;
+mod searching;
 
 pub use items::{Again, Items};
 pub use keyed::{Change, Keyed};
@@ -16,3 +17,4 @@ pub use members::{
 };
 pub use ordered::Ordered;
 pub use parsing::json_in;
+pub use searching::{is_there, place_in};

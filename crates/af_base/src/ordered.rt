@@ -3,6 +3,7 @@ ghost use Rattle.af_base.specs.Ordered.{AreInOrder, is_there, row_of, with_row, 
 ghost use Rattle.af_base.specs.Places.{StandsAt, FitsAt};
 
 use crate::keyed::{Change, Keyed};
+use crate::searching::{is_there, place_in};
 use std::alloc::{AllocError, Global};
 use std::marker::Model;
 use std::mem;
@@ -71,14 +72,14 @@ impl<T: Keyed> Ordered<T> {
     pub fn place(&self, key: &str) -> Result<usize, usize>
         ensures { MatchResult result (StandsAt T.key_of self.now.rows key.now) (FitsAt T.key_of self.now.rows key.now) }
     {
-        self.rows.binary_search_by(|row| row.key().cmp(key))
+        place_in(self.rows.as_slice(), key)
     }
 
     /// Whether a row has this key.
     pub fn has(&self, key: &str) -> bool
         ensures { result ≡ is_there T.key_of self.now.rows key.now }
     {
-        self.place(key).is_ok()
+        is_there(self.rows.as_slice(), key)
     }
 
     /// The row of this key.

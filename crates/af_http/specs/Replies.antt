@@ -1,16 +1,23 @@
 -- What is made of a request, and its bytes.
-use Rattle.std.specs.Prelude.{ℕ, Bool, true, false, List, Some, None, codes}
+use Rattle.std.specs.Prelude.{ℕ, Bool, true, false, cond, List, Some, None, codes}
 use Rattle.af_ops.specs.declared.served.Served.TheVariants as served
 use Rattle.af_ops.specs.declared.shown_answer.Shown.{Shown}
+use Rattle.af_ops.specs.declared.status.Status.{Status}
 use Rattle.af_ops.specs.declared.status.Status.TheVariants as status
 use Rattle.af_http.specs.Answers.{Told, problem, answer_text, memory_text, lost_text}
 use Rattle.af_http.specs.declared.route_fault.RouteFault.TheVariants as fault
 use Rattle.af_http.specs.declared.reply.Reply.{Reply}
 use Rattle.af_http.specs.declared.reply.Reply.TheVariants as reply
 
+-- an answer of this status has no content, and so neither the type nor the length of one (RFC 9110, sections 8.6 and 15.3.5)
+abbrev pub is_empty : Status → Bool
+is_empty status.NoContent = true
+is_empty _ = false
+
 -- what the service tells
 abbrev pub told_by : Shown → Told
-told_by shown = record { status = shown.status; allow = None; version = shown.version; seq = shown.seq; body = shown.body }
+told_by shown =
+    record { status = shown.status; allow = None; version = shown.version; seq = shown.seq; body = cond (is_empty shown.status) None shown.body }
 
 -- The bytes of a reply, without its body after a HEAD. Want of memory has fixed ones.
 abbrev pub reply_text : Reply → Bool → Bool → List ℕ

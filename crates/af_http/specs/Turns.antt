@@ -48,6 +48,11 @@ pub record WantsBody (held : List ℕ) (size length_is : ℕ) (head_only : Bool)
   pub short : length (drop size held) < length_is
   pub method : head_only ≡ is_head parsed.method
 
+-- what is left of what is held, once the message at its front was answered or refused
+abbrev pub left_by : Handled → List ℕ → List ℕ
+left_by (Over outcome total) held = drop total held
+left_by (Short n head_only) held = held
+
 -- the run ends before a request, where so many reads had been made for it
 pub record Stopped (used : ℕ) (before after : Given) (held : List ℕ) (p q : Place) (outcome : Option Ended) : Type 0 where
   pub more : List ℕ

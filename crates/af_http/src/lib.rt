@@ -3,6 +3,7 @@
 
 mod answer;
 mod answering;
+mod connection;
 mod counted;
 mod ended;
 mod extent;
@@ -12,6 +13,7 @@ mod handled;
 mod incoming;
 mod laws;
 mod lines;
+mod message;
 mod outgoing;
 mod problems;
 mod reading;

@@ -1,8 +1,8 @@
-ghost use Rattle.std.specs.Prelude.{◌≡◌, ◌<◌, Option, false, length};
+ghost use Rattle.std.specs.Prelude.{◌≡◌, ◌<◌, Option, None, cond, false, length};
 ghost use Rattle.af_http.specs.Limits.{outgoing_room};
 ghost use Rattle.std.specs.Option.{option_copied};
 ghost use Rattle.af_http.specs.Answers.{told};
-ghost use Rattle.af_http.specs.Replies.{reply_text, wants_memory, told_by};
+ghost use Rattle.af_http.specs.Replies.{is_empty, reply_text, wants_memory, told_by};
 ghost use Rattle.af_http.specs.Reading.{refusal_text, status_of};
 ghost use Rattle.af_http.specs.Run.{end_by};
 ghost use Rattle.af_http.specs.Sending.{Puts};
@@ -31,6 +31,16 @@ fn problem(status: Status, allow: Option<Methods>, body: &[u8]) -> Answer<'_>
     }
 }
 
+/// The body of what the service tells: 204 has none.
+fn content_of(shown: &Shown) -> Option<&[u8]>
+    ensures { option_copied result ≡ cond (is_empty shown.now.status) None shown.now.body }
+{
+    match shown.status {
+        Status::NoContent => None,
+        _ => shown.body.as_ref().map(Body::as_bytes),
+    }
+}
+
 /// What the service tells.
 fn told_by(shown: &Shown) -> Answer<'_>
     ensures { told result ≡ told_by shown.now }
@@ -40,7 +50,7 @@ fn told_by(shown: &Shown) -> Answer<'_>
         allow: None,
         version: shown.version,
         seq: shown.seq,
-        body: shown.body.as_ref().map(Body::as_bytes),
+        body: content_of(shown),
     }
 }
 

@@ -1,38 +1,35 @@
-ghost use Rattle.std.specs.Prelude.{◌≡◌, List, [], false, IfOk};
+ghost use Rattle.std.specs.Prelude.{◌≡◌, [], false};
 ghost use Rattle.af_http.specs.Run.{IsMemoryText};
 ghost use Rattle.af_http.specs.Connections.{Connects};
 ghost use Rattle.af_http.specs.Turns.{Ran};
 
+use crate::connection::Connection;
 use crate::ended::Ended;
-use crate::incoming::Incoming;
-use crate::outgoing::Outgoing;
+use crate::message::REQUEST_LIMIT;
 use crate::problems::memory_text;
-use crate::routes::Routes;
 use crate::service::Service;
 use crate::stream::{Sink, Source};
-use crate::turn::{REQUEST_LIMIT, serve_one};
+use crate::turn::serve_one;
 use crate::writing::write_all;
-use std::alloc::{AllocError, Global};
+use std::alloc::Global;
 
 /// Serves requests one after another until the connection ends.
 fn serve_each<R: Source, W: Sink, S: Service>(
-    routes: &Routes,
+    connection: &mut Connection,
     reader: &mut R,
-    incoming: &mut Incoming,
     writer: &mut W,
-    outgoing: &mut Outgoing,
     service: &mut S,
 ) -> Ended
-    requires fresh { incoming.old ≡ [] }
-    requires empty { outgoing.old.bytes ≡ [] }
-    requires sound { outgoing.old.failed ≡ false }
+    requires fresh { connection.old.incoming ≡ [] }
+    requires empty { connection.old.outgoing.bytes ≡ [] }
+    requires sound { connection.old.outgoing.failed ≡ false }
     ensures { Ran S.answers service.old (R.given reader.old) (R.given reader.new)
-        (record { sink = W.taken writer.old; waiting = outgoing.old })
-        (record { sink = W.taken writer.new; waiting = outgoing.new })
+        (record { sink = W.taken writer.old; waiting = connection.old.outgoing })
+        (record { sink = W.taken writer.new; waiting = connection.new.outgoing })
         service.new result }
 {
     for count in 0..REQUEST_LIMIT {
-        match serve_one(count, routes, reader, incoming, writer, outgoing, service) {
+        match serve_one(connection, count, reader, writer, service) {
             Some(ended) => return ended,
             None => {}
         }
@@ -43,36 +40,23 @@ fn serve_each<R: Source, W: Sink, S: Service>(
 
 /// Serves requests until the connection ends, and writes what waits.
 fn serve_all<R: Source, W: Sink, S: Service>(
-    routes: &Routes,
+    connection: &mut Connection,
     reader: &mut R,
-    incoming: &mut Incoming,
     writer: &mut W,
-    outgoing: &mut Outgoing,
     service: &mut S,
 ) -> Ended
-    requires fresh { incoming.old ≡ [] }
-    requires empty { outgoing.old.bytes ≡ [] }
-    requires sound { outgoing.old.failed ≡ false }
+    requires fresh { connection.old.incoming ≡ [] }
+    requires empty { connection.old.outgoing.bytes ≡ [] }
+    requires sound { connection.old.outgoing.failed ≡ false }
     ensures { Connects S.answers (R.given reader.old) (R.given reader.new) (W.taken writer.old) (W.taken writer.new)
         service.old service.new result }
 {
-    let ended = serve_each(routes, reader, incoming, writer, outgoing, service);
-    outgoing.flush(writer);
-    if outgoing.has_failed() {
+    let ended = serve_each(connection, reader, writer, service);
+    connection.outgoing.flush(writer);
+    if connection.outgoing.has_failed() {
         return Ended::WriteFault;
     }
     ended
-}
-
-/// What a connection keeps from its opening on.
-fn open(alloc: Global) -> Result<(Routes, Incoming, Outgoing), AllocError>
-    ensures { IfOk result (λ o. (o.1 ≡ []) × (o.2.bytes ≡ []) × (o.2.failed ≡ false)) }
-{
-    Ok((
-        Routes::new(alloc)?,
-        Incoming::new(alloc)?,
-        Outgoing::new(alloc)?,
-    ))
 }
 
 /// There is no memory to begin with.
@@ -98,15 +82,8 @@ pub fn serve<R: Source, W: Sink, S: Service>(
     ensures { Connects S.answers (R.given reader.old) (R.given reader.new) (W.taken writer.old) (W.taken writer.new)
         service.old service.new result }
 {
-    match open(alloc) {
-        Ok((routes, mut incoming, mut outgoing)) => serve_all(
-            &routes,
-            reader,
-            &mut incoming,
-            writer,
-            &mut outgoing,
-            service,
-        ),
+    match Connection::open(alloc) {
+        Ok(mut connection) => serve_all(&mut connection, reader, writer, service),
         Err(_) => turn_away(writer),
     }
 }

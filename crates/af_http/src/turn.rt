@@ -1,30 +1,26 @@
-ghost use Rattle.std.specs.Prelude.{◌≡◌, ◌+◌, ◌<◌, ◌≤◌, ℕ, Bool, List, [], length, Option, None, Some, IfSome, take, drop, true, false};
+ghost use Rattle.std.specs.Prelude.{◌≡◌, ◌<◌, ◌≤◌, [], length, Option, None, Some, IfSome, false, true};
 ghost use Rattle.af_http.specs.Limits.{outgoing_room, read_limit, request_limit};
-ghost use Rattle.af_http.specs.Requests.{seen};
-ghost use Rattle.af_http.specs.Reading.{closes_after, refusal_text, status_of};
 ghost use Rattle.af_http.specs.Gathering.{IsGathered};
-ghost use Rattle.af_http.specs.declared.ended.Ended.TheVariants as end;
-ghost use Rattle.af_http.specs.Run.{Makes};
-ghost use Rattle.af_http.specs.Turns.{Answers, Messages, WantsBody, Turned, AwaitsHead, or_fault};
+ghost use Rattle.af_http.specs.Turns.{AwaitsHead, Messages, Turned, WantsBody, left_by};
 ghost use Rattle.af_http.specs.Sending.{Puts};
 
+use crate::connection::Connection;
 use crate::ended::Ended;
 use crate::extent::Extent;
 use crate::gathering::{BodyGathered, Gathered, gather, gather_body, settle};
 use crate::handled::Handled;
-use crate::incoming::Incoming;
+use crate::message::{answer_message, end_refused};
 use crate::outgoing::Outgoing;
-use crate::reading::{is_head, read_head};
 use crate::refusal::Refusal;
-use crate::reply::Reply;
-use crate::replying::{end_by, put_reply, refuse, wants_memory};
-use crate::request::Request;
-use crate::routes::Routes;
 use crate::service::Service;
 use crate::stream::{Sink, Source};
 
-/// The most requests of a connection.
-pub const REQUEST_LIMIT: u32 = 1000;
+/// Which request of a connection is served: so many went before it, and so many reads were made for its head.
+#[derive(Clone, Copy)]
+struct Turn {
+    count: u32,
+    used: u32,
+}
 
 /// A head of so many bytes is held, whose body of so many is not whole. Whether its method is HEAD.
 #[derive(Clone, Copy)]
@@ -32,111 +28,6 @@ struct WantedBody {
     size: usize,
     length: usize,
     head_only: bool,
-}
-
-/// What is made of a request. No other function calls the service, and none is asked once a write has failed, since its
-/// answer would not leave: a change would be made unseen.
-fn make<S: Service>(
-    routes: &Routes,
-    service: &mut S,
-    request: &Request<'_>,
-    body: &[u8],
-    _outgoing: &Outgoing,
-) -> Reply
-    requires sound { _outgoing.now.failed ≡ false }
-    ensures { Makes S.answers service.old (seen request.now body.now) result service.new }
-{
-    match routes.read_op(request.method, request.target, body) {
-        Ok(op) => Reply::Served(service.answer(request.token, &op)),
-        Err(fault) => Reply::Fault(fault),
-    }
-}
-
-/// Whether the connection closes after this request, which so many went before.
-fn closes_after(count: u32, request: &Request<'_>) -> bool
-    requires { count < request_limit }
-    ensures { (body : List ℕ) → result ≡ closes_after count (seen request.now body) }
-{
-    request.closes || count + 1 == REQUEST_LIMIT
-}
-
-/// How a run goes on: a failed write ends it.
-fn or_fault(outgoing: &Outgoing, ended: Option<Ended>) -> Option<Ended>
-    ensures { result ≡ or_fault outgoing.now.failed ended }
-{
-    if outgoing.has_failed() {
-        Some(Ended::WriteFault)
-    } else {
-        ended
-    }
-}
-
-/// Answers a request, and says how the connection ends, if it does.
-fn answer_request<W: Sink, S: Service>(
-    request: &Request<'_>,
-    body: &[u8],
-    count: u32,
-    routes: &Routes,
-    writer: &mut W,
-    outgoing: &mut Outgoing,
-    service: &mut S,
-) -> Option<Ended>
-    requires few { count < request_limit }
-    requires sound { outgoing.old.failed ≡ false }
-    requires room { length outgoing.old.bytes < outgoing_room }
-    ensures { Answers S.answers count service.old (seen request.now body.now)
-        (record { sink = W.taken writer.old; waiting = outgoing.old })
-        (record { sink = W.taken writer.new; waiting = outgoing.new })
-        service.new result }
-{
-    let reply = make(routes, service, request, body, outgoing);
-    let closes = closes_after(count, request);
-    put_reply(writer, outgoing, &reply, is_head(request.method), closes);
-    or_fault(outgoing, end_by(wants_memory(&reply), closes))
-}
-
-/// Answers the message that begins with a head of so many bytes, or refuses its head, unless its body is not whole.
-fn answer_message<W: Sink, S: Service>(
-    held: &[u8],
-    size: usize,
-    count: u32,
-    routes: &Routes,
-    writer: &mut W,
-    outgoing: &mut Outgoing,
-    service: &mut S,
-) -> Handled
-    requires few { count < request_limit }
-    requires within { size ≤ length held.now }
-    requires sound { outgoing.old.failed ≡ false }
-    requires room { length outgoing.old.bytes < outgoing_room }
-    ensures { Messages S.answers count service.old held.now size
-        (record { sink = W.taken writer.old; waiting = outgoing.old })
-        (record { sink = W.taken writer.new; waiting = outgoing.new })
-        service.new result }
-{
-    let (head, after) = held.split_at(size);
-    match read_head(head) {
-        Ok(request) if request.length <= after.len() => {
-            let (body, _) = after.split_at(request.length);
-            let ended = answer_request(&request, body, count, routes, writer, outgoing, service);
-            Handled::Over(ended, size + request.length)
-        }
-        Ok(request) => Handled::Short(request.length, is_head(request.method)),
-        Err(refusal) => Handled::Over(end_refused(writer, outgoing, refusal), size),
-    }
-}
-
-/// Refuses what stands in a request's place, and ends.
-fn end_refused<W: Sink>(writer: &mut W, outgoing: &mut Outgoing, refusal: Refusal) -> Option<Ended>
-    requires room { length outgoing.old.bytes < outgoing_room }
-    ensures put { Puts 0
-        (record { sink = W.taken writer.old; waiting = outgoing.old })
-        (record { sink = W.taken writer.new; waiting = outgoing.new })
-        (refusal_text refusal) }
-    ensures ends { result ≡ or_fault outgoing.new.failed (Some (end.Refused (status_of refusal))) }
-{
-    refuse(writer, outgoing, refusal);
-    or_fault(outgoing, Some(Ended::Refused(refusal.status())))
 }
 
 /// Goes on with what was found, unless a write fails; then a byte more finds room.
@@ -160,62 +51,96 @@ fn go_on<W: Sink>(writer: &mut W, outgoing: &mut Outgoing, found: Gathered) -> O
 /// Finds the next head in what is held, or reads until it is whole, or none can be, and says in how many reads. What waits
 /// for the writer leaves before a read, which may wait for the client. None where a write fails.
 fn next_head<R: Source, W: Sink>(
+    connection: &mut Connection,
     reader: &mut R,
-    incoming: &mut Incoming,
     writer: &mut W,
-    outgoing: &mut Outgoing,
 ) -> (Option<Gathered>, u32)
-    ensures holds { AwaitsHead result.0 result.1 (R.given reader.old) (R.given reader.new) incoming.old incoming.new }
-    ensures found { IfSome result.0 (λ g. IsGathered incoming.new g) }
+    ensures holds { AwaitsHead result.0 result.1 (R.given reader.old) (R.given reader.new) connection.old.incoming connection.new.incoming }
+    ensures found { IfSome result.0 (λ g. IsGathered connection.new.incoming g) }
     ensures flushed { Puts 0
-        (record { sink = W.taken writer.old; waiting = outgoing.old })
-        (record { sink = W.taken writer.new; waiting = outgoing.new })
+        (record { sink = W.taken writer.old; waiting = connection.old.outgoing })
+        (record { sink = W.taken writer.new; waiting = connection.new.outgoing })
         [] }
     ensures few { result.1 ≤ read_limit }
     ensures turns { result.0 ≡ Some Gathered.Turns → result.1 ≡ read_limit }
-    ensures idle { result.0 ≡ Some Gathered.ReadFailed → outgoing.new.bytes ≡ [] }
-    ensures room { IfSome result.0 (λ g. length outgoing.new.bytes < outgoing_room) }
-    ensures sound { IfSome result.0 (λ g. outgoing.new.failed ≡ false) }
-    ensures failed { result.0 ≡ None → outgoing.new.failed ≡ true }
+    ensures idle { result.0 ≡ Some Gathered.ReadFailed → connection.new.outgoing.bytes ≡ [] }
+    ensures room { IfSome result.0 (λ g. length connection.new.outgoing.bytes < outgoing_room) }
+    ensures sound { IfSome result.0 (λ g. connection.new.outgoing.failed ≡ false) }
+    ensures failed { result.0 ≡ None → connection.new.outgoing.failed ≡ true }
 {
-    match settle(incoming) {
-        Extent::Whole(size) => (go_on(writer, outgoing, Gathered::Head(size)), 0),
-        Extent::Large => (go_on(writer, outgoing, Gathered::Large), 0),
+    match settle(&mut connection.incoming) {
+        Extent::Whole(size) => (
+            go_on(writer, &mut connection.outgoing, Gathered::Head(size)),
+            0,
+        ),
+        Extent::Large => (go_on(writer, &mut connection.outgoing, Gathered::Large), 0),
         Extent::Part => {
-            outgoing.flush(writer);
-            if outgoing.has_failed() {
+            connection.outgoing.flush(writer);
+            if connection.outgoing.has_failed() {
                 return (None, 0);
             }
-            let (found, count) = gather(reader, incoming, outgoing);
+            let (found, count) = gather(reader, &mut connection.incoming, &connection.outgoing);
             (Some(found), count)
         }
     }
 }
 
-/// Reads the body of so many bytes that follows a head, and answers the message. So many reads were made for the head.
-fn serve_body<R: Source, W: Sink, S: Service>(
-    wanted: WantedBody,
-    used: u32,
+/// Answers the message at the front of what is held, whose head has so many bytes, or refuses its head, and drops it, unless
+/// its body is not whole.
+fn answer_held<W: Sink, S: Service>(
+    connection: &mut Connection,
+    size: usize,
     count: u32,
-    routes: &Routes,
-    reader: &mut R,
-    incoming: &mut Incoming,
     writer: &mut W,
-    outgoing: &mut Outgoing,
+    service: &mut S,
+) -> Handled
+    requires few { count < request_limit }
+    requires within { size ≤ length connection.old.incoming }
+    requires sound { connection.old.outgoing.failed ≡ false }
+    requires room { length connection.old.outgoing.bytes < outgoing_room }
+    ensures message { Messages S.answers count service.old connection.old.incoming size
+        (record { sink = W.taken writer.old; waiting = connection.old.outgoing })
+        (record { sink = W.taken writer.new; waiting = connection.new.outgoing })
+        service.new result }
+    ensures left { connection.new.incoming ≡ left_by result connection.old.incoming }
+{
+    let handled = answer_message(
+        connection.incoming.as_slice(),
+        size,
+        count,
+        &connection.routes,
+        writer,
+        &mut connection.outgoing,
+        service,
+    );
+    if let Handled::Over(_, total) = handled {
+        connection.incoming.drop_front(total);
+    }
+    handled
+}
+
+/// Reads the body of so many bytes that follows a head, and answers the message.
+fn serve_body<R: Source, W: Sink, S: Service>(
+    connection: &mut Connection,
+    wanted: WantedBody,
+    turn: Turn,
+    reader: &mut R,
+    writer: &mut W,
     service: &mut S,
 ) -> Option<Ended>
-    requires few { count < request_limit }
-    requires used { used ≤ read_limit }
-    requires sound { outgoing.old.failed ≡ false }
-    requires head { IsGathered incoming.old (Gathered.Head wanted.size) }
-    requires body { WantsBody incoming.old wanted.size wanted.length wanted.head_only }
-    ensures { Turned S.answers used count service.old (R.given reader.old) (R.given reader.new) incoming.old incoming.new
-        (record { sink = W.taken writer.old; waiting = outgoing.old })
-        (record { sink = W.taken writer.new; waiting = outgoing.new })
+    requires few { turn.count < request_limit }
+    requires used { turn.used ≤ read_limit }
+    requires sound { connection.old.outgoing.failed ≡ false }
+    requires head { IsGathered connection.old.incoming (Gathered.Head wanted.size) }
+    requires body { WantsBody connection.old.incoming wanted.size wanted.length wanted.head_only }
+    ensures { Turned S.answers turn.used turn.count service.old (R.given reader.old) (R.given reader.new)
+        connection.old.incoming connection.new.incoming
+        (record { sink = W.taken writer.old; waiting = connection.old.outgoing })
+        (record { sink = W.taken writer.new; waiting = connection.new.outgoing })
         service.new result }
 {
-    outgoing.flush(writer);
-    if outgoing.has_failed() {
+    connection.outgoing.flush(writer);
+    if connection.outgoing.has_failed() {
         return Some(Ended::WriteFault);
     }
     let WantedBody {
@@ -223,104 +148,93 @@ fn serve_body<R: Source, W: Sink, S: Service>(
         length,
         head_only,
     } = wanted;
-    let (found, _) = gather_body(reader, incoming, outgoing, size + length, used);
+    let (found, _) = gather_body(
+        reader,
+        &mut connection.incoming,
+        &connection.outgoing,
+        size + length,
+        turn.used,
+    );
     match found {
         BodyGathered::Whole => {}
-        BodyGathered::Cut => return end_refused(writer, outgoing, Refusal::Incomplete(head_only)),
+        BodyGathered::Cut => {
+            let refusal = Refusal::Incomplete(head_only);
+            return end_refused(writer, &mut connection.outgoing, refusal);
+        }
         BodyGathered::ReadFailed => return Some(Ended::ReadFault),
         BodyGathered::Turns => return Some(Ended::Turns),
     }
-    match answer_message(
-        incoming.as_slice(),
-        size,
-        count,
-        routes,
-        writer,
-        outgoing,
-        service,
-    ) {
-        Handled::Over(ended, total) => {
-            incoming.drop_front(total);
-            ended
-        }
+    match answer_held(connection, size, turn.count, writer, service) {
+        Handled::Over(ended, _) => ended,
         // The same head says the same length, so the body is whole.
         Handled::Short(..) => Some(Ended::Turns),
     }
 }
 
-/// Answers the message that begins with a head of so many bytes, for which so many reads were made.
+/// Answers the message that begins with a head of so many bytes.
 fn serve_message<R: Source, W: Sink, S: Service>(
+    connection: &mut Connection,
     size: usize,
-    used: u32,
-    count: u32,
-    routes: &Routes,
+    turn: Turn,
     reader: &mut R,
-    incoming: &mut Incoming,
     writer: &mut W,
-    outgoing: &mut Outgoing,
     service: &mut S,
 ) -> Option<Ended>
-    requires few { count < request_limit }
-    requires used { used ≤ read_limit }
-    requires sound { outgoing.old.failed ≡ false }
-    requires room { length outgoing.old.bytes < outgoing_room }
-    requires head { IsGathered incoming.old (Gathered.Head size) }
-    ensures { Turned S.answers used count service.old (R.given reader.old) (R.given reader.new) incoming.old incoming.new
-        (record { sink = W.taken writer.old; waiting = outgoing.old })
-        (record { sink = W.taken writer.new; waiting = outgoing.new })
+    requires few { turn.count < request_limit }
+    requires used { turn.used ≤ read_limit }
+    requires sound { connection.old.outgoing.failed ≡ false }
+    requires room { length connection.old.outgoing.bytes < outgoing_room }
+    requires head { IsGathered connection.old.incoming (Gathered.Head size) }
+    ensures { Turned S.answers turn.used turn.count service.old (R.given reader.old) (R.given reader.new)
+        connection.old.incoming connection.new.incoming
+        (record { sink = W.taken writer.old; waiting = connection.old.outgoing })
+        (record { sink = W.taken writer.new; waiting = connection.new.outgoing })
         service.new result }
 {
-    match answer_message(
-        incoming.as_slice(),
-        size,
-        count,
-        routes,
-        writer,
-        outgoing,
-        service,
-    ) {
-        Handled::Over(ended, total) => {
-            incoming.drop_front(total);
-            ended
-        }
+    match answer_held(connection, size, turn.count, writer, service) {
+        Handled::Over(ended, _) => ended,
         Handled::Short(length, head_only) => {
             let wanted = WantedBody {
                 size,
                 length,
                 head_only,
             };
-            serve_body(
-                wanted, used, count, routes, reader, incoming, writer, outgoing, service,
-            )
+            serve_body(connection, wanted, turn, reader, writer, service)
         }
     }
 }
 
 /// Reads one request and answers it, and says how the connection ends, if it does.
 pub fn serve_one<R: Source, W: Sink, S: Service>(
+    connection: &mut Connection,
     count: u32,
-    routes: &Routes,
     reader: &mut R,
-    incoming: &mut Incoming,
     writer: &mut W,
-    outgoing: &mut Outgoing,
     service: &mut S,
 ) -> Option<Ended>
     requires few { count < request_limit }
-    requires sound { outgoing.old.failed ≡ false }
-    ensures { Turned S.answers 0 count service.old (R.given reader.old) (R.given reader.new) incoming.old incoming.new
-        (record { sink = W.taken writer.old; waiting = outgoing.old })
-        (record { sink = W.taken writer.new; waiting = outgoing.new })
+    requires sound { connection.old.outgoing.failed ≡ false }
+    ensures { Turned S.answers 0 count service.old (R.given reader.old) (R.given reader.new)
+        connection.old.incoming connection.new.incoming
+        (record { sink = W.taken writer.old; waiting = connection.old.outgoing })
+        (record { sink = W.taken writer.new; waiting = connection.new.outgoing })
         service.new result }
 {
-    let (found, used) = next_head(reader, incoming, writer, outgoing);
+    let (found, used) = next_head(connection, reader, writer);
     match found {
         Some(found) => match found {
-            Gathered::Head(size) => serve_message(
-                size, used, count, routes, reader, incoming, writer, outgoing, service,
+            Gathered::Head(size) => {
+                let turn = Turn { count, used };
+                serve_message(connection, size, turn, reader, writer, service)
+            }
+            Gathered::Large => {
+                end_refused(writer, &mut connection.outgoing, Refusal::HeadTooLarge)
+            }
+            Gathered::Incomplete => end_refused(
+                writer,
+                &mut connection.outgoing,
+                Refusal::Incomplete(false),
             ),
-            Gathered::Large => end_refused(writer, outgoing, Refusal::HeadTooLarge),
-            Gathered::Incomplete => end_refused(writer, outgoing, Refusal::Incomplete(false)),
             Gathered::Closed => Some(Ended::Closed),
             Gathered::ReadFailed => Some(Ended::ReadFault),
             Gathered::Turns => Some(Ended::Turns),

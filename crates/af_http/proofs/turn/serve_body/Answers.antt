@@ -10,14 +10,14 @@ use Rattle.af_http.proofs.turn.serve_body.Goals as goal
 
 pub returns-then-has_failed : goal.returns-then-has_failed
 returns-then-has_failed g c =
-    inr (write_stops c.args.used _ _ c.args.incoming.now _ _ c.requires.used refl c.flush.ensures.sent (sym c.has_failed.ensures ∙ c.if-has_failed.true), refl)
+    inr (write_stops c.args.turn.used _ _ c.args.connection.now.incoming _ _ c.requires.used refl c.flush.ensures.sent (sym c.has_failed.ensures ∙ c.if-has_failed.true), refl)
 
 pub returns-in-Cut : goal.returns-in-Cut
 returns-in-Cut g c =
     let h = c.gather_body-found.ensures in
     let w = c.args.wanted in
     inr (
-      body_stops c.args.used _ _ c.args.incoming.now c.gather_body-found.new.incoming _ _ _ w.size w.length c.gather_body-found.result.1 w.head_only body.Cut true
+      body_stops c.args.turn.used _ _ c.args.connection.now.incoming c.gather_body-found.new.incoming _ _ _ w.size w.length c.gather_body-found.result.1 w.head_only body.Cut true
           (refusal_text (Incomplete w.head_only)) (end.Refused (status_of (Incomplete w.head_only))) c.end_refused.result
           h.came c.requires.head c.requires.body (rw c.in-Cut.is at h.found) (rw c.in-Cut.is at h.took) h.few refl refl
           (λ text cut. (Incomplete w.head_only, inr (inr (inr (w.head_only, cut, refl))), refl, refl, refl)) c.flush.ensures.sent c.end_refused.ensures.put c.end_refused.ensures.ends (λ e. cc),
@@ -30,7 +30,7 @@ returns-in-ReadFailed g c =
     let w = c.args.wanted in
     let sound = sym c.has_failed.ensures ∙ c.if-has_failed.false in
     inr (
-      body_stops c.args.used _ _ c.args.incoming.now c.gather_body-found.new.incoming _ _ _ w.size w.length c.gather_body-found.result.1 w.head_only body.ReadFailed false
+      body_stops c.args.turn.used _ _ c.args.connection.now.incoming c.gather_body-found.new.incoming _ _ _ w.size w.length c.gather_body-found.result.1 w.head_only body.ReadFailed false
           [] end.ReadFault (Some end.ReadFault)
           h.came c.requires.head c.requires.body (rw c.in-ReadFailed.is at h.found) (rw c.in-ReadFailed.is at h.took) h.few refl refl
           (λ text cut. (inr (inr (w.head_only, cut)), refl, refl, c.flush.ensures.none_waits sound, sound)) c.flush.ensures.sent (put_nothing _) (or_fine _ _ sound) (λ e. cc),
@@ -43,7 +43,7 @@ returns-in-Turns g c =
     let w = c.args.wanted in
     let sound = sym c.has_failed.ensures ∙ c.if-has_failed.false in
     inr (
-      body_stops c.args.used _ _ c.args.incoming.now c.gather_body-found.new.incoming _ _ _ w.size w.length c.gather_body-found.result.1 w.head_only body.Turns false
+      body_stops c.args.turn.used _ _ c.args.connection.now.incoming c.gather_body-found.new.incoming _ _ _ w.size w.length c.gather_body-found.result.1 w.head_only body.Turns false
           [] end.Turns (Some end.Turns)
           h.came c.requires.head c.requires.body (rw c.in-Turns.is at h.found) (rw c.in-Turns.is at h.took) h.few refl refl
           (λ text cut. (inr (inr (w.head_only, cut)), refl, refl)) c.flush.ensures.sent (put_nothing _) (or_fine _ _ sound) (λ e. h.turns c.in-Turns.is),
@@ -55,16 +55,16 @@ returns-in-Over g c =
     let h = c.gather_body-found.ensures in
     let w = c.args.wanted in
     let sound = sym c.has_failed.ensures ∙ c.if-has_failed.false in
-    let awaits = body_awaits c.args.used _ _ c.args.incoming.now c.gather_body-found.new.incoming h.came.0 w.size w.length c.gather_body-found.result.1 w.head_only
+    let awaits = body_awaits c.args.turn.used _ _ c.args.connection.now.incoming c.gather_body-found.new.incoming h.came.0 w.size w.length c.gather_body-found.result.1 w.head_only
     h.came.1 c.requires.head c.requires.body (rw c.in-Whole.is at h.took) h.few in
-    rw c.drop_front.ensures (
-    message_turn g.S.Service.answers c.args.used c.args.count c.args.service.now _ _ c.args.incoming.now h.came.0 c.gather_body-found.new.incoming _ _ _ c.answer_message.new.service
-    w.size c.in-Over.total c.in-Over.ended c.requires.head h.came.1.kept awaits c.flush.ensures.sent sound (rw c.as_slice.ensures at c.in-Over.ensures)
+    rw c.in-Over.ensures.left (
+    message_turn g.S.Service.answers c.args.turn.used c.args.turn.count c.args.service.now _ _ c.args.connection.now.incoming h.came.0 c.gather_body-found.new.incoming _ _ _ c.answer_held.new.service
+    w.size c.in-Over.field-1 c.in-Over.ended c.requires.head h.came.1.kept awaits c.flush.ensures.sent sound c.in-Over.ensures.message
     )
 
 pub returns-in-Short : goal.returns-in-Short
 returns-in-Short g c =
     let h = c.gather_body-found.ensures in
     let w = c.args.wanted in
-    absurd (never_short g.S.Service.answers c.args.count c.args.service.now c.args.incoming.now h.came.0 c.gather_body-found.new.incoming _ _ c.answer_message.new.service
-    w.size w.length c.in-Short.field-0 w.head_only c.in-Short.field-1 c.requires.head h.came.1.kept c.requires.body (rw c.in-Whole.is at h.found) (rw c.as_slice.ensures at c.in-Short.ensures))
+    absurd (never_short g.S.Service.answers c.args.turn.count c.args.service.now c.args.connection.now.incoming h.came.0 c.gather_body-found.new.incoming _ _ c.answer_held.new.service
+    w.size w.length c.in-Short.field-0 w.head_only c.in-Short.field-1 c.requires.head h.came.1.kept c.requires.body (rw c.in-Whole.is at h.found) c.in-Short.ensures.message)

@@ -6,9 +6,9 @@ use Rattle.af_http.proofs.turn.serve_message.Goals as goal
 
 pub returns-in-Over : goal.returns-in-Over
 returns-in-Over g c =
-    let held = c.args.incoming.now in
-    rw c.drop_front.ensures (
-    message_turn g.S.Service.answers c.args.used c.args.count c.args.service.now _ _ held [] held _ _ _ c.answer_message.new.service
-    c.args.size c.in-Over.total c.in-Over.ended c.requires.head (sym (append-nil held)) (awaits_none c.args.used _ held c.requires.used) (put_nothing _) c.requires.sound
-    (rw c.as_slice.ensures at c.in-Over.ensures)
+    let held = c.args.connection.now.incoming in
+    rw c.in-Over.ensures.left (
+    message_turn g.S.Service.answers c.args.turn.used c.args.turn.count c.args.service.now _ _ held [] held _ _ _ c.answer_held.new.service
+    c.args.size c.in-Over.field-1 c.in-Over.ended c.requires.head (sym (append-nil held)) (awaits_none c.args.turn.used _ held c.requires.used) (put_nothing _) c.requires.sound
+    c.in-Over.ensures.message
     )

@@ -2,7 +2,7 @@ use Rattle.std.proofs.Common.{◌∙◌, inl, inr, refl, [], sym, ap, subst, Lis
 use Rattle.af_http.specs.Requests.{Asked, asked_by, is_head}
 use Rattle.af_http.specs.Reading.{Parses, IsUnread}
 use Rattle.af_http.proofs.LengthLemmas.{unread_early}
-use Rattle.af_http.proofs.turn.answer_message.Goals as goal
+use Rattle.af_http.proofs.message.answer_message.Goals as goal
 
 pub returns-in-Ok : goal.returns-in-Ok
 returns-in-Ok g c =

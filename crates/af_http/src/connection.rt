@@ -1,0 +1,30 @@
+ghost use Rattle.std.specs.Prelude.{◌≡◌, [], false, IfOk};
+
+use crate::incoming::Incoming;
+use crate::outgoing::Outgoing;
+use crate::routes::Routes;
+use std::alloc::{AllocError, Global};
+
+/// What a connection keeps from its opening on, beside its reader and its writer, which each call is lent.
+#[derive(Drop)]
+pub struct Connection {
+    /// The table of paths.
+    pub routes: Routes,
+    /// What came and was not used yet.
+    pub incoming: Incoming,
+    /// What waits for the writer.
+    pub outgoing: Outgoing,
+}
+
+impl Connection {
+    /// Takes all its memory. Nothing came, and nothing waits.
+    pub fn open(alloc: Global) -> Result<Connection, AllocError>
+        ensures { IfOk result (λ c. (c.incoming ≡ []) × (c.outgoing.bytes ≡ []) × (c.outgoing.failed ≡ false)) }
+    {
+        Ok(Connection {
+            routes: Routes::new(alloc)?,
+            incoming: Incoming::new(alloc)?,
+            outgoing: Outgoing::new(alloc)?,
+        })
+    }
+}
