@@ -119,7 +119,7 @@ fn agrees(
     if key % 16 == 0 {
         same = same && are_busy(runs, plain);
     }
-    let number = key + 1;
+    let number = key.saturating_add(1);
     let place = (key % 500) as usize;
     let mut busy = plain.iter().filter(|row| row.is_busy());
     let count = plain.iter().filter(|row| row.is_busy()).count();
