@@ -7,10 +7,13 @@ ghost use Rattle.af_role.specs.Pairs.{on_dag, on_kind};
 ghost use Rattle.af_policy.specs.Rows.{NamesAscend, has_role, has_roles, role_names, with_role, without_role};
 ghost use Rattle.af_policy.specs.Grants.{role_lists, some_role_lists};
 ghost use Rattle.af_policy.specs.Changes.{unknown_role, unknown_row};
-ghost use Rattle.af_policy.specs.Tables.{pairs_of};
+ghost use Rattle.af_role.specs.Pairs.{with_pairs};
+ghost use Rattle.af_policy.specs.Shown.{page_rows};
+ghost use Rattle.af_policy.specs.Tables.{found_role, listed_of, pairs_of, permissions_of};
 
 use crate::role_rows::RoleByName;
 use crate::shared::Table;
+use crate::{Page, RoleShown, Span};
 use af_names::{DagId, RoleName};
 use af_role::{AccessControl, AccessRow, Action, Permissions, ResourceKind, Role};
 use std::alloc::{AllocError, Global};
@@ -108,6 +111,56 @@ impl RoleTable {
         }
     }
 
+    /// The role of a name.
+    pub(crate) fn role(&self, name: &RoleName) -> Option<&Role>
+        ensures { option_copied result ≡ found_role self.now name.now }
+    {
+        match self.by_name.get(name.as_str().as_bytes()) {
+            Some(row) => Some(row.role()),
+            None => None,
+        }
+    }
+
+    /// The roles of a span.
+    #[tactic(auto, using(crate::proofs::ShownLemmas::page_of_front))]
+    pub(crate) fn page(&self, alloc: Global, span: Span) -> Result<Page<RoleShown<'_>>, AllocError>
+        ensures { IfOk result (λ page. page ≡ record { rows = page_rows span self.now; total = length self.now }) }
+    {
+        let front = self.by_name.front(alloc, span.end())?;
+        let rows = each_shown(alloc, span.past(front.as_slice()))?;
+        Ok(Page::new(rows, self.len()))
+    }
+
+    /// The permissions of the roles of these names, each once, in the order in which permissions are shown.
+    pub(crate) fn permissions_of(
+        &self,
+        alloc: Global,
+        names: &[RoleName],
+    ) -> Result<Permissions, AllocError>
+        ensures { IfOk result (λ permissions. permissions ≡ permissions_of self.now names.now) }
+    {
+        let mut all = Permissions::new(alloc);
+        for name in names {
+            self.add_permissions(alloc, name, &mut all)?;
+        }
+        Ok(all)
+    }
+
+    /// Adds the permissions of the role of a name, if there is one.
+    fn add_permissions(
+        &self,
+        alloc: Global,
+        name: &RoleName,
+        all: &mut Permissions,
+    ) -> Result<(), AllocError>
+        ensures { OnOk result (all.new ≡ with_pairs all.old (listed_of self.now name.now)) }
+    {
+        match self.get(name) {
+            Some(permissions) => all.add_all(alloc, permissions),
+            None => Ok(()),
+        }
+    }
+
     /// Whether there is a role of that name.
     pub(crate) fn has(&self, name: &RoleName) -> bool
         ensures { result ≡ has_role self.now name.now }
@@ -195,6 +248,15 @@ impl RoleTable {
     {
         self.by_name.facts();
     }
+}
+
+/// Roles as they are shown.
+fn each_shown<'a>(alloc: Global, rows: &[&'a RoleByName]) -> Result<Vec<RoleShown<'a>>, AllocError>
+    ensures { IfOk result (λ shown. shown.items ≡ seen rows.now) }
+{
+    rows.iter()
+        .map(|row| RoleShown::new(row.role()))
+        .collect(alloc)
 }
 
 /// The roles after a DAG's access control is taken over.
