@@ -13,3 +13,4 @@ pub mod GrantLemmas
 pub mod VersionLemmas
 pub mod ShownLemmas
 pub mod LawLemmas
+pub mod TouchLemmas

@@ -46,8 +46,9 @@ pub use change_fault::ChangeFault;
 pub use change_kind::ChangeKind;
 pub use draft::{NoAdmin, PolicyDraft};
 pub use laws::{
-    grants_by_roles, only_users_are_granted, some_admin_stays, sync_keeps_the_rest,
-    sync_lists_exactly, used_roles_stay,
+    default_roles_stay, grants_by_roles, lack_decides, nothing_is_doubled, one_role_is_touched,
+    one_user_is_touched, only_users_are_granted, removed_token_is_nobodys, some_admin_stays,
+    sync_keeps_the_rest, sync_lists_exactly, used_roles_stay,
 };
 pub use me::Me;
 pub use me_fault::MeFault;
