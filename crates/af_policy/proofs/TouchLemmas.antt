@@ -1,5 +1,5 @@
 -- What a change leaves as it is, and who may make it.
-use Rattle.std.proofs.Common.{◌≡◌, ℕ, List, [], Bool, true, false, not, ◌||◌, nat_le, cond, length, Option, Some, None, Result, Ok, Err, refl, sym, ap, ◌∙◌}
+use Rattle.std.proofs.Common.{◌≡◌, ℕ, List, [], false, not, ◌||◌, nat_le, cond, length, Option, Some, None, Result, Ok, Err, refl, sym, ap, ◌∙◌}
 use Rattle.std.specs.Cmp.Lexicographic.{bytes_decides, nat_list_eq_equiv}
 use Rattle.sha2.specs.Sha256.{sha256}
 use Rattle.af_role.specs.declared.need.Need.{Need}
@@ -21,7 +21,7 @@ use Rattle.af_policy.specs.Grants.{missing}
 use Rattle.af_policy.specs.Versions.{asked_by, asked_kind, unless_lacked}
 use Rattle.af_policy.specs.Laws.{DefaultRolesStay, LackDecides, NothingIsDoubled, OneRoleIsTouched, OneUserIsTouched, RemovedTokenIsNobodys}
 use Rattle.af_policy.proofs.FoundLemmas.{found_with, found_without}
-use Rattle.af_policy.proofs.LawLemmas.{not-false, okay, unless}
+use Rattle.af_policy.proofs.LawLemmas.{okay, unless}
 use Rattle.af_policy.proofs.RemovalLemmas.{digest_user-without_user}
 use Rattle.af_policy.proofs.UserLemmas.{or-false_left, or-false_right}
 

@@ -1,6 +1,6 @@
 -- What a user is shown of a policy: who the user is and what the user has, and roles and users (Airflow 2, "Stable REST
 -- API", roles and users; who am I, and the order in which answers are decided, are this product's own rule).
-use Rattle.std.specs.Prelude.{◌≡◌, ◌⊎◌, ℕ, List, [], ◌∷◌, length, map, IsOk, Option, Some, None, Result, Ok, Err}
+use Rattle.std.specs.Prelude.{◌≡◌, ◌⊎◌, ℕ, List, [], length, map, IsOk, Option, Some, None, Result, Ok, Err}
 use Rattle.af_role.specs.declared.action.Action.TheVariants.{Read}
 use Rattle.af_role.specs.declared.resource.ResourceKind.TheVariants as resource
 use Rattle.af_role.specs.declared.need.Need.{Need}
@@ -14,7 +14,6 @@ use Rattle.af_policy.specs.Shown.{page_rows, shown_user}
 use Rattle.af_policy.specs.declared.me.Me.{Me}
 use Rattle.af_policy.specs.declared.me_fault.MeFault.{MeFault}
 use Rattle.af_policy.specs.declared.me_fault.MeFault.TheVariants as unknown
-use Rattle.af_policy.specs.declared.span.Span.{Span}
 use Rattle.af_policy.specs.declared.policy_read.PolicyRead.{PolicyRead}
 use Rattle.af_policy.specs.declared.policy_read.PolicyRead.TheVariants.{Roles, Role, Users, User, Bad}
 use Rattle.af_policy.specs.declared.read_kind.ReadKind.{ReadKind}

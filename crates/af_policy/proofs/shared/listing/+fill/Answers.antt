@@ -1,4 +1,4 @@
-use Rattle.std.proofs.Common.{◌≡◌, ◌∙◌, ap, refl}
+use Rattle.std.proofs.Common.{◌∙◌, ap, refl}
 use Rattle.af_policy.specs.SharedRows.{seen}
 use Rattle.af_policy.proofs.ShownLemmas.{part_some, part_none, parts_filled}
 use Rattle.af_policy.proofs.shared.listing.+fill.Goals as goal
