@@ -1,7 +1,10 @@
-ghost use Rattle.std.specs.Prelude.{◌≡◌};
+ghost use Rattle.std.specs.Prelude.{◌≡◌, IfOk};
+ghost use Rattle.af_policy.specs.SharedRows.{seen};
 
+use crate::role_rows::RoleByName;
 use af_names::RoleName;
 use af_role::{Permissions, Role};
+use std::alloc::{AllocError, Global};
 use std::marker::Model;
 
 /// A role as it is shown. Contracts see it as the role.
@@ -39,4 +42,16 @@ impl<'a> RoleShown<'a> {
     {
         self.role.permissions()
     }
+}
+
+/// Roles as they are shown.
+pub(crate) fn roles_shown<'a>(
+    alloc: Global,
+    rows: &[&'a RoleByName],
+) -> Result<Vec<RoleShown<'a>>, AllocError>
+    ensures { IfOk result (λ shown. shown.items ≡ seen rows.now) }
+{
+    rows.iter()
+        .map(|row| RoleShown::new(row.role()))
+        .collect(alloc)
 }

@@ -12,6 +12,7 @@ ghost use Rattle.af_policy.specs.Shown.{page_rows};
 ghost use Rattle.af_policy.specs.Tables.{found_role, listed_of, pairs_of, permissions_of};
 
 use crate::role_rows::RoleByName;
+use crate::role_shown::roles_shown;
 use crate::shared::Table;
 use crate::{Page, RoleShown, Span};
 use af_names::{DagId, RoleName};
@@ -127,7 +128,7 @@ impl RoleTable {
         ensures { IfOk result (λ page. page ≡ record { rows = page_rows span self.now; total = length self.now }) }
     {
         let front = self.by_name.front(alloc, span.end())?;
-        let rows = each_shown(alloc, span.past(front.as_slice()))?;
+        let rows = roles_shown(alloc, span.past(front.as_slice()))?;
         Ok(Page::new(rows, self.len()))
     }
 
@@ -248,15 +249,6 @@ impl RoleTable {
     {
         self.by_name.facts();
     }
-}
-
-/// Roles as they are shown.
-fn each_shown<'a>(alloc: Global, rows: &[&'a RoleByName]) -> Result<Vec<RoleShown<'a>>, AllocError>
-    ensures { IfOk result (λ shown. shown.items ≡ seen rows.now) }
-{
-    rows.iter()
-        .map(|row| RoleShown::new(row.role()))
-        .collect(alloc)
 }
 
 /// The roles after a DAG's access control is taken over.
