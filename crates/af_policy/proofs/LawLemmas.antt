@@ -113,15 +113,15 @@ sync-keeps_the_rest dag access role pair other has =
 
 -- ---- changes
 
-unless : {A F : Type 0} (b : Bool) (fault : F) (comes : Result A F) (later : A) → cond b (Err fault) comes ≡ Ok later → (b ≡ false) × (comes ≡ Ok later)
+pub unless : {A F : Type 0} (b : Bool) (fault : F) (comes : Result A F) (later : A) → cond b (Err fault) comes ≡ Ok later → (b ≡ false) × (comes ≡ Ok later)
 unless true fault comes later e = cc
 unless false fault comes later e = (refl, e)
 
-not-false : (b : Bool) → not b ≡ false → b ≡ true
+pub not-false : (b : Bool) → not b ≡ false → b ≡ true
 not-false true e = refl
 not-false false e = cc
 
-abbrev okay : PolicyRows → Result PolicyRows ChangeFault
+abbrev pub okay : PolicyRows → Result PolicyRows ChangeFault
 okay policy = Ok policy
 
 module _ (policy later : PolicyRows) (admin : has_admin policy.users ≡ true) where

@@ -11,4 +11,6 @@ pub mod ChangeLemmas
 pub mod SyncLemmas
 pub mod GrantLemmas
 pub mod VersionLemmas
+pub mod ShownLemmas
 pub mod LawLemmas
+pub mod TouchLemmas

@@ -10,17 +10,29 @@ mod changing;
 mod draft;
 mod identity;
 mod laws;
+mod me;
+mod me_fault;
+mod page;
 mod policy;
+mod policy_read;
+mod policy_reply;
+mod read_fault;
+mod read_kind;
 mod reader;
+mod reading;
 mod role_names;
 mod role_rows;
+mod role_shown;
 mod role_table;
 mod row_fault;
 mod shared;
+mod span;
 mod submit_fault;
 mod tables;
+mod told;
 mod user;
 mod user_rows;
+mod user_shown;
 mod user_table;
 mod uses;
 mod versions;
@@ -34,15 +46,27 @@ pub use change_fault::ChangeFault;
 pub use change_kind::ChangeKind;
 pub use draft::{NoAdmin, PolicyDraft};
 pub use laws::{
-    grants_by_roles, only_users_are_granted, some_admin_stays, sync_keeps_the_rest,
-    sync_lists_exactly, used_roles_stay,
+    default_roles_stay, grants_by_roles, lack_decides, nothing_is_doubled, one_role_is_touched,
+    one_user_is_touched, only_users_are_granted, removed_token_is_nobodys, some_admin_stays,
+    sync_keeps_the_rest, sync_lists_exactly, used_roles_stay,
 };
+pub use me::Me;
+pub use me_fault::MeFault;
+pub use page::Page;
 pub use policy::Policy;
+pub use policy_read::PolicyRead;
+pub use policy_reply::PolicyReply;
+pub use read_fault::ReadFault;
+pub use read_kind::ReadKind;
 pub use reader::Reader;
 pub use role_names::RoleNames;
+pub use role_shown::RoleShown;
 pub use row_fault::RowFault;
+pub use span::Span;
 pub use submit_fault::SubmitFault;
+pub use told::Told;
 pub use user::User;
+pub use user_shown::UserShown;
 pub use versions::Versions;
 pub use view::PolicyView;
 pub use worked::{

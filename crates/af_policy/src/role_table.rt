@@ -7,10 +7,14 @@ ghost use Rattle.af_role.specs.Pairs.{on_dag, on_kind};
 ghost use Rattle.af_policy.specs.Rows.{NamesAscend, has_role, has_roles, role_names, with_role, without_role};
 ghost use Rattle.af_policy.specs.Grants.{role_lists, some_role_lists};
 ghost use Rattle.af_policy.specs.Changes.{unknown_role, unknown_row};
-ghost use Rattle.af_policy.specs.Tables.{pairs_of};
+ghost use Rattle.af_role.specs.Pairs.{with_pairs};
+ghost use Rattle.af_policy.specs.Shown.{page_rows};
+ghost use Rattle.af_policy.specs.Tables.{found_role, listed_of, pairs_of, permissions_of};
 
 use crate::role_rows::RoleByName;
+use crate::role_shown::roles_shown;
 use crate::shared::Table;
+use crate::{Page, RoleShown, Span};
 use af_names::{DagId, RoleName};
 use af_role::{AccessControl, AccessRow, Action, Permissions, ResourceKind, Role};
 use std::alloc::{AllocError, Global};
@@ -105,6 +109,56 @@ impl RoleTable {
         match self.by_name.get(name.as_str().as_bytes()) {
             Some(row) => Some(row.permissions()),
             None => None,
+        }
+    }
+
+    /// The role of a name.
+    pub(crate) fn role(&self, name: &RoleName) -> Option<&Role>
+        ensures { option_copied result ≡ found_role self.now name.now }
+    {
+        match self.by_name.get(name.as_str().as_bytes()) {
+            Some(row) => Some(row.role()),
+            None => None,
+        }
+    }
+
+    /// The roles of a span.
+    #[tactic(auto, using(crate::proofs::ShownLemmas::page_of_front))]
+    pub(crate) fn page(&self, alloc: Global, span: Span) -> Result<Page<RoleShown<'_>>, AllocError>
+        ensures { IfOk result (λ page. page ≡ record { rows = page_rows span self.now; total = length self.now }) }
+    {
+        let front = self.by_name.front(alloc, span.end())?;
+        let rows = roles_shown(alloc, span.past(front.as_slice()))?;
+        Ok(Page::new(rows, self.len()))
+    }
+
+    /// The permissions of the roles of these names, each once, in the order in which permissions are shown.
+    pub(crate) fn permissions_of(
+        &self,
+        alloc: Global,
+        names: &[RoleName],
+    ) -> Result<Permissions, AllocError>
+        ensures { IfOk result (λ permissions. permissions ≡ permissions_of self.now names.now) }
+    {
+        let mut all = Permissions::new(alloc);
+        for name in names {
+            self.add_permissions(alloc, name, &mut all)?;
+        }
+        Ok(all)
+    }
+
+    /// Adds the permissions of the role of a name, if there is one.
+    fn add_permissions(
+        &self,
+        alloc: Global,
+        name: &RoleName,
+        all: &mut Permissions,
+    ) -> Result<(), AllocError>
+        ensures { OnOk result (all.new ≡ with_pairs all.old (listed_of self.now name.now)) }
+    {
+        match self.get(name) {
+            Some(permissions) => all.add_all(alloc, permissions),
+            None => Ok(()),
         }
     }
 

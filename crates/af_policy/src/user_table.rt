@@ -1,12 +1,14 @@
-ghost use Rattle.std.specs.Prelude.{◌≡◌, [], true, false, length, IfOk, OnOk, OnErr};
+ghost use Rattle.std.specs.Prelude.{◌≡◌, [], true, false, length, map, IfOk, OnOk, OnErr};
 ghost use Rattle.std.specs.Option.{option_copied};
 ghost use Rattle.af_policy.specs.Rows.{NamesAscend, digests_differ, found_user, has_digest, has_user, user_names, with_user, without_user};
 ghost use Rattle.af_policy.specs.Identity.{digest_user};
+ghost use Rattle.af_policy.specs.SharedRows.{seen};
+ghost use Rattle.af_policy.specs.Shown.{page_rows, shown_user};
 ghost use Rattle.af_policy.specs.Tables.{roles_of};
 
-use crate::User;
 use crate::shared::Table;
 use crate::user_rows::{ByDigest, ByName};
+use crate::{Page, Span, User, UserShown};
 use af_names::{RoleName, UserName};
 use std::alloc::{AllocError, Global};
 use std::marker::Model;
@@ -110,6 +112,16 @@ impl UserTable {
         }
     }
 
+    /// The users of a span.
+    #[tactic(auto, using(crate::proofs::ShownLemmas::page_of_front))]
+    pub(crate) fn page(&self, alloc: Global, span: Span) -> Result<Page<UserShown<'_>>, AllocError>
+        ensures { IfOk result (λ page. page ≡ record { rows = map shown_user (page_rows span self.now); total = length self.now }) }
+    {
+        let front = self.by_name.front(alloc, span.end())?;
+        let rows = each_shown(alloc, span.past(front.as_slice()))?;
+        Ok(Page::new(rows, self.len()))
+    }
+
     /// The table without the user of a name, if there is one.
     pub(crate) fn without(&self, alloc: Global, name: &UserName) -> Result<UserTable, AllocError>
         ensures { IfOk result (λ table. table ≡ without_user self.now name.now) }
@@ -148,4 +160,15 @@ impl UserTable {
     {
         self.by_name.facts();
     }
+}
+
+/// Users as they are shown.
+fn each_shown<'a>(alloc: Global, rows: &[&'a ByName]) -> Result<Vec<UserShown<'a>>, AllocError>
+    ensures { IfOk result (λ shown. shown.items ≡ map shown_user (seen rows.now)) }
+{
+    let mut shown = Vec::with_capacity(alloc, rows.len())?;
+    for row in rows {
+        shown.push(UserShown::new(alloc, row.user())?)?;
+    }
+    Ok(shown)
 }

@@ -1,11 +1,12 @@
 ghost use Rattle.std.specs.Prelude.{◌≡◌, ◌⊎◌, ◌<◌, [], length, slice_get, None, Some, Ok, Err, IfOk, OnOk, OnErr};
 ghost use Rattle.std.specs.Option.{option_copied};
 ghost use Rattle.af_policy.specs.Versions.{Follows, all_versions, asked_by, decided, permitted, submitted, told_as, with_version};
+ghost use Rattle.af_policy.specs.Reads.{MemoryLast, me_of, read_of};
 ghost use Rattle.af_policy.specs.Changes.{changed};
 ghost use Rattle.af_policy.specs.declared.change.Change.{Change};
 ghost use Rattle.af_policy.specs.declared.ask.Ask.TheVariants.{Made};
 
-use crate::{Ask, Policy, SubmitFault};
+use crate::{Ask, Me, MeFault, Policy, PolicyRead, PolicyReply, ReadFault, SubmitFault, Told};
 use af_names::{DagId, UserName};
 use std::alloc::{AllocError, Global};
 use std::marker::Model;
@@ -85,6 +86,33 @@ impl Versions {
         }
         self.push(policy)?;
         Ok(self.current())
+    }
+
+    /// Who brings a token, and what that user has, under the latest version.
+    pub fn me(&self, alloc: Global, token: Option<&[u8]>) -> Told<Result<Me<'_>, MeFault>>
+        ensures under { slice_get (all_versions self.now) result.version ≡ Some self.now.latest }
+        ensures told { MemoryLast MeFault.OutOfMemory (me_of self.now.latest (option_copied token.entry)) result.answer }
+    {
+        Told {
+            version: self.current(),
+            answer: self.latest.me(alloc, token),
+        }
+    }
+
+    /// What is told of roles or users to the bearer of a token, under the latest version.
+    pub fn read(
+        &self,
+        alloc: Global,
+        token: Option<&[u8]>,
+        read: &PolicyRead,
+    ) -> Told<Result<PolicyReply<'_>, ReadFault>>
+        ensures under { slice_get (all_versions self.now) result.version ≡ Some self.now.latest }
+        ensures told { MemoryLast ReadFault.OutOfMemory (read_of self.now.latest (option_copied token.entry) read.now) result.answer }
+    {
+        Told {
+            version: self.current(),
+            answer: self.latest.read(alloc, token, read),
+        }
     }
 
     /// Puts a policy behind the latest, which it follows.

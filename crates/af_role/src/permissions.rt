@@ -2,7 +2,7 @@ ghost use Rattle.std.specs.Prelude.{◌≡◌, [], length, not, IfOk, OnOk, OnEr
 ghost use Rattle.std.specs.List.{filter, list_any};
 ghost use Rattle.std.specs.Map.Iter.{ShowsInOrder, deref};
 ghost use Rattle.std.specs.List.Sorted.{IsStrictlySortedBy};
-ghost use Rattle.af_role.specs.Pairs.{PairRow, pair_cmp, on_dag, on_kind, with_pair};
+ghost use Rattle.af_role.specs.Pairs.{PairRow, pair_cmp, on_dag, on_kind, with_pair, with_pairs};
 ghost use Rattle.af_role.specs.Roles.{contains_pair};
 ghost use Rattle.af_role.specs.Access.{is_about};
 
@@ -83,6 +83,16 @@ impl Permissions {
         ensures { result ≡ list_any (is_about dag.now) self.now }
     {
         self.iter().any(|own| own.is_about(dag))
+    }
+
+    /// Adds the permissions of another set, each at its place. `AllocError` only where a growth was refused.
+    pub fn add_all(&mut self, alloc: Global, more: &Permissions) -> Result<(), AllocError>
+        ensures { OnOk result (self.new ≡ with_pairs self.old more.now) }
+    {
+        for pair in more.iter() {
+            self.add(pair.copied(alloc)?)?;
+        }
+        Ok(())
     }
 
     /// The same permissions again. `AllocError` only where a growth was refused.

@@ -1,6 +1,7 @@
-ghost use Rattle.std.specs.Prelude.{◌≡◌, ◌++◌, OnOk, map};
+ghost use Rattle.std.specs.Prelude.{◌≡◌, [], ◌∷◌, ◌++◌, OnOk, map};
 ghost use Rattle.af_policy.specs.SharedTrees.{rows};
 ghost use Rattle.af_policy.specs.SharedRows.{seen};
+ghost use Rattle.af_policy.specs.Shown.{filled};
 
 use crate::shared::Row;
 use crate::shared::node::Node;
@@ -16,6 +17,39 @@ pub(crate) fn list<'a, T: Row>(node: &'a Node<T>, into: &mut Vec<&'a T>) -> Resu
     into.push(&node.row)?;
     if let Some(right) = &node.right {
         list(right, into)?;
+    }
+    Ok(())
+}
+
+/// Lists rows of a node behind those that are listed, in the order of their keys, until so many are listed in all.
+#[tactic(auto, using(crate::proofs::ShownLemmas::filled_node, crate::proofs::ShownLemmas::filled_none, crate::proofs::ShownLemmas::filled_full))]
+pub(crate) fn fill<'a, T: Row>(
+    node: &'a Node<T>,
+    bound: usize,
+    into: &mut Vec<&'a T>,
+) -> Result<(), AllocError>
+    ensures { OnOk result (seen into.new.items ≡ filled bound (seen into.old.items) (rows node.now)) }
+{
+    if into.len() >= bound {
+        return Ok(());
+    }
+    if let Some(left) = &node.left {
+        fill(left, bound, into)?;
+    }
+    fill_one(&node.row, bound, into)?;
+    if let Some(right) = &node.right {
+        fill(right, bound, into)?;
+    }
+    Ok(())
+}
+
+/// Lists a row behind those that are listed, where they are not so many yet.
+#[tactic(auto, using(crate::proofs::ShownLemmas::filled_room, crate::proofs::ShownLemmas::filled_full))]
+fn fill_one<'a, T: Row>(row: &'a T, bound: usize, into: &mut Vec<&'a T>) -> Result<(), AllocError>
+    ensures { OnOk result (seen into.new.items ≡ filled bound (seen into.old.items) (row.now ∷ [])) }
+{
+    if into.len() < bound {
+        into.push(row)?;
     }
     Ok(())
 }

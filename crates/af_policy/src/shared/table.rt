@@ -1,4 +1,4 @@
-ghost use Rattle.std.specs.Prelude.{◌≡◌, ◌+◌, [], length, cond, IfOk, OnOk, OnErr};
+ghost use Rattle.std.specs.Prelude.{◌≡◌, ◌+◌, [], length, cond, take, IfOk, OnOk, OnErr};
 ghost use Rattle.std.specs.List.{list_any};
 ghost use Rattle.std.specs.Option.{option_copied, is_some};
 ghost use Rattle.af_policy.specs.SharedRows.{Ascend, found, seen, with_row, without};
@@ -132,6 +132,17 @@ impl<T: Row> Table<T> {
         let mut list = Vec::with_capacity(alloc, self.len)?;
         if let Some(root) = &self.root {
             listing::list(root, &mut list)?;
+        }
+        Ok(list)
+    }
+
+    /// The first rows, so many at most, in the order of their keys.
+    pub fn front(&self, alloc: Global, bound: usize) -> Result<Vec<&T>, AllocError>
+        ensures { IfOk result (λ list. seen list.items ≡ take bound self.now) }
+    {
+        let mut list = Vec::with_capacity(alloc, bound.min(self.len))?;
+        if let Some(root) = &self.root {
+            listing::fill(root, bound, &mut list)?;
         }
         Ok(list)
     }
