@@ -84,7 +84,7 @@ abbrev pub by_method : List ℕ → Place → List (List ℕ) → List ℕ → R
 by_method method place parts body = by_endpoint place parts body (endpoint_of method place)
 
 abbrev pub named : List ℕ → List ℕ → Place → List (List ℕ) → Result Op RouteFault
-named method body place parts = if are_names place parts then by_method method place parts body else Err NoPath
+named method body place parts = if are_names (method_of method) place parts then by_method method place parts body else Err NoPath
 
 abbrev pub with_parts : List ℕ → List ℕ → Place → Option (List (List ℕ)) → Result Op RouteFault
 with_parts method body place None = Err NoPath

@@ -141,7 +141,7 @@ fn named(
 ) -> Result<Op, RouteFault>
     ensures { IsRouted (named method.now body.now place (map (λ part. string_bytes part) parts.now)) result }
 {
-    if are_names(alloc, place, parts) {
+    if are_names(alloc, Method::named(method), place, parts) {
         by_method(alloc, method, place, parts, body)
     } else {
         Err(RouteFault::NoPath)

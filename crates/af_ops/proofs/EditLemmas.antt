@@ -1,11 +1,12 @@
 -- An edit changes the state exactly where something differs.
-use Rattle.std.proofs.Common.{◌≡◌, ◌≢◌, ℕ, Bool, true, false, cond, List, [], ◌∷◌, refl, sym, ◌∙◌, ap, not}
+use Rattle.std.proofs.Common.{◌≡◌, ◌≢◌, ◌+◌, ℕ, Bool, true, false, cond, List, [], ◌∷◌, refl, sym, ◌∙◌, ap, not, arith}
 use Rattle.std.specs.Prelude.{Option, Some, None, if◌then◌else◌}
+use Rattle.af_runs.specs.declared.new_run.NewRun.{NewRun}
 use Rattle.af_sched.specs.State.{StateRows, dag_of, is_of_id, with_paused}
 use Rattle.af_sched.specs.declared.dag_row.DagRow.{DagRow}
 use Rattle.af_ops.specs.declared.edit.Edit.{Edit}
 use Rattle.af_ops.specs.declared.edit.Edit.TheVariants as edit
-use Rattle.af_ops.specs.Edits.{edited, next_by}
+use Rattle.af_ops.specs.Edits.{edited, next_by, with_run}
 use Rattle.af_ops.specs.Effects.{differs}
 use Rattle.af_ops.specs.Prepared.{IsExact}
 
@@ -27,6 +28,17 @@ paused_apart dag_id is_paused [] row found differ same = cc
 paused_apart dag_id is_paused (first ∷ dags) row found differ same =
     apart_by (is_of_id dag_id first) dag_id is_paused first row dags found differ (λ later. paused_apart dag_id is_paused dags row later differ) same
 
+-- a state with one run more has given out a number
+next_apart : (n : ℕ) → n + 1 ≢ n
+next_apart n same = absurd (omega (arith, same))
+
+pub run_apart : (state : StateRows) (new : NewRun) → with_run state new ≢ state
+run_apart state new same = next_apart state.next_run (ap (λ (s : StateRows). s.next_run) same)
+
+-- the edit that adds a run
+pub add_exact : (state : StateRows) (new : NewRun) → IsExact state (edit.RunAdded new)
+add_exact state new = ((λ no. cc), (λ same. absurd (run_apart state new same)))
+
 exact_by : (b : Bool) (state : StateRows) (dag_id id : List ℕ) (is_paused paused : Bool) (row : DagRow) → differs row is_paused ≡ b → dag_of state.dags dag_id ≡ Some row → next_by (edit.DagPaused id paused) state ≡ (if b then Some (record state { dags = with_paused state.dags dag_id is_paused }) else None) → edited (edit.DagPaused id paused) state ≡ state → ⊥
 exact_by false state dag_id id is_paused paused row differ found next same = cc
 exact_by true state dag_id id is_paused paused row differ found next same =
@@ -38,3 +50,4 @@ pub pause_exact : (state : StateRows) (dag_id : List ℕ) (is_paused : Bool) (ro
 pause_exact state dag_id is_paused row edit.Nothing found next = ((λ no. refl), (λ same. refl))
 pause_exact state dag_id is_paused row (edit.DagPaused id paused) found next =
     ((λ no. cc), (λ same. absurd (exact_by (differs row is_paused) state dag_id id is_paused paused row refl found next same)))
+pause_exact state dag_id is_paused row (edit.RunAdded new) found next = add_exact state new

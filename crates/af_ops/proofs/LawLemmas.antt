@@ -1,22 +1,34 @@
 -- Listings, and what operations leave.
-use Rattle.std.proofs.Common.{◌≡◌, ◌∙◌, ℕ, Bool, true, false, cond, not, List, [], ◌∷◌, refl, sym, ap, subst}
-use Rattle.std.specs.Prelude.{Option, Some, None, Result, Ok, Err, filter, ok_or, if◌then◌else◌}
-use Rattle.std.specs.Cmp.Lexicographic.{nat_list_cmp_total}
+use Rattle.std.proofs.Common.{◌≡◌, ◌∙◌, ◌++◌, ℕ, Bool, true, false, cond, not, List, [], ◌∷◌, refl, sym, ap, subst}
+use Rattle.std.specs.Prelude.{Option, Some, None, Result, Ok, Err, filter, ok_or, unwrap_or, if◌then◌else◌}
+use Rattle.std.specs.Cmp.Lexicographic.{bytes_decides, nat_list_cmp_total}
+use Rattle.serde_json.specs.Data.{Data}
+use Rattle.af_base.specs.Readings.{◌>>=◌}
 use Rattle.af_names.proofs.OrderLemmas.{order-filter, order-take}
+use Rattle.af_runs.specs.Runs.{is_of, queued_run, run_of, runs_of}
+use Rattle.af_runs.specs.declared.run.Run.{Run}
 use Rattle.af_sched.specs.State.{StateRows, is_of_id, with_paused}
 use Rattle.af_sched.specs.State as sched
 use Rattle.af_sched.specs.declared.dag_row.DagRow.{DagRow}
 use Rattle.af_ops.specs.declared.answer.OpFault.{OpFault}
-use Rattle.af_ops.specs.declared.answer.OpFault.TheVariants.{NoSuchDag}
+use Rattle.af_ops.specs.declared.answer.OpFault.TheVariants.{NoSuchDag, NoSuchRun}
+use Rattle.af_ops.specs.declared.body_fault.BodyFault.{BodyFault}
 use Rattle.af_ops.specs.declared.op.Op.{Op}
 use Rattle.af_ops.specs.declared.op.Op.TheVariants as op
-use Rattle.af_ops.specs.Effects.{Effect, differs, effect_of, input_or, kept, pausing}
+use Rattle.af_ops.specs.declared.trigger.Trigger.{Trigger}
+use Rattle.af_ops.specs.Edits.{with_run}
+use Rattle.af_ops.specs.Effects.{Effect, added_run, differs, effect_of, free_id, id_or, input_or, kept, listed_runs, new_run, paused_dag, pausing, runs_data, triggered_run}
 use Rattle.af_ops.specs.Endpoints.{dag_of}
 use Rattle.af_ops.specs.Laws.{ListingsGoById, ReadingsLeaveTheState, ChangesLeaveAnotherState, ChangesStayAtTheirDag, LeavesOthers}
 use Rattle.af_ops.specs.Listings.{read_rows}
-use Rattle.af_ops.specs.Readings.{◌>>=◌}
-use Rattle.af_ops.specs.Replies.{dag_data}
-use Rattle.af_ops.proofs.EditLemmas.{paused_apart}
+use Rattle.af_ops.specs.Replies.{dag_data, run_data}
+use Rattle.af_ops.proofs.EditLemmas.{paused_apart, run_apart}
+
+none_some : {X : Type 0} {x : X} → None ≡ Some x → ⊥
+none_some same = cc
+
+pub some_same : {X : Type 0} {x y : X} → Some x ≡ Some y → x ≡ y
+some_same is = cc
 
 id_of : DagRow → List ℕ
 id_of row = row.dag.dag_id
@@ -29,20 +41,43 @@ listings_in_order reads state are =
 
 -- ---- operations at one DAG
 
+next_in : Result Effect OpFault → Option StateRows
+next_in (Ok e) = e.next
+next_in (Err fault) = None
+
+-- a reply alone
+kept_next : (reply : Data) (effect : Effect) → ◌≡◌ {A = Result Effect OpFault} (Ok (kept reply)) (Ok effect) → effect.next ≡ None
+unfolding next_in
+kept_next reply effect is = ap (λ (r : Result Effect OpFault). next_in r) (sym is)
+
 -- one DAG: found or not, the state stays
 got_kept : (found : Option DagRow) (effect : Effect) → (ok_or found NoSuchDag >>= (λ row. Ok (kept (dag_data row)))) ≡ Ok effect → effect.next ≡ None
 got_kept None effect is = cc
-got_kept (Some row) effect is = ap (λ (r : Result Effect OpFault). next_in r) (sym is)
-  where
-    next_in : Result Effect OpFault → Option StateRows
-    next_in (Ok e) = e.next
-    next_in (Err fault) = None
+got_kept (Some row) effect is = kept_next (dag_data row) effect is
+
+-- one run
+run_kept : (dag : Option DagRow) (run : Option Run) (effect : Effect) → (ok_or dag NoSuchDag >>= (λ row. ok_or run NoSuchRun >>= (λ it. Ok (kept (run_data it))))) ≡ Ok effect → effect.next ≡ None
+run_kept None run effect is = cc
+run_kept (Some row) None effect is = cc
+run_kept (Some row) (Some run) effect is = kept_next (run_data run) effect is
+
+-- runs
+runs_kept : (dag : Option DagRow) (reply : Data) (effect : Effect) → (ok_or dag NoSuchDag >>= (λ row. Ok (kept reply))) ≡ Ok effect → effect.next ≡ None
+runs_kept None reply effect is = cc
+runs_kept (Some row) reply effect is = kept_next reply effect is
+
+listed_kept : (reads : List ℕ → Bool) (state : StateRows) (dag : Option (List ℕ)) (effect : Effect) → listed_runs reads state dag ≡ Ok effect → effect.next ≡ None
+listed_kept reads state None effect is = kept_next (runs_data (read_rows reads (λ (run : Run). run.dag_id) state.runs)) effect is
+listed_kept reads state (Some dag_id) effect is = runs_kept (sched.dag_of state.dags dag_id) (runs_data (runs_of state.runs dag_id)) effect is
 
 pub readings_keep : ReadingsLeaveTheState
 readings_keep reads state op.Version now effect get is = cc
 readings_keep reads state op.ListDags now effect get is = cc
 readings_keep reads state (op.GetDag dag_id) now effect get is = got_kept (sched.dag_of state.dags dag_id) effect is
 readings_keep reads state (op.PauseDag dag_id input) now effect get is = cc
+readings_keep reads state (op.ListRuns dag) now effect get is = listed_kept reads state dag effect is
+readings_keep reads state (op.TriggerRun dag_id input) now effect get is = cc
+readings_keep reads state (op.GetRun dag_id run_id) now effect get is = run_kept (sched.dag_of state.dags dag_id) (run_of state.runs dag_id run_id) effect is
 
 -- a DAG that is paused, or not: it was found and stood otherwise, and this is the next state
 pub record Pauses (state : StateRows) (dag_id : List ℕ) (next : StateRows) : Type 0 where
@@ -67,24 +102,55 @@ pauses_input (Err fault) state dag_id effect next is changes = cc
 pauses_input (Ok is_paused) state dag_id effect next is changes =
     pauses_found (sched.dag_of state.dags dag_id) state dag_id is_paused effect next refl is changes
 
-none_some : {X : Type 0} {x : X} → None ≡ Some x → ⊥
-none_some same = cc
+-- a run that is triggered: its DAG was found, and this is the next state
+pub record Triggers (state : StateRows) (dag_id : List ℕ) (effect : Effect) : Type 0 where
+  pub row : DagRow
+  pub run_id : List ℕ
+  pub date : ℕ
+  pub found : sched.dag_of state.dags dag_id ≡ Some row
+  pub next_is : effect.next ≡ Some (with_run state (new_run row dag_id run_id date))
 
-some_same : {X : Type 0} {x y : X} → Some x ≡ Some y → x ≡ y
-some_same is = cc
+triggers_free : (free : Result (List ℕ) OpFault) (state : StateRows) (dag_id : List ℕ) (row : DagRow) (date : ℕ) (effect : Effect) → sched.dag_of state.dags dag_id ≡ Some row → (free >>= (λ run_id. Ok (added_run state (new_run row dag_id run_id date)))) ≡ Ok effect → Triggers state dag_id effect
+unfolding next_in
+triggers_free (Err fault) state dag_id row date effect found is = cc
+triggers_free (Ok run_id) state dag_id row date effect found is =
+    record { row = row; run_id = run_id; date = date; found = found; next_is = ap (λ (r : Result Effect OpFault). next_in r) (sym is) }
 
--- a change is a DAG that is paused, or not
-changes_pause : (reads : List ℕ → Bool) (state : StateRows) (asked : Op) (now : ℕ) (effect : Effect) (next : StateRows) → effect_of reads state asked now ≡ Ok effect → effect.next ≡ Some next → (dag_id : List ℕ) × (dag_of asked ≡ Some dag_id) × Pauses state dag_id next
-changes_pause reads state op.Version now effect next is changes = absurd (none_some (sym (readings_keep reads state op.Version now effect refl is) ∙ changes))
-changes_pause reads state op.ListDags now effect next is changes = absurd (none_some (sym (readings_keep reads state op.ListDags now effect refl is) ∙ changes))
-changes_pause reads state (op.GetDag dag_id) now effect next is changes = absurd (none_some (sym (readings_keep reads state (op.GetDag dag_id) now effect refl is) ∙ changes))
-changes_pause reads state (op.PauseDag dag_id input) now effect next is changes = (dag_id, refl, pauses_input (input_or input) state dag_id effect next is changes)
+triggers_found : (found : Option DagRow) (state : StateRows) (dag_id : List ℕ) (asked : Trigger) (date : ℕ) (effect : Effect) → sched.dag_of state.dags dag_id ≡ found
+    → (ok_or found NoSuchDag >>= (λ row. free_id state dag_id (id_or asked.dag_run_id date) date >>= (λ run_id. Ok (added_run state (new_run row dag_id run_id date))))) ≡ Ok effect → Triggers state dag_id effect
+triggers_found None state dag_id asked date effect found is = cc
+triggers_found (Some row) state dag_id asked date effect found is =
+    triggers_free (free_id state dag_id (id_or asked.dag_run_id date) date) state dag_id row date effect found is
+
+triggers_input : (input : Result Trigger OpFault) (state : StateRows) (dag_id : List ℕ) (now : ℕ) (effect : Effect)
+    → (input >>= (λ asked. ok_or (sched.dag_of state.dags dag_id) NoSuchDag >>= (λ row. free_id state dag_id (id_or asked.dag_run_id (unwrap_or asked.logical_date now)) (unwrap_or asked.logical_date now) >>= (λ run_id. Ok (added_run state (new_run row dag_id run_id (unwrap_or asked.logical_date now))))))) ≡ Ok effect
+    → Triggers state dag_id effect
+triggers_input (Err fault) state dag_id now effect is = cc
+triggers_input (Ok asked) state dag_id now effect is =
+    triggers_found (sched.dag_of state.dags dag_id) state dag_id asked (unwrap_or asked.logical_date now) effect refl is
+
+pub triggers : (state : StateRows) (dag_id : List ℕ) (input : Result Trigger BodyFault) (now : ℕ) (effect : Effect) → triggered_run state dag_id input now ≡ Ok effect → Triggers state dag_id effect
+triggers state dag_id input now effect is = triggers_input (input_or input) state dag_id now effect is
+
+pub pauses : (state : StateRows) (dag_id : List ℕ) (input : Result Bool BodyFault) (effect : Effect) (next : StateRows) → paused_dag state dag_id input ≡ Ok effect → effect.next ≡ Some next → Pauses state dag_id next
+pauses state dag_id input effect next is changes = pauses_input (input_or input) state dag_id effect next is changes
+
+-- what is read is no change
+pub unchanged : {X : Type 0} (effect : Effect) (next : StateRows) → effect.next ≡ None → effect.next ≡ Some next → X
+unchanged effect next none changes = absurd (none_some (sym none ∙ changes))
 
 pub changes_differ : ChangesLeaveAnotherState
-changes_differ reads state asked now effect next is changes same =
-    let at = changes_pause reads state asked now effect next is changes in
-    let pauses = at.2 in
-    paused_apart at.0 pauses.is_paused state.dags pauses.row pauses.found pauses.differ (ap (λ (s : StateRows). s.dags) (sym pauses.next_is ∙ same))
+changes_differ reads state op.Version now effect next is changes same = unchanged effect next (readings_keep reads state op.Version now effect refl is) changes
+changes_differ reads state op.ListDags now effect next is changes same = unchanged effect next (readings_keep reads state op.ListDags now effect refl is) changes
+changes_differ reads state (op.GetDag dag_id) now effect next is changes same = unchanged effect next (readings_keep reads state (op.GetDag dag_id) now effect refl is) changes
+changes_differ reads state (op.PauseDag dag_id input) now effect next is changes same =
+    let it = pauses state dag_id input effect next is changes in
+    paused_apart dag_id it.is_paused state.dags it.row it.found it.differ (ap (λ (s : StateRows). s.dags) (sym it.next_is ∙ same))
+changes_differ reads state (op.ListRuns dag) now effect next is changes same = unchanged effect next (readings_keep reads state (op.ListRuns dag) now effect refl is) changes
+changes_differ reads state (op.TriggerRun dag_id input) now effect next is changes same =
+    let it = triggers state dag_id input now effect is in
+    run_apart state (new_run it.row dag_id it.run_id it.date) (some_same (sym it.next_is ∙ changes) ∙ same)
+changes_differ reads state (op.GetRun dag_id run_id) now effect next is changes same = unchanged effect next (readings_keep reads state (op.GetRun dag_id run_id) now effect refl is) changes
 
 -- the other rows are passed over
 kept_row : (is is_paused : Bool) (dag_id : List ℕ) (row : DagRow) (new old : List DagRow) → is_of_id dag_id row ≡ is → filter (λ r. not (is_of_id dag_id r)) new ≡ filter (λ r. not (is_of_id dag_id r)) old
@@ -105,7 +171,26 @@ pauses_stay state dag_id next pauses =
       pools = refl;
     })
 
+-- a row that is passed over at the end
+filter_last : {X : Type 0} (p : X → Bool) (xs : List X) (x : X) → p x ≡ false → filter p (xs ++ x ∷ []) ≡ filter p xs
+filter_last p [] x none = ap (λ (b : Bool). cond b (x ∷ []) []) none
+filter_last p (y ∷ xs) x none = ap (λ rest. cond (p y) (y ∷ rest) rest) (filter_last p xs x none)
+
+triggers_stay : (state : StateRows) (dag_id : List ℕ) (effect : Effect) (next : StateRows) → Triggers state dag_id effect → effect.next ≡ Some next → LeavesOthers dag_id state next
+triggers_stay state dag_id effect next it changes =
+    subst (λ (s : StateRows). LeavesOthers dag_id state s) (some_same (sym it.next_is ∙ changes)) (record {
+      dags = refl;
+      runs = filter_last (λ run. not (is_of dag_id run)) state.runs (queued_run state.next_run (new_run it.row dag_id it.run_id it.date)) (ap not ((bytes_decides dag_id dag_id).1 refl));
+      pools = refl;
+    })
+
 pub changes_stay : ChangesStayAtTheirDag
-changes_stay reads state asked now effect next dag_id is changes names =
-    let at = changes_pause reads state asked now effect next is changes in
-    subst (λ (id : List ℕ). LeavesOthers id state next) (some_same (sym at.1 ∙ names)) (pauses_stay state at.0 next at.2)
+changes_stay reads state op.Version now effect next at is changes names = unchanged effect next (readings_keep reads state op.Version now effect refl is) changes
+changes_stay reads state op.ListDags now effect next at is changes names = unchanged effect next (readings_keep reads state op.ListDags now effect refl is) changes
+changes_stay reads state (op.GetDag dag_id) now effect next at is changes names = unchanged effect next (readings_keep reads state (op.GetDag dag_id) now effect refl is) changes
+changes_stay reads state (op.PauseDag dag_id input) now effect next at is changes names =
+    subst (λ (id : List ℕ). LeavesOthers id state next) (some_same names) (pauses_stay state dag_id next (pauses state dag_id input effect next is changes))
+changes_stay reads state (op.ListRuns dag) now effect next at is changes names = unchanged effect next (readings_keep reads state (op.ListRuns dag) now effect refl is) changes
+changes_stay reads state (op.TriggerRun dag_id input) now effect next at is changes names =
+    subst (λ (id : List ℕ). LeavesOthers id state next) (some_same names) (triggers_stay state dag_id effect next (triggers state dag_id input now effect is) changes)
+changes_stay reads state (op.GetRun dag_id run_id) now effect next at is changes names = unchanged effect next (readings_keep reads state (op.GetRun dag_id run_id) now effect refl is) changes

@@ -1,8 +1,9 @@
+mod BodyLemmas
 mod DecisionLemmas
 mod EditLemmas
-mod JsonLemmas
 mod LawLemmas
 mod PageLemmas
+mod RunLemmas
 mod TableLemmas
 mod TellingLemmas
 mod TextLemmas

@@ -2,7 +2,7 @@
 use Rattle.std.proofs.Common.{◌≡◌, ◌<◌, ◌∙◌, ℕ, zero, suc, Bool, true, false, List, [], ◌∷◌, length, get_or, refl, sym, ap, arith, not, ◌&&◌, subst}
 use Rattle.std.specs.List.{list_all}
 use Rattle.std.specs.Cmp.Lexicographic.{pointwise, bytes_decides}
-use Rattle.std.specs.Prelude.{nat_eq, Option, Some, None, option_map}
+use Rattle.std.specs.Prelude.{nat_eq, Option, Some, None, option_map, if◌then◌else◌}
 use Rattle.std.proofs.lemmas.Bool.{and_from, and_parts, false≢true, not-true}
 use Rattle.af_ops.specs.declared.endpoint.Endpoint.{Endpoint}
 use Rattle.af_ops.specs.declared.endpoint.Endpoint.TheVariants as endpoint
@@ -10,8 +10,8 @@ use Rattle.af_ops.specs.declared.method.Method.{Method}
 use Rattle.af_ops.specs.declared.method.Method.TheVariants.{Get, Post, Patch, Delete}
 use Rattle.af_ops.specs.declared.op.Op.{Op}
 use Rattle.af_ops.specs.declared.op.Op.TheVariants as op
-use Rattle.af_ops.specs.Bodies.{pause_in}
-use Rattle.af_ops.specs.Endpoints.{dag_id_in, dag_of, endpoint_of}
+use Rattle.af_ops.specs.Bodies.{pause_in, trigger_in}
+use Rattle.af_ops.specs.Endpoints.{both, dag_id_in, dag_of, endpoint_of, is_all, run_id_in}
 use Rattle.af_ops.specs.Laws.{EachIsFound, Matches, OneRowAtMost, OperationsAreOfTheirRow}
 use Rattle.af_ops.specs.Methods.{same_method}
 use Rattle.af_ops.specs.Table.{Segment, Text, Part, endpoints, route_of, segments_of}
@@ -76,6 +76,9 @@ rank endpoint.Version = 0
 rank endpoint.ListDags = 1
 rank endpoint.GetDag = 2
 rank endpoint.PauseDag = 3
+rank endpoint.ListRuns = 4
+rank endpoint.TriggerRun = 5
+rank endpoint.GetRun = 6
 
 stands : (it d : Endpoint) → get_or endpoints (rank it) d ≡ it
 unfolding rank
@@ -83,6 +86,9 @@ stands endpoint.Version d = refl
 stands endpoint.ListDags d = refl
 stands endpoint.GetDag d = refl
 stands endpoint.PauseDag d = refl
+stands endpoint.ListRuns d = refl
+stands endpoint.TriggerRun d = refl
+stands endpoint.GetRun d = refl
 
 inside : (it : Endpoint) → rank it < length endpoints
 unfolding rank
@@ -90,6 +96,9 @@ inside endpoint.Version = omega arith
 inside endpoint.ListDags = omega arith
 inside endpoint.GetDag = omega arith
 inside endpoint.PauseDag = omega arith
+inside endpoint.ListRuns = omega arith
+inside endpoint.TriggerRun = omega arith
+inside endpoint.GetRun = omega arith
 
 same-refl : (method : Method) → same_method method method ≡ true
 same-refl Get = refl
@@ -114,6 +123,9 @@ each_found endpoint.Version = refl
 each_found endpoint.ListDags = refl
 each_found endpoint.GetDag = refl
 each_found endpoint.PauseDag = refl
+each_found endpoint.ListRuns = refl
+each_found endpoint.TriggerRun = refl
+each_found endpoint.GetRun = refl
 
 -- ---- what is read of a row
 
@@ -128,6 +140,24 @@ mapped make it None asked of_it names is = absurd (none_some is)
 mapped make it (Some id) asked of_it names is =
     (ap endpoint_of (sym (some_same is)) ∙ of_it id, ap dag_of (sym (some_same is)) ∙ names id)
 
+-- the same of an operation that names a run
+mapped_both : (make : List ℕ → List ℕ → Op) (it : Endpoint) (dag run : Option (List ℕ)) (asked : Op) → ((id run_id : List ℕ) → endpoint_of (make id run_id) ≡ it) → ((id run_id : List ℕ) → dag_of (make id run_id) ≡ Some id) → option_map (λ ids. make ids.0 ids.1) (both dag run) ≡ Some asked → (endpoint_of asked ≡ it) × (dag_of asked ≡ dag)
+mapped_both make it (Some id) (Some run_id) asked of_it names is =
+    (ap endpoint_of (sym (some_same is)) ∙ of_it id run_id, ap dag_of (sym (some_same is)) ∙ names id run_id)
+mapped_both make it (Some id) None asked of_it names is = cc
+mapped_both make it None run asked of_it names is = cc
+
+-- `~` is no id of a DAG
+no_id : (parts : List (List ℕ)) → is_all parts ≡ true → dag_id_in parts ≡ None
+no_id [] is = refl
+no_id (part ∷ parts) is = rw ((bytes_decides part (126 ∷ [])).0 is) refl
+
+all_or_one : (all : Bool) (parts : List (List ℕ)) (asked : Op) → is_all parts ≡ all → (if all then Some (op.ListRuns None) else option_map (λ id. op.ListRuns (Some id)) (dag_id_in parts)) ≡ Some asked → (endpoint_of asked ≡ endpoint.ListRuns) × (dag_of asked ≡ dag_id_in parts)
+all_or_one true parts asked all is =
+    (ap endpoint_of (sym (some_same is)), ap dag_of (sym (some_same is)) ∙ sym (no_id parts all))
+all_or_one false parts asked all is =
+    mapped (λ id. op.ListRuns (Some id)) endpoint.ListRuns (dag_id_in parts) asked (λ id. refl) (λ id. refl) is
+
 pub of_their_row : OperationsAreOfTheirRow
 of_their_row endpoint.Version parts body asked is = (ap endpoint_of (sym (some_same is)), ap dag_of (sym (some_same is)))
 of_their_row endpoint.ListDags parts body asked is = (ap endpoint_of (sym (some_same is)), ap dag_of (sym (some_same is)))
@@ -135,3 +165,8 @@ of_their_row endpoint.GetDag parts body asked is =
     mapped (λ id. op.GetDag id) endpoint.GetDag (dag_id_in parts) asked (λ id. refl) (λ id. refl) is
 of_their_row endpoint.PauseDag parts body asked is =
     mapped (λ id. op.PauseDag id (pause_in body)) endpoint.PauseDag (dag_id_in parts) asked (λ id. refl) (λ id. refl) is
+of_their_row endpoint.ListRuns parts body asked is = all_or_one (is_all parts) parts asked refl is
+of_their_row endpoint.TriggerRun parts body asked is =
+    mapped (λ id. op.TriggerRun id (trigger_in body)) endpoint.TriggerRun (dag_id_in parts) asked (λ id. refl) (λ id. refl) is
+of_their_row endpoint.GetRun parts body asked is =
+    mapped_both (λ id run_id. op.GetRun id run_id) endpoint.GetRun (dag_id_in parts) (run_id_in parts) asked (λ id run_id. refl) (λ id run_id. refl) is

@@ -1,22 +1,26 @@
 -- What a request's body holds: a JSON object whose members are read in a written order; the first that is absent though it has
 -- to be there, or of a wrong kind or value, is told by its name (this product's own rule). Null counts as absent.
-use Rattle.std.specs.Prelude.{ℕ, List, Bool, is_some, if◌then◌else◌, Option, None, ok_or, Result, Ok, Err, codes}
-use Rattle.std.specs.Str.{is_utf8}
-use Rattle.serde_json.specs.Data.{Data}
-use Rattle.serde_json.specs.Find.{as_bool, as_object}
-use Rattle.serde_json.specs.Read.{read as read_text}
-use Rattle.af_ops.specs.Readings.{◌>>=◌, member_of, required}
+use Rattle.std.specs.Prelude.{ℕ, List, Bool, true, false, is_some, if◌then◌else◌, Option, Some, None, option_and_then, ok_or, Result, Ok, Err, codes, ⊤}
+use Rattle.std.specs.Option.{option_map_or}
+use Rattle.std.specs.Result.{result_ok}
+use Rattle.serde_json.specs.Data.{Data, Members, no_members, member}
+use Rattle.serde_json.specs.Find.{as_bool, as_object, as_str}
+use Rattle.af_base.specs.Parsed.{json_of}
+use Rattle.af_base.specs.Readings.{◌>>=◌, member_of, optional, required}
+use Rattle.af_names.specs.Instants.{instant_of}
+use Rattle.af_names.specs.Names.{named, run_id_grammar}
 use Rattle.af_ops.specs.declared.body_fault.Member.{Member}
-use Rattle.af_ops.specs.declared.body_fault.Member.TheVariants.{IsPaused}
+use Rattle.af_ops.specs.declared.body_fault.Member.TheVariants.{IsPaused, DagRunId, LogicalDate, ExecutionDate, Conf}
 use Rattle.af_ops.specs.declared.body_fault.BodyFault.{BodyFault}
 use Rattle.af_ops.specs.declared.body_fault.BodyFault.TheVariants.{BadBody, BadMember}
+use Rattle.af_ops.specs.declared.trigger.Trigger.{Trigger}
 
 abbrev pub name_of : Member → List ℕ
 name_of IsPaused = codes "is_paused"
-
--- the JSON value of which the bytes are the text, in UTF-8 (RFC 8259)
-abbrev pub json_of : List ℕ → Option Data
-json_of bytes = if is_utf8 bytes then read_text bytes else None
+name_of DagRunId = codes "dag_run_id"
+name_of LogicalDate = codes "logical_date"
+name_of ExecutionDate = codes "execution_date"
+name_of Conf = codes "conf"
 
 abbrev pub object_or : Data → Result Data BodyFault
 object_or value = if is_some (as_object value) then Ok value else Err BadBody
@@ -28,8 +32,47 @@ body_in bytes = ok_or (json_of bytes) BadBody >>= object_or
 abbrev pub required_in : {X : Type 0} → (Data → Option X) → Member → Data → Result X BodyFault
 required_in read it body = required read (BadMember it) (member_of (name_of it) body)
 
+abbrev pub optional_in : {X : Type 0} → (Data → Option X) → Member → Data → Result (Option X) BodyFault
+optional_in read it body = optional read (BadMember it) (member_of (name_of it) body)
+
+-- ---- kinds of value
+
+-- the id of a run
+abbrev pub run_id_of : Data → Option (List ℕ)
+run_id_of value = option_and_then (λ text. result_ok (named run_id_grammar text)) (as_str value)
+
+abbrev pub instant_in : Data → Option ℕ
+instant_in value = option_and_then (λ text. result_ok (instant_of text)) (as_str value)
+
+abbrev pub has_none : Members → Bool
+has_none no_members = true
+has_none (member name value rest) = false
+
+-- an object without members
+abbrev pub is_empty : Data → Bool
+is_empty value = option_map_or has_none (as_object value) false
+
+abbrev pub empty_object : Data → Option ⊤
+empty_object value = if is_empty value then Some tt else None
+
+-- ---- bodies
+
 -- a truth value that says whether a DAG is paused
 abbrev pub pause_in : List ℕ → Result Bool BodyFault
 pause_in bytes = do
   body ← body_in bytes
   required_in as_bool IsPaused body
+
+-- the logical date of a run; `execution_date`, its older name, is read where it is absent (Airflow 2, "DAG Runs")
+abbrev pub date_in : Data → Result (Option ℕ) BodyFault
+date_in body =
+    optional_in instant_in (if is_some (member_of (codes "logical_date") body) then LogicalDate else ExecutionDate) body
+
+-- a run that is to be triggered; of `conf` the empty object alone is taken
+abbrev pub trigger_in : List ℕ → Result Trigger BodyFault
+trigger_in bytes = do
+  body ← body_in bytes
+  run_id ← optional_in run_id_of DagRunId body
+  date ← date_in body
+  conf ← optional_in empty_object Conf body
+  Ok (record { dag_run_id = run_id; logical_date = date })

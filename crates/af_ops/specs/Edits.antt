@@ -1,13 +1,20 @@
 -- The kinds of change that operations make to a state.
-use Rattle.std.specs.Prelude.{Bool, true, false, unwrap_or, Option, Some, None}
+use Rattle.std.specs.Prelude.{◌+◌, List, [], ◌∷◌, ◌++◌, Bool, true, false, unwrap_or, Option, Some, None}
+use Rattle.af_runs.specs.Runs.{queued_run}
+use Rattle.af_runs.specs.declared.new_run.NewRun.{NewRun}
 use Rattle.af_sched.specs.State.{StateRows, with_paused}
 use Rattle.af_ops.specs.declared.edit.Edit.{Edit}
 use Rattle.af_ops.specs.declared.edit.Edit.TheVariants as edit
+
+-- the state with a new run, queued, as the last one, under the next number, which no other run gets
+abbrev pub with_run : StateRows → NewRun → StateRows
+with_run state new = record state { runs = state.runs ++ queued_run state.next_run new ∷ []; next_run = state.next_run + 1 }
 
 -- the state that an edit makes, or none where it is no change
 abbrev pub next_by : Edit → StateRows → Option StateRows
 next_by edit.Nothing state = None
 next_by (edit.DagPaused dag_id is_paused) state = Some (record state { dags = with_paused state.dags dag_id is_paused })
+next_by (edit.RunAdded new) state = Some (with_run state new)
 
 -- a state after an edit
 abbrev pub edited : Edit → StateRows → StateRows
@@ -17,3 +24,4 @@ edited it state = unwrap_or (next_by it state) state
 abbrev pub is_edit : Edit → Bool
 is_edit edit.Nothing = false
 is_edit (edit.DagPaused dag_id is_paused) = true
+is_edit (edit.RunAdded new) = true

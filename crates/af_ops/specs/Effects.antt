@@ -1,20 +1,30 @@
 -- What a permitted operation does: its reply and the state after it, or the first fault in the order of `OpFault`. Each next
--- state is a map or a filter over the lists of the state.
-use Rattle.std.specs.Prelude.{ℕ, List, Bool, not, map, length, Option, Some, None, ok_or, Result, Ok, Err, codes, if◌then◌else◌}
+-- state is a map or a filter over the lists of the state, or one row more at their end.
+use Rattle.std.specs.Prelude.{ℕ, ◌++◌, List, Bool, not, map, nat_le, length, Option, Some, None, ok_or, unwrap_or, Result, Ok, Err, codes, if◌then◌else◌}
 use Rattle.serde_json.specs.Data.{Data}
 use Rattle.serde_json.specs.Written.{compact_text}
+use Rattle.af_names.specs.Isoformat.{isoformat}
+use Rattle.af_runs.specs.Instances.{new_instances}
+use Rattle.af_runs.specs.Runs.{add_fault, queued_run, run_of, runs_of}
+use Rattle.af_runs.specs.declared.new_run.NewRun.{NewRun}
+use Rattle.af_runs.specs.declared.run.Run.{Run}
+use Rattle.af_runs.specs.declared.run_fault.RunFault.{RunFault}
+use Rattle.af_runs.specs.declared.run_fault.RunFault.TheVariants as run_fault
+use Rattle.af_runs.specs.declared.run_type.RunType.TheVariants.{Manual}
 use Rattle.af_sched.specs.State.{StateRows, with_paused, dag_of}
 use Rattle.af_sched.specs.declared.dag_row.DagRow.{DagRow}
+use Rattle.af_ops.specs.Edits.{with_run}
 use Rattle.af_ops.specs.Fields.{listing_of}
 use Rattle.af_ops.specs.Listings.{default_limit, page, read_rows}
-use Rattle.af_ops.specs.Readings.{◌>>=◌}
-use Rattle.af_ops.specs.Replies.{dag_data, version_data}
+use Rattle.af_base.specs.Readings.{◌>>=◌}
+use Rattle.af_ops.specs.Replies.{dag_data, run_data, version_data}
 use Rattle.af_ops.specs.declared.answer.OpFault.{OpFault}
 use Rattle.af_ops.specs.declared.answer.OpFault.TheVariants as fault
 use Rattle.af_ops.specs.declared.body_fault.BodyFault.{BodyFault}
 use Rattle.af_ops.specs.declared.body_fault.BodyFault.TheVariants as input
 use Rattle.af_ops.specs.declared.op.Op.{Op}
 use Rattle.af_ops.specs.declared.op.Op.TheVariants as op
+use Rattle.af_ops.specs.declared.trigger.Trigger.{Trigger}
 
 -- the text of the reply, and the state after the operation, or none where that is the state before it
 pub record Effect : Type 0 where
@@ -27,16 +37,23 @@ kept reply = record { reply = compact_text reply; next = None }
 
 -- ---- faults that operations share
 
+abbrev pub input_fault : BodyFault → OpFault
+input_fault input.BadBody = fault.BadBody
+input_fault (input.BadMember it) = fault.BadMember it
+input_fault input.OutOfMemory = fault.OutOfMemory
+
 -- what was read of the body
 abbrev pub input_or : {X : Type 0} → Result X BodyFault → Result X OpFault
 input_or (Ok read) = Ok read
-input_or (Err input.BadBody) = Err fault.BadBody
-input_or (Err (input.BadMember it)) = Err (fault.BadMember it)
-input_or (Err input.OutOfMemory) = Err fault.OutOfMemory
+input_or (Err why) = Err (input_fault why)
 
 -- the DAG of an id
 abbrev pub dag_or : StateRows → List ℕ → Result DagRow OpFault
 dag_or state dag_id = ok_or (dag_of state.dags dag_id) fault.NoSuchDag
+
+-- the run of two ids
+abbrev pub run_or : StateRows → List ℕ → List ℕ → Result Run OpFault
+run_or state dag_id run_id = ok_or (run_of state.runs dag_id run_id) fault.NoSuchRun
 
 -- ---- the operations
 
@@ -69,9 +86,82 @@ paused_dag state dag_id input = do
   row ← dag_or state dag_id
   Ok (pausing state dag_id row is_paused)
 
+-- the first page of these runs
+abbrev pub runs_data : List Run → Data
+runs_data runs = listing_of (codes "dag_runs") (map run_data (page default_limit 0 runs)) (length runs)
+
+abbrev pub runs_of_dag : StateRows → List ℕ → Result Effect OpFault
+runs_of_dag state dag_id = do
+  row ← dag_or state dag_id
+  Ok (kept (runs_data (runs_of state.runs dag_id)))
+
+-- the runs of one DAG, or those of all DAGs that are read, in order of their numbers
+abbrev pub listed_runs : (List ℕ → Bool) → StateRows → Option (List ℕ) → Result Effect OpFault
+listed_runs reads state None = Ok (kept (runs_data (read_rows reads (λ run. run.dag_id) state.runs)))
+listed_runs reads state (Some dag_id) = runs_of_dag state dag_id
+
+-- one run
+abbrev pub got_run : StateRows → List ℕ → List ℕ → Result Effect OpFault
+got_run state dag_id run_id = do
+  row ← dag_or state dag_id
+  run ← run_or state dag_id run_id
+  Ok (kept (run_data run))
+
+-- the id that is made of a date: `manual__` and the date
+unfoldable pub made_id : ℕ → List ℕ
+made_id date = codes "manual__" ++ isoformat date
+
+-- the id that is given, else the one that is made of the date
+abbrev pub id_or : Option (List ℕ) → ℕ → List ℕ
+id_or given date = unwrap_or given (made_id date)
+
+-- a run that is triggered begins and ends, as its data goes, at its date; each task of its DAG has a new instance
+abbrev pub new_run : DagRow → List ℕ → List ℕ → ℕ → NewRun
+new_run row dag_id run_id date = record {
+  dag_id = dag_id;
+  run_id = run_id;
+  logical_date = date;
+  interval = record { start = date; end = date };
+  run_type = Manual;
+  instances = new_instances row.dag.tasks;
+}
+
+-- the DAG has as many runs as it may have, or no number is left for one more
+abbrev pub full_fault : List Run → List ℕ → OpFault
+full_fault runs dag_id = if nat_le 65_536 (length (runs_of runs dag_id)) then fault.TooMany else fault.NoNumberLeft
+
+-- the id of a run that may be added, or why it may not
+abbrev pub free_by : List Run → List ℕ → List ℕ → ℕ → Option RunFault → Result (List ℕ) OpFault
+free_by runs dag_id run_id date None = Ok run_id
+free_by runs dag_id run_id date (Some run_fault.RunExists) = Err (fault.RunExists date)
+free_by runs dag_id run_id date (Some run_fault.DateTaken) = Err (fault.DateTaken date)
+free_by runs dag_id run_id date (Some run_fault.Full) = Err (full_fault runs dag_id)
+free_by runs dag_id run_id date (Some run_fault.OutOfMemory) = Err fault.OutOfMemory
+
+abbrev pub free_id : StateRows → List ℕ → List ℕ → ℕ → Result (List ℕ) OpFault
+free_id state dag_id run_id date = free_by state.runs dag_id run_id date (add_fault state.runs state.next_run dag_id run_id date)
+
+-- the state with the run, which is told as it then stands
+abbrev pub added_run : StateRows → NewRun → Effect
+added_run state new = record {
+  reply = compact_text (run_data (queued_run state.next_run new));
+  next = Some (with_run state new);
+}
+
+-- a run of a DAG, at the date that is given, else at the moment
+abbrev pub triggered_run : StateRows → List ℕ → Result Trigger BodyFault → ℕ → Result Effect OpFault
+triggered_run state dag_id input now = do
+  asked ← input_or input
+  row ← dag_or state dag_id
+  run_id ← free_id state dag_id (id_or asked.dag_run_id (unwrap_or asked.logical_date now)) (unwrap_or asked.logical_date now)
+  Ok (added_run state (new_run row dag_id run_id (unwrap_or asked.logical_date now)))
+
 -- what a permitted operation does for a reader of these DAGs, at a moment
 abbrev pub effect_of : (List ℕ → Bool) → StateRows → Op → ℕ → Result Effect OpFault
 effect_of reads state op.Version now = Ok (kept version_data)
 effect_of reads state op.ListDags now = Ok (kept (dags_data reads state.dags))
 effect_of reads state (op.GetDag dag_id) now = got_dag state dag_id
 effect_of reads state (op.PauseDag dag_id input) now = paused_dag state dag_id input
+effect_of reads state (op.ListRuns dag) now = listed_runs reads state dag
+effect_of reads state (op.TriggerRun dag_id input) now = triggered_run state dag_id input now
+effect_of reads state (op.GetRun dag_id run_id) now = got_run state dag_id run_id

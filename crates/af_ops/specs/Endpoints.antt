@@ -1,21 +1,28 @@
 -- The operations of the API (Airflow 2, "Stable REST API"), with what a request says of them.
-use Rattle.std.specs.Prelude.{◌≡◌, ◌⊎◌, ℕ, List, [], ◌∷◌, Bool, true, is_some, Option, Some, None, option_map, Err}
+use Rattle.std.specs.Prelude.{◌≡◌, ◌⊎◌, ◌&&◌, ◌||◌, ℕ, List, [], ◌∷◌, Bool, true, false, is_some, Option, Some, None, option_map, Result, Ok, Err, if◌then◌else◌}
 use Rattle.std.specs.Result.{result_ok}
-use Rattle.af_names.specs.Names.{named, id_grammar}
+use Rattle.af_names.specs.Names.{Grammar, named, id_grammar, is_tilde, run_id_grammar}
+use Rattle.af_ops.specs.declared.body_fault.BodyFault.{BodyFault}
 use Rattle.af_ops.specs.declared.body_fault.BodyFault.TheVariants.{OutOfMemory}
 use Rattle.af_ops.specs.declared.endpoint.Endpoint.{Endpoint}
 use Rattle.af_ops.specs.declared.endpoint.Endpoint.TheVariants as endpoint
+use Rattle.af_ops.specs.declared.method.Method.{Method}
+use Rattle.af_ops.specs.declared.method.Method.TheVariants.{Get, Post, Patch, Delete}
 use Rattle.af_ops.specs.declared.op.Op.{Op}
 use Rattle.af_ops.specs.declared.op.Op.TheVariants as op
 use Rattle.af_ops.specs.declared.place.Place.{Place}
 use Rattle.af_ops.specs.declared.place.Place.TheVariants as place
-use Rattle.af_ops.specs.Bodies.{pause_in}
+use Rattle.af_ops.specs.declared.trigger.Trigger.{Trigger}
+use Rattle.af_ops.specs.Bodies.{pause_in, trigger_in}
 
 abbrev pub endpoint_of : Op → Endpoint
 endpoint_of op.Version = endpoint.Version
 endpoint_of op.ListDags = endpoint.ListDags
 endpoint_of (op.GetDag dag_id) = endpoint.GetDag
 endpoint_of (op.PauseDag dag_id input) = endpoint.PauseDag
+endpoint_of (op.ListRuns dag) = endpoint.ListRuns
+endpoint_of (op.TriggerRun dag_id input) = endpoint.TriggerRun
+endpoint_of (op.GetRun dag_id run_id) = endpoint.GetRun
 
 -- the DAG that an operation names, or none
 abbrev pub dag_of : Op → Option (List ℕ)
@@ -23,17 +30,79 @@ dag_of op.Version = None
 dag_of op.ListDags = None
 dag_of (op.GetDag dag_id) = Some dag_id
 dag_of (op.PauseDag dag_id input) = Some dag_id
+dag_of (op.ListRuns dag) = dag
+dag_of (op.TriggerRun dag_id input) = Some dag_id
+dag_of (op.GetRun dag_id run_id) = Some dag_id
 
--- the DAG's id that is the first part of a path
+-- the run that an operation names, or none
+abbrev pub run_of : Op → Option (List ℕ)
+run_of op.Version = None
+run_of op.ListDags = None
+run_of (op.GetDag dag_id) = None
+run_of (op.PauseDag dag_id input) = None
+run_of (op.ListRuns dag) = None
+run_of (op.TriggerRun dag_id input) = None
+run_of (op.GetRun dag_id run_id) = Some run_id
+
+abbrev pub given_in : Result Trigger BodyFault → Option (List ℕ)
+given_in (Ok asked) = asked.dag_run_id
+given_in (Err fault) = None
+
+-- the id that the run which an operation adds is given, or none
+abbrev pub given_id : Op → Option (List ℕ)
+given_id op.Version = None
+given_id op.ListDags = None
+given_id (op.GetDag dag_id) = None
+given_id (op.PauseDag dag_id input) = None
+given_id (op.ListRuns dag) = None
+given_id (op.TriggerRun dag_id input) = given_in input
+given_id (op.GetRun dag_id run_id) = None
+
+-- the name of a kind that is the first of some parts
+abbrev pub first_in : Grammar → List (List ℕ) → Option (List ℕ)
+first_in grammar [] = None
+first_in grammar (part ∷ parts) = result_ok (named grammar part)
+
+abbrev pub after_first : List (List ℕ) → List (List ℕ)
+after_first [] = []
+after_first (part ∷ parts) = parts
+
+-- the DAG's id that is the first part of a path, and the run's that is the second
 abbrev pub dag_id_in : List (List ℕ) → Option (List ℕ)
-dag_id_in [] = None
-dag_id_in (part ∷ parts) = result_ok (named id_grammar part)
+dag_id_in parts = first_in id_grammar parts
 
--- whether the parts of a path of this form, decoded, are names of their kinds
-abbrev pub are_names : Place → List (List ℕ) → Bool
-are_names place.Version parts = true
-are_names place.Dags parts = true
-are_names place.Dag parts = is_some (dag_id_in parts)
+abbrev pub run_id_in : List (List ℕ) → Option (List ℕ)
+run_id_in parts = first_in run_id_grammar (after_first parts)
+
+-- two, where both are there
+abbrev pub both : {X Y : Type 0} → Option X → Option Y → Option (X × Y)
+both (Some x) (Some y) = Some (x, y)
+both (Some x) None = None
+both None y = None
+
+abbrev pub run_ids_in : List (List ℕ) → Option (List ℕ × List ℕ)
+run_ids_in parts = both (dag_id_in parts) (run_id_in parts)
+
+-- whether the first part is `~`, which stands for all DAGs
+abbrev pub is_all : List (List ℕ) → Bool
+is_all [] = false
+is_all (part ∷ parts) = is_tilde part
+
+abbrev pub is_get : Option Method → Bool
+is_get None = false
+is_get (Some Get) = true
+is_get (Some Post) = false
+is_get (Some Patch) = false
+is_get (Some Delete) = false
+
+-- whether the parts of a path of this form, decoded, are names of their kinds, where it is asked for by this method, or by one that
+-- the API has not; `~` stands for all DAGs in the listing of runs alone
+abbrev pub are_names : Option Method → Place → List (List ℕ) → Bool
+are_names method place.Version parts = true
+are_names method place.Dags parts = true
+are_names method place.Dag parts = is_some (dag_id_in parts)
+are_names method place.Runs parts = is_some (dag_id_in parts) || (is_get method && is_all parts)
+are_names method place.Run parts = is_some (dag_id_in parts) && is_some (run_id_in parts)
 
 -- The operation that a row of the table stands for, where the parts of the path, decoded, are these and the body has these
 -- bytes; none where a part is no name of its kind. Bodies of operations that read none are ignored.
@@ -42,6 +111,9 @@ op_of_row endpoint.Version parts body = Some op.Version
 op_of_row endpoint.ListDags parts body = Some op.ListDags
 op_of_row endpoint.GetDag parts body = option_map (λ dag_id. op.GetDag dag_id) (dag_id_in parts)
 op_of_row endpoint.PauseDag parts body = option_map (λ dag_id. op.PauseDag dag_id (pause_in body)) (dag_id_in parts)
+op_of_row endpoint.ListRuns parts body = if is_all parts then Some (op.ListRuns None) else option_map (λ dag_id. op.ListRuns (Some dag_id)) (dag_id_in parts)
+op_of_row endpoint.TriggerRun parts body = option_map (λ dag_id. op.TriggerRun dag_id (trigger_in body)) (dag_id_in parts)
+op_of_row endpoint.GetRun parts body = option_map (λ ids. op.GetRun ids.0 ids.1) (run_ids_in parts)
 
 -- the same operation, whose body was not read for want of memory
 abbrev pub unread : Op → Op
@@ -49,6 +121,9 @@ unread op.Version = op.Version
 unread op.ListDags = op.ListDags
 unread (op.GetDag dag_id) = op.GetDag dag_id
 unread (op.PauseDag dag_id input) = op.PauseDag dag_id (Err OutOfMemory)
+unread (op.ListRuns dag) = op.ListRuns dag
+unread (op.TriggerRun dag_id input) = op.TriggerRun dag_id (Err OutOfMemory)
+unread (op.GetRun dag_id run_id) = op.GetRun dag_id run_id
 
 -- this operation was read, all of it or without its body
 abbrev pub IsRead : Option Op → Option Op → Type 0

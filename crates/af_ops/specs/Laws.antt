@@ -1,11 +1,18 @@
 -- Laws about operations, in words of their own.
-use Rattle.std.specs.Prelude.{◌≡◌, ◌≢◌, ◌||◌, ℕ, List, [], ◌∷◌, Bool, false, not, nat_eq, filter, Some, None, Ok, ⊤, codes, if◌then◌else◌}
+use Rattle.std.specs.Prelude.{◌≡◌, ◌≢◌, ◌↔◌, ◌<◌, ◌≤◌, ◌+◌, ◌||◌, ℕ, List, [], ◌∷◌, ◌++◌, Bool, true, false, not, nat_eq, filter, length, map, All, Contains, Some, None, option_map, Result, Ok, ⊤, codes, if◌then◌else◌}
 use Rattle.std.specs.Cmp.Lexicographic.{pointwise}
-use Rattle.af_runs.specs.Runs.{is_of}
+use Rattle.af_graph.specs.declared.task_state.TaskState.TheVariants.{NoStatus}
+use Rattle.af_runs.specs.Runs.{AreRuns, is_of}
+use Rattle.af_runs.specs.declared.run.Run.{Run}
+use Rattle.af_runs.specs.declared.run_state.RunState.TheVariants.{Queued}
 use Rattle.af_sched.specs.State.{AreInOrder, StateRows, is_of_id}
+use Rattle.af_sched.specs.State as sched
+use Rattle.af_ops.specs.declared.body_fault.BodyFault.{BodyFault}
 use Rattle.af_ops.specs.declared.endpoint.Endpoint.{Endpoint}
 use Rattle.af_ops.specs.declared.method.Method.TheVariants.{Get}
 use Rattle.af_ops.specs.declared.op.Op.{Op}
+use Rattle.af_ops.specs.declared.op.Op.TheVariants as op
+use Rattle.af_ops.specs.declared.trigger.Trigger.{Trigger}
 use Rattle.af_ops.specs.Effects.{Effect, effect_of}
 use Rattle.af_ops.specs.Endpoints.{dag_id_in, dag_of, endpoint_of, op_of_row}
 use Rattle.af_ops.specs.Listings.{default_limit, page, read_rows}
@@ -40,6 +47,38 @@ abbrev pub ChangesStayAtTheirDag : Type 0
 ChangesStayAtTheirDag =
     (reads : List ℕ → Bool) (state : StateRows) (asked : Op) (now : ℕ) (effect : Effect) (next : StateRows) (dag_id : List ℕ) → effect_of reads state asked now ≡ Ok effect
     → effect.next ≡ Some next → dag_of asked ≡ Some dag_id → LeavesOthers dag_id state next
+
+-- the listing of all runs has exactly the runs whose DAG is read
+abbrev pub RunsListedAreThoseRead : Type 0
+RunsListedAreThoseRead =
+    (reads : List ℕ → Bool) (state : StateRows) (run : Run)
+    → Contains (read_rows reads (λ it. it.dag_id) state.runs) run ↔ (Contains state.runs run × (reads run.dag_id ≡ true))
+
+-- A run of this DAG was added last: it is queued, and has for each task of the DAG an instance in no state, never tried; its number
+-- is above those of all runs, and below the next one. All else is the same.
+pub record AddsRun (dag_id : List ℕ) (old new : StateRows) (run : Run) : Type 0 where
+  pub last : new.runs ≡ old.runs ++ run ∷ []
+  pub of_dag : run.dag_id ≡ dag_id
+  pub queued : run.state ≡ Queued
+  pub whole : option_map (λ row. length row.dag.tasks) (sched.dag_of old.dags dag_id) ≡ Some (length run.instances)
+  pub untried : All (λ it. (it.state ≡ NoStatus) × (it.try_number ≡ 0)) run.instances
+  pub above : All (λ other. other.number < run.number) old.runs
+  pub next : new.next_run ≡ run.number + 1
+  pub dags : new.dags ≡ old.dags
+  pub pools : new.pools ≡ old.pools
+
+-- what triggers a run adds one, and nothing else is changed
+abbrev pub TriggersAddARun : Type 0
+TriggersAddARun =
+    (reads : List ℕ → Bool) (state : StateRows) (dag_id : List ℕ) (input : Result Trigger BodyFault) (now : ℕ) (effect : Effect)
+    → AreRuns state.runs state.next_run → effect_of reads state (op.TriggerRun dag_id input) now ≡ Ok effect
+    → (next : StateRows) × (effect.next ≡ Some next) × ((run : Run) × AddsRun dag_id state next run)
+
+-- the number that the next run gets never falls
+abbrev pub RunNumbersRise : Type 0
+RunNumbersRise =
+    (reads : List ℕ → Bool) (state : StateRows) (asked : Op) (now : ℕ) (effect : Effect) (next : StateRows) → effect_of reads state asked now ≡ Ok effect
+    → effect.next ≡ Some next → state.next_run ≤ next.next_run
 
 -- the texts between a path's slashes are those of a pattern, where a part stands for any text that is not empty
 abbrev pub Matches : List Segment → List (List ℕ) → Type 0

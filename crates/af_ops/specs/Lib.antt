@@ -9,8 +9,8 @@ pub mod Laws
 pub mod Listings
 pub mod Methods
 pub mod Prepared
-pub mod Readings
 pub mod Replies
+pub mod Required
 pub mod Rows
 pub mod Served
 pub mod Standings

@@ -1,13 +1,17 @@
 -- What is told, as JSON values.
 use Rattle.std.specs.Prelude.{ℕ, List}
 use Rattle.serde_json.specs.Data.{Data}
+use Rattle.af_runs.specs.declared.run.Run.{Run}
 use Rattle.af_sched.specs.declared.dag_row.DagRow.{DagRow}
 use Rattle.af_ops.specs.declared.status.Status.{Status}
 use Rattle.af_ops.specs.Fields.{object_of}
-use Rattle.af_ops.specs.Rows.{dag_fields, version_fields, problem_fields}
+use Rattle.af_ops.specs.Rows.{dag_fields, run_fields, version_fields, problem_fields}
 
 abbrev pub dag_data : DagRow → Data
 dag_data row = object_of (dag_fields row)
+
+abbrev pub run_data : Run → Data
+run_data run = object_of (run_fields run)
 
 -- what the server is
 abbrev pub version_data : Data

@@ -1,11 +1,16 @@
 -- The rows that are told (Airflow 2, "Stable REST API"; RFC 9457: faults), each as its members in byte order of their names.
-use Rattle.std.specs.Prelude.{ℕ, List, [], ◌∷◌, Option, codes}
+use Rattle.std.specs.Prelude.{ℕ, List, [], ◌∷◌, Option, Some, codes}
 use Rattle.std.specs.Option.{option_map_or}
 use Rattle.serde_json.specs.Data.{Data, null, boolean, number, unsigned, string}
 use Rattle.af_names.specs.Presets.{preset_text}
 use Rattle.af_graph.specs.declared.schedule.Schedule.{Schedule}
 use Rattle.af_graph.specs.declared.schedule.Points.{Points}
 use Rattle.af_graph.specs.declared.schedule.Points.TheVariants as points
+use Rattle.af_runs.specs.declared.run.Run.{Run}
+use Rattle.af_runs.specs.declared.run_state.RunState.{RunState}
+use Rattle.af_runs.specs.declared.run_state.RunState.TheVariants as run_state
+use Rattle.af_runs.specs.declared.run_type.RunType.{RunType}
+use Rattle.af_runs.specs.declared.run_type.RunType.TheVariants as run_type
 use Rattle.af_sched.specs.declared.dag_row.DagRow.{DagRow}
 use Rattle.af_ops.specs.declared.status.Status.{Status}
 use Rattle.af_ops.specs.Fields.{Field, instant_data}
@@ -27,6 +32,30 @@ dag_fields row =
     ∷ (codes "max_active_runs", number (unsigned row.dag.max_active_runs))
     ∷ (codes "next_dagrun", instant_data row.cursor)
     ∷ (codes "schedule_interval", schedule_data row.dag.schedule)
+    ∷ []
+
+abbrev pub run_type_text : RunType → List ℕ
+run_type_text run_type.Manual = codes "manual"
+run_type_text run_type.Scheduled = codes "scheduled"
+
+abbrev pub run_state_text : RunState → List ℕ
+run_state_text run_state.Queued = codes "queued"
+run_state_text run_state.Running = codes "running"
+run_state_text run_state.Success = codes "success"
+run_state_text run_state.Failed = codes "failed"
+
+-- a run of a DAG; its number is not told
+abbrev pub run_fields : Run → List Field
+run_fields run =
+    (codes "dag_id", string run.dag_id)
+    ∷ (codes "dag_run_id", string run.run_id)
+    ∷ (codes "data_interval_end", instant_data (Some run.interval.end))
+    ∷ (codes "data_interval_start", instant_data (Some run.interval.start))
+    ∷ (codes "end_date", instant_data run.end_date)
+    ∷ (codes "logical_date", instant_data (Some run.logical_date))
+    ∷ (codes "run_type", string (run_type_text run.run_type))
+    ∷ (codes "start_date", instant_data run.start_date)
+    ∷ (codes "state", string (run_state_text run.state))
     ∷ []
 
 -- what the server is

@@ -4,8 +4,9 @@ use Rattle.std.specs.Prelude.{ℕ, List, [], ◌∷◌, ◌++◌, Bool, true, fa
 use Rattle.std.specs.List.{find}
 use Rattle.std.specs.Ordering.{on}
 use Rattle.af_role.specs.declared.action.Action.{Action}
-use Rattle.af_role.specs.declared.action.Action.TheVariants.{Read, Edit}
-use Rattle.af_role.specs.declared.resource.ResourceKind.TheVariants.{Dags}
+use Rattle.af_role.specs.declared.action.Action.TheVariants.{Create, Read, Edit}
+use Rattle.af_role.specs.declared.resource.ResourceKind.{ResourceKind}
+use Rattle.af_role.specs.declared.resource.ResourceKind.TheVariants.{Dags, DagRuns}
 use Rattle.af_role.specs.declared.need.Need.{Need}
 use Rattle.af_ops.specs.declared.method.Method.{Method}
 use Rattle.af_ops.specs.declared.method.Method.TheVariants.{Get, Post, Patch, Delete}
@@ -26,10 +27,19 @@ pub data Segment : Type 0 where
 abbrev pub api : List Segment → List Segment
 api rest = Text (codes "api") ∷ Text (codes "v1") ∷ rest
 
+-- below a DAG, and below one of its runs
+abbrev pub of_dag : List Segment → List Segment
+of_dag rest = api (Text (codes "dags") ∷ Part (codes "dag_id") ∷ rest)
+
+abbrev pub of_run : List Segment → List Segment
+of_run rest = of_dag (Text (codes "dagRuns") ∷ Part (codes "dag_run_id") ∷ rest)
+
 abbrev pub segments_of : Place → List Segment
 segments_of place.Version = api (Text (codes "version") ∷ [])
 segments_of place.Dags = api (Text (codes "dags") ∷ [])
-segments_of place.Dag = api (Text (codes "dags") ∷ Part (codes "dag_id") ∷ [])
+segments_of place.Dag = of_dag []
+segments_of place.Runs = of_dag (Text (codes "dagRuns") ∷ [])
+segments_of place.Run = of_run []
 
 -- how a path is spelled, with its parts in braces
 abbrev pub spelled : List Segment → List ℕ
@@ -38,12 +48,14 @@ spelled (Text text ∷ rest) = 47 ∷ (text ++ spelled rest)
 spelled (Part name ∷ rest) = 47 ∷ 123 ∷ (name ++ 125 ∷ spelled rest)
 
 abbrev pub places : List Place
-places = place.Version ∷ place.Dags ∷ place.Dag ∷ []
+places = place.Version ∷ place.Dags ∷ place.Dag ∷ place.Runs ∷ place.Run ∷ []
 
 abbrev pub place_rank : Place → ℕ
 place_rank place.Version = 0
 place_rank place.Dags = 1
 place_rank place.Dag = 2
+place_rank place.Runs = 3
+place_rank place.Run = 4
 
 abbrev pub same_place : Place → Place → Bool
 same_place = on place_rank nat_eq
@@ -57,6 +69,10 @@ at_dag action = record { action = action; kind = Dags; at_dag = true }
 -- an action on `DAGs`, or on at least one DAG that is there
 abbrev pub at_some_dag : Action → Need
 at_some_dag action = record { action = action; kind = Dags; at_dag = false }
+
+-- an action on the resources of a kind
+abbrev pub on_all : Action → ResourceKind → Need
+on_all action kind = record { action = action; kind = kind; at_dag = false }
 
 -- ---- the table
 
@@ -78,9 +94,12 @@ route_of endpoint.Version = opened Get place.Version
 route_of endpoint.ListDags = needing Get place.Dags (at_some_dag Read ∷ [])
 route_of endpoint.GetDag = needing Get place.Dag (at_dag Read ∷ [])
 route_of endpoint.PauseDag = needing Patch place.Dag (at_dag Edit ∷ [])
+route_of endpoint.ListRuns = needing Get place.Runs (at_dag Read ∷ on_all Read DagRuns ∷ [])
+route_of endpoint.TriggerRun = needing Post place.Runs (at_dag Edit ∷ on_all Create DagRuns ∷ [])
+route_of endpoint.GetRun = needing Get place.Run (at_dag Read ∷ on_all Read DagRuns ∷ [])
 
 abbrev pub endpoints : List Endpoint
-endpoints = endpoint.Version ∷ endpoint.ListDags ∷ endpoint.GetDag ∷ endpoint.PauseDag ∷ []
+endpoints = endpoint.Version ∷ endpoint.ListDags ∷ endpoint.GetDag ∷ endpoint.PauseDag ∷ endpoint.ListRuns ∷ endpoint.TriggerRun ∷ endpoint.GetRun ∷ []
 
 -- ---- what is read off it
 

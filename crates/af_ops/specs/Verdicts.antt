@@ -14,8 +14,9 @@ use Rattle.af_ops.specs.declared.answer.Under.{Under}
 use Rattle.af_ops.specs.declared.op.Op.{Op}
 use Rattle.af_ops.specs.Effects.{Effect, effect_of}
 use Rattle.af_ops.specs.Endpoints.{dag_of, endpoint_of}
+use Rattle.af_ops.specs.Required.{needs_for}
 use Rattle.af_ops.specs.Standings.{StandingRows, history_limit}
-use Rattle.af_ops.specs.Table.{is_open, needs_of}
+use Rattle.af_ops.specs.Table.{is_open}
 
 pub data Verdict : Type 0 where
   -- told to anybody, under no policy
@@ -53,7 +54,7 @@ permitted granted standing asked now None = done standing.under (effect_of (read
 abbrev pub granted_verdict : (PairRow → Bool) → StandingRows → Op → ℕ → Verdict
 granted_verdict granted standing asked now =
     permitted granted standing asked now
-    (first_unmet granted (dag_of asked) (dag_ids standing.state) (needs_of (endpoint_of asked)))
+    (first_unmet granted (dag_of asked) (dag_ids standing.state) (needs_for asked))
 
 -- the verdict on what the user behind a token asks, if there is one
 abbrev pub judged : PolicyRows → StandingRows → Op → ℕ → Option (List ℕ) → Verdict

@@ -1,15 +1,23 @@
--- A small policy and a small state, for worked values: a viewer, a user who may read one DAG, one who may edit all, one without
--- permissions, and three DAGs, the first of them paused.
-use Rattle.std.specs.Prelude.{ℕ, List, [], ◌∷◌, ◌++◌, Bool, true, false, Option, Some, None, codes}
+-- A small policy and a small state, for worked values: a viewer, a user who may read one DAG, one who may read its runs too, one who
+-- may edit all, one without permissions, and three DAGs of one task, the first of them paused.
+use Rattle.std.specs.Prelude.{ℕ, pos, List, [], ◌∷◌, ◌++◌, Bool, true, false, Option, Some, None, Result, Ok, codes}
 use Rattle.af_role.specs.declared.action.Action.TheVariants.{Read}
-use Rattle.af_role.specs.Pairs.{on_dag}
+use Rattle.af_role.specs.declared.resource.ResourceKind.TheVariants.{DagRuns}
+use Rattle.af_role.specs.Pairs.{on_dag, on_kind}
 use Rattle.af_role.specs.Roles.{RoleRow}
 use Rattle.af_role.specs.DefaultRoles.{viewer_adds, user_adds}
 use Rattle.af_policy.specs.Rows.{UserRow, PolicyRows}
+use Rattle.af_graph.specs.declared.rule.Rule.TheVariants.{AllSuccess}
+use Rattle.af_graph.specs.declared.task_spec.TaskSpec.{TaskSpec}
+use Rattle.af_runs.specs.Runs.{queued_run}
+use Rattle.af_runs.specs.declared.run.Run.{Run}
 use Rattle.af_sched.specs.State.{StateRows}
 use Rattle.af_sched.specs.declared.dag_row.DagRow.{DagRow}
 use Rattle.af_ops.specs.declared.op.Op.{Op}
 use Rattle.af_ops.specs.declared.shown_answer.Shown.{Shown}
+use Rattle.af_ops.specs.declared.trigger.Trigger.{Trigger}
+use Rattle.af_ops.specs.Edits.{with_run}
+use Rattle.af_ops.specs.Effects.{new_run}
 use Rattle.af_ops.specs.Served.{answer_of}
 use Rattle.af_ops.specs.Standings.{StandingRows}
 use Rattle.af_ops.specs.Verdicts.{Verdict, judged}
@@ -18,6 +26,7 @@ abbrev pub users : List UserRow
 users =
     record { name = codes "bob"; digest = codes "digest of bob"; roles = codes "OnlyB" ∷ [] }
     ∷ record { name = codes "pat"; digest = codes "digest of pat"; roles = codes "Public" ∷ [] }
+    ∷ record { name = codes "ron"; digest = codes "digest of ron"; roles = codes "RunsB" ∷ [] }
     ∷ record { name = codes "uma"; digest = codes "digest of uma"; roles = codes "User" ∷ [] }
     ∷ record { name = codes "vera"; digest = codes "digest of vera"; roles = codes "Viewer" ∷ [] }
     ∷ []
@@ -26,6 +35,7 @@ abbrev pub roles : List RoleRow
 roles =
     record { name = codes "OnlyB"; pairs = on_dag Read (codes "b") ∷ [] }
     ∷ record { name = codes "Public"; pairs = [] }
+    ∷ record { name = codes "RunsB"; pairs = on_kind Read DagRuns ∷ on_dag Read (codes "b") ∷ [] }
     ∷ record { name = codes "User"; pairs = viewer_adds ++ user_adds }
     ∷ record { name = codes "Viewer"; pairs = viewer_adds }
     ∷ []
@@ -33,9 +43,21 @@ roles =
 abbrev pub policy : PolicyRows
 policy = record { users = users; roles = roles }
 
+abbrev pub task : TaskSpec
+task = record {
+  task_id = codes "t";
+  upstream = [];
+  pool = codes "default_pool";
+  pool_slots = 1;
+  priority_weight = pos 1;
+  retries = 0;
+  retry_delay = 300;
+  trigger_rule = AllSuccess;
+}
+
 abbrev pub dag : List ℕ → Bool → DagRow
 dag id paused = record {
-  dag = record { dag_id = id; tasks = []; schedule = None; catchup = true; max_active_runs = 16 };
+  dag = record { dag_id = id; tasks = task ∷ []; schedule = None; catchup = true; max_active_runs = 16 };
   is_paused = paused;
   cursor = None;
 }
@@ -63,3 +85,26 @@ asks standing who asked = judged policy standing asked 0 (Some who)
 -- what this user is told
 abbrev pub is_told : StandingRows → List ℕ → Op → Option Shown
 is_told standing who asked = answer_of asked standing.under (asks standing who asked)
+
+-- ---- runs
+
+-- the state with a run of the DAG a, and then one of the DAG b, of these ids, dated one and two microseconds after 1970
+abbrev pub with_runs : StateRows
+with_runs =
+    with_run (with_run (state_with false) (new_run (dag (codes "a") true) (codes "a") (codes "r1") 1))
+    (new_run (dag (codes "b") false) (codes "b") (codes "r2") 2)
+
+-- and two entries
+abbrev pub later : StandingRows
+later = record { under = record { version = 0; seq = 2 }; state = with_runs }
+
+-- the run of the DAG b
+abbrev pub second : Run
+second = queued_run 2 (new_run (dag (codes "b") false) (codes "b") (codes "r2") 2)
+
+-- what this user is told at 2024-01-01T00:00:00.000001Z
+abbrev pub is_told_then : StandingRows → List ℕ → Op → Option Shown
+is_told_then standing who asked = answer_of asked standing.under (judged policy standing asked 1_704_067_200_000_001 (Some who))
+
+abbrev pub trigger : Option (List ℕ) → Option ℕ → Trigger
+trigger run_id date = record { dag_run_id = run_id; logical_date = date }

@@ -1,4 +1,5 @@
 use crate::body_fault::Member;
+use af_names::Instant;
 use af_role::Need;
 use std::alloc::AllocError;
 
@@ -18,6 +19,16 @@ pub enum OpFault {
     BadMember(Member),
     /// The DAG that it names is not there.
     NoSuchDag,
+    /// The run that it names is not there.
+    NoSuchRun,
+    /// The DAG has a run of the id that is given, else of the id that is made of this date.
+    RunExists(Instant),
+    /// The DAG has a run of this logical date.
+    DateTaken(Instant),
+    /// A limit on the number of rows would be passed.
+    TooMany,
+    /// No number is left for a run. It is told as `TooMany`, and only where there is memory for the run's id.
+    NoNumberLeft,
     /// It would change the state, and there is no room for one more entry.
     HistoryFull,
     /// A growth was refused, and nothing was done.

@@ -1,12 +1,14 @@
 // Reading the members of a request's body. A member that is null counts as absent.
-ghost use Rattle.std.specs.Prelude.{◌≡◌, option_map, ok_or};
-ghost use Rattle.serde_json.specs.Find.{as_bool};
+ghost use Rattle.std.specs.Prelude.{◌≡◌, ⊤, Err, Ok};
 ghost use Rattle.serde_json.specs.View.{view};
-ghost use Rattle.af_ops.specs.Readings.{OrMemory, member_of, seen};
-ghost use Rattle.af_ops.specs.Bodies.{body_in, json_of, pause_in, required_in};
+ghost use Rattle.af_base.specs.Readings.{OrMemory, seen};
+ghost use Rattle.af_ops.specs.Bodies.{body_in, date_in, empty_object, instant_in, is_empty, optional_in, pause_in, run_id_of, trigger_in};
 
 use crate::body_fault::{BodyFault, Member};
 use crate::member_name::name_of;
+use crate::trigger::Trigger;
+use af_base::{json_in, member, required_truth};
+use af_names::{Instant, NameError, RunId};
 use serde_json::Value;
 use std::alloc::Global;
 
@@ -16,45 +18,96 @@ pub fn read_pause(alloc: Global, bytes: &[u8]) -> Result<bool, BodyFault>
     ensures { OrMemory BodyFault.OutOfMemory (pause_in bytes.now) result }
 {
     let body = body_in(alloc, bytes)?;
-    required_truth(&body, Member::IsPaused)
+    let it = Member::IsPaused;
+    required_truth(&body, name_of(it), BodyFault::BadMember(it))
+}
+
+/// Reads what triggers a run. The first fault decides: `BadBody` where the bytes are no JSON object, then `BadMember` of
+/// `dag_run_id`, of `logical_date` or else of `execution_date`, and of `conf`, where they are there and of another kind or
+/// value; `OutOfMemory` only where a growth was refused.
+pub fn read_trigger(alloc: Global, bytes: &[u8]) -> Result<Trigger, BodyFault>
+    ensures { OrMemory BodyFault.OutOfMemory (trigger_in bytes.now) result }
+{
+    let body = body_in(alloc, bytes)?;
+    let dag_run_id = optional_run_id(alloc, &body, Member::DagRunId)?;
+    let logical_date = date_in(&body)?;
+    optional_empty(&body, Member::Conf)?;
+    Ok(Trigger {
+        dag_run_id,
+        logical_date,
+    })
 }
 
 /// The object that a body is.
 fn body_in(alloc: Global, bytes: &[u8]) -> Result<Value, BodyFault>
     ensures { OrMemory BodyFault.OutOfMemory (body_in bytes.now) (seen view result) }
 {
-    let value = json_in(alloc, bytes)?;
-    if value.is_object() {
-        Ok(value)
+    match json_in(alloc, bytes)? {
+        Some(value) if value.is_object() => Ok(value),
+        _ => Err(BodyFault::BadBody),
+    }
+}
+
+/// The logical date, by its name or by its older one.
+fn date_in(body: &Value) -> Result<Option<Instant>, BodyFault>
+    ensures { result ≡ date_in (view body.now) }
+{
+    match member(body, "logical_date") {
+        Some(_) => optional_instant(body, Member::LogicalDate),
+        None => optional_instant(body, Member::ExecutionDate),
+    }
+}
+
+fn optional_instant(body: &Value, it: Member) -> Result<Option<Instant>, BodyFault>
+    ensures { result ≡ optional_in instant_in it (view body.now) }
+{
+    let Some(value) = member(body, name_of(it)) else {
+        return Ok(None);
+    };
+    let Some(text) = value.as_str() else {
+        return Err(BodyFault::BadMember(it));
+    };
+    match Instant::read(text) {
+        Ok(instant) => Ok(Some(instant)),
+        Err(_) => Err(BodyFault::BadMember(it)),
+    }
+}
+
+fn optional_run_id(alloc: Global, body: &Value, it: Member) -> Result<Option<RunId>, BodyFault>
+    ensures { OrMemory BodyFault.OutOfMemory (optional_in run_id_of it (view body.now)) result }
+{
+    let Some(value) = member(body, name_of(it)) else {
+        return Ok(None);
+    };
+    let Some(text) = value.as_str() else {
+        return Err(BodyFault::BadMember(it));
+    };
+    match RunId::parse(alloc, text) {
+        Ok(run_id) => Ok(Some(run_id)),
+        Err(NameError::OutOfMemory) => Err(BodyFault::OutOfMemory),
+        Err(_) => Err(BodyFault::BadMember(it)),
+    }
+}
+
+/// An object without members, or nothing.
+fn optional_empty(body: &Value, it: Member) -> Result<Option<()>, BodyFault>
+    ensures { result ≡ optional_in empty_object it (view body.now) }
+{
+    let Some(value) = member(body, name_of(it)) else {
+        return Ok(None);
+    };
+    if is_empty_object(value) {
+        Ok(Some(()))
     } else {
-        Err(BodyFault::BadBody)
+        Err(BodyFault::BadMember(it))
     }
 }
 
-/// The JSON value that a body is the text of.
-fn json_in(alloc: Global, bytes: &[u8]) -> Result<Value, BodyFault>
-    ensures { OrMemory BodyFault.OutOfMemory (ok_or (json_of bytes.now) BodyFault.BadBody) (seen view result) }
+fn is_empty_object(value: &Value) -> bool
+    ensures { result ≡ is_empty (view value.now) }
 {
-    match Value::from_slice(alloc, bytes) {
-        Ok(value) => Ok(value),
-        Err(error) if error.is_memory() => Err(BodyFault::OutOfMemory),
-        Err(_) => Err(BodyFault::BadBody),
-    }
-}
-
-/// The member of that name, unless it is absent.
-fn member<'a>(object: &'a Value, name: &str) -> Option<&'a Value>
-    ensures { option_map (λ value. view value.now) result ≡ member_of name.now (view object.now) }
-{
-    let value = object.get(name)?;
-    if value.is_null() { None } else { Some(value) }
-}
-
-fn required_truth(body: &Value, it: Member) -> Result<bool, BodyFault>
-    ensures { result ≡ required_in as_bool it (view body.now) }
-{
-    match member(body, name_of(it)) {
-        Some(value) => value.as_bool().ok_or(BodyFault::BadMember(it)),
-        None => Err(BodyFault::BadMember(it)),
+    match value.as_object() {
+        Some(members) => members.is_empty(),
+        None => false,
     }
 }

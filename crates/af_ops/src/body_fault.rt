@@ -1,8 +1,18 @@
+use std::alloc::AllocError;
+
 /// A member of a body.
 #[derive(Clone, Copy, Debug, PartialEq, Eq)]
 pub enum Member {
     /// `is_paused`
     IsPaused,
+    /// `dag_run_id`
+    DagRunId,
+    /// `logical_date`
+    LogicalDate,
+    /// `execution_date`
+    ExecutionDate,
+    /// `conf`
+    Conf,
 }
 
 /// Why a body is refused.
@@ -14,4 +24,15 @@ pub enum BodyFault {
     BadMember(Member),
     /// A growth of memory was refused.
     OutOfMemory,
+}
+
+impl From<AllocError> for BodyFault {
+    ghost use Rattle.std.specs.Prelude.{◌≡◌};
+    ghost use Rattle.af_ops.specs.declared.body_fault.BodyFault.TheVariants.{OutOfMemory};
+
+    ghost from_gives = { λ _ fault. fault ≡ OutOfMemory };
+
+    fn from(_error: AllocError) -> BodyFault {
+        BodyFault::OutOfMemory
+    }
 }

@@ -13,7 +13,7 @@ use crate::answer::{CallFault, OpFault, Under};
 use crate::op::Op;
 use crate::prepared::Prepared;
 use crate::preparing::prepare;
-use crate::table::needs;
+use crate::table::needs_for;
 use af_names::Instant;
 use af_policy::{Policy, PolicyView, Reader};
 use af_sched::State;
@@ -63,7 +63,7 @@ fn decide_for(
     ensures entries { IfOk result (λ prepared. is_edit prepared.edit ≡ true → under.seq < history_limit) }
     ensures rows { state.new.rows ≡ state.old.rows }
 {
-    match view.missing(needs(op.endpoint()), op.dag(), state.dags()) {
+    match view.missing(needs_for(op), op.dag(), state.dags()) {
         Some(need) => Err(CallFault::Denied(need)),
         None => permitted(alloc, view, state, under, op, now),
     }

@@ -9,4 +9,10 @@ pub enum Endpoint {
     GetDag,
     /// `PATCH /dags/{dag_id}`
     PauseDag,
+    /// `GET /dags/{dag_id}/dagRuns`, and with `~` in place of the id
+    ListRuns,
+    /// `POST /dags/{dag_id}/dagRuns`
+    TriggerRun,
+    /// `GET /dags/{dag_id}/dagRuns/{dag_run_id}`
+    GetRun,
 }

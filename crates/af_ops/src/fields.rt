@@ -124,7 +124,7 @@ impl Text {
     {
         match value {
             None => self.null(later, name),
-            Some(instant) => self.text(alloc, later, name, instant.write(alloc)?.as_str()),
+            Some(instant) => self.text(alloc, later, name, instant.isoformat().as_str()),
         }
     }
 

@@ -1,4 +1,4 @@
-ghost use Rattle.af_ops.specs.Laws.{ListingsGoById, ReadingsLeaveTheState, ChangesLeaveAnotherState, ChangesStayAtTheirDag, OneRowAtMost, EachIsFound, OperationsAreOfTheirRow};
+ghost use Rattle.af_ops.specs.Laws.{ListingsGoById, ReadingsLeaveTheState, ChangesLeaveAnotherState, ChangesStayAtTheirDag, OneRowAtMost, EachIsFound, OperationsAreOfTheirRow, RunNumbersRise, RunsListedAreThoseRead, TriggersAddARun};
 
 /// A method and a path name one operation of the table at most.
 pub fn one_row_at_most()
@@ -33,4 +33,19 @@ pub fn changes_leave_another_state()
 /// An operation at one DAG leaves all other DAGs, their runs and the pools as they were.
 pub fn changes_stay_at_their_dag()
     ensures { ChangesStayAtTheirDag }
+{}
+
+/// The listing of all runs has exactly the runs whose DAG the user reads.
+pub fn runs_listed_are_those_read()
+    ensures { RunsListedAreThoseRead }
+{}
+
+/// What triggers a run adds it last, queued, with an instance in no state for each task, and changes nothing else.
+pub fn triggers_add_a_run()
+    ensures { TriggersAddARun }
+{}
+
+/// No operation lowers the number that the next run gets.
+pub fn run_numbers_rise()
+    ensures { RunNumbersRise }
 {}

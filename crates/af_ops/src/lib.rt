@@ -26,6 +26,7 @@ mod product;
 mod reading;
 mod route;
 mod row;
+mod run_text;
 mod segment;
 mod served;
 mod shown_answer;
@@ -34,10 +35,11 @@ mod status;
 mod table;
 mod telling;
 mod text;
+mod trigger;
 mod worked;
 
 pub use answer::{CallFault, OpFault, Under};
-pub use bodies::read_pause;
+pub use bodies::{read_pause, read_trigger};
 pub use body::Body;
 pub use body_fault::{BodyFault, Member};
 pub use deciding::decide;
@@ -58,12 +60,14 @@ pub use served::Served;
 pub use shown_answer::Shown;
 pub use standing::Standing;
 pub use status::Status;
-pub use table::{ENDPOINTS, PLACES, endpoint_at, methods_at, needs, route_of};
+pub use table::{ENDPOINTS, PLACES, endpoint_at, methods_at, needs, needs_for, route_of};
 pub use telling::shown_fault;
 pub use text::Text;
+pub use trigger::Trigger;
 pub use worked::{
     bodies_by_the_rule, changes_by_the_rule, faults_by_the_rule, messages_by_the_rule,
-    readings_by_the_rule, routes_by_the_rule,
+    readings_by_the_rule, routes_by_the_rule, run_messages_by_the_rule, runs_by_the_rule,
+    triggers_by_the_rule,
 };
 
 #[cfg(test)]

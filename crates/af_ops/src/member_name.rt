@@ -9,5 +9,9 @@ pub fn name_of(member: Member) -> &'static str
 {
     match member {
         Member::IsPaused => "is_paused",
+        Member::DagRunId => "dag_run_id",
+        Member::LogicalDate => "logical_date",
+        Member::ExecutionDate => "execution_date",
+        Member::Conf => "conf",
     }
 }

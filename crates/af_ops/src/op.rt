@@ -1,10 +1,11 @@
 ghost use Rattle.std.specs.Prelude.{◌≡◌};
 ghost use Rattle.std.specs.Option.{option_copied};
-ghost use Rattle.af_ops.specs.Endpoints.{endpoint_of, dag_of};
+ghost use Rattle.af_ops.specs.Endpoints.{dag_of, endpoint_of, given_id, given_in, run_of};
 
 use crate::body_fault::BodyFault;
 use crate::endpoint::Endpoint;
-use af_names::DagId;
+use crate::trigger::Trigger;
+use af_names::{DagId, RunId};
 
 /// An operation that a request asks for: the names of its path, and what was read of its body, where it reads one.
 #[derive(Drop)]
@@ -17,6 +18,12 @@ pub enum Op {
     GetDag(DagId),
     /// A DAG is paused, or not.
     PauseDag(DagId, Result<bool, BodyFault>),
+    /// The runs of one DAG, or those of all DAGs that the user reads.
+    ListRuns(Option<DagId>),
+    /// A run of a DAG is triggered.
+    TriggerRun(DagId, Result<Trigger, BodyFault>),
+    /// One run of a DAG.
+    GetRun(DagId, RunId),
 }
 
 impl Op {
@@ -29,6 +36,9 @@ impl Op {
             Op::ListDags => Endpoint::ListDags,
             Op::GetDag(_) => Endpoint::GetDag,
             Op::PauseDag(_, _) => Endpoint::PauseDag,
+            Op::ListRuns(_) => Endpoint::ListRuns,
+            Op::TriggerRun(_, _) => Endpoint::TriggerRun,
+            Op::GetRun(_, _) => Endpoint::GetRun,
         }
     }
 
@@ -39,6 +49,47 @@ impl Op {
         match self {
             Op::Version | Op::ListDags => None,
             Op::GetDag(dag_id) | Op::PauseDag(dag_id, _) => Some(dag_id),
+            Op::ListRuns(dag) => dag.as_ref(),
+            Op::TriggerRun(dag_id, _) | Op::GetRun(dag_id, _) => Some(dag_id),
         }
+    }
+
+    /// The run that it names, or none.
+    pub fn run(&self) -> Option<&RunId>
+        ensures { option_copied result ≡ run_of self.now }
+    {
+        match self {
+            Op::GetRun(_, run_id) => Some(run_id),
+            Op::Version
+            | Op::ListDags
+            | Op::GetDag(_)
+            | Op::PauseDag(_, _)
+            | Op::ListRuns(_)
+            | Op::TriggerRun(_, _) => None,
+        }
+    }
+
+    /// The id that is given to the run that it adds, or none.
+    pub(crate) fn given_id(&self) -> Option<&RunId>
+        ensures { option_copied result ≡ given_id self.now }
+    {
+        match self {
+            Op::TriggerRun(_, input) => given_in(input),
+            Op::Version
+            | Op::ListDags
+            | Op::GetDag(_)
+            | Op::PauseDag(_, _)
+            | Op::ListRuns(_)
+            | Op::GetRun(_, _) => None,
+        }
+    }
+}
+
+fn given_in(input: &Result<Trigger, BodyFault>) -> Option<&RunId>
+    ensures { option_copied result ≡ given_in input.now }
+{
+    match input {
+        Ok(asked) => asked.dag_run_id.as_ref(),
+        Err(_) => None,
     }
 }

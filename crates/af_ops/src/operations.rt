@@ -1,3 +1,5 @@
 // Each operation: what it answers and what it edits. All memory is taken here.
 pub(crate) mod dags;
+pub(crate) mod runs;
 pub(crate) mod shared;
+pub(crate) mod triggering;

@@ -53,6 +53,56 @@ static DAG: [Segment; 4] = [
     },
 ];
 
+static RUNS: [Segment; 5] = [
+    Segment {
+        text: "api",
+        is_part: false,
+    },
+    Segment {
+        text: "v1",
+        is_part: false,
+    },
+    Segment {
+        text: "dags",
+        is_part: false,
+    },
+    Segment {
+        text: "dag_id",
+        is_part: true,
+    },
+    Segment {
+        text: "dagRuns",
+        is_part: false,
+    },
+];
+
+static RUN: [Segment; 6] = [
+    Segment {
+        text: "api",
+        is_part: false,
+    },
+    Segment {
+        text: "v1",
+        is_part: false,
+    },
+    Segment {
+        text: "dags",
+        is_part: false,
+    },
+    Segment {
+        text: "dag_id",
+        is_part: true,
+    },
+    Segment {
+        text: "dagRuns",
+        is_part: false,
+    },
+    Segment {
+        text: "dag_run_id",
+        is_part: true,
+    },
+];
+
 /// A path of the API. Operations of several methods may have one path.
 #[derive(Clone, Copy, Debug, PartialEq, Eq)]
 pub enum Place {
@@ -62,6 +112,10 @@ pub enum Place {
     Dags,
     /// `/api/v1/dags/{dag_id}`
     Dag,
+    /// `/api/v1/dags/{dag_id}/dagRuns`
+    Runs,
+    /// `/api/v1/dags/{dag_id}/dagRuns/{dag_run_id}`
+    Run,
 }
 
 impl Place {
@@ -73,6 +127,8 @@ impl Place {
             Place::Version => "/api/v1/version",
             Place::Dags => "/api/v1/dags",
             Place::Dag => "/api/v1/dags/{dag_id}",
+            Place::Runs => "/api/v1/dags/{dag_id}/dagRuns",
+            Place::Run => "/api/v1/dags/{dag_id}/dagRuns/{dag_run_id}",
         }
     }
 
@@ -84,6 +140,8 @@ impl Place {
             Place::Version => &VERSION,
             Place::Dags => &DAGS,
             Place::Dag => &DAG,
+            Place::Runs => &RUNS,
+            Place::Run => &RUN,
         }
     }
 }

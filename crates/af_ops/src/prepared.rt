@@ -1,9 +1,10 @@
 ghost use Rattle.std.specs.Prelude.{◌≡◌};
-ghost use Rattle.af_ops.specs.Edits.{edited, is_edit};
-ghost use Rattle.af_ops.specs.Prepared.{CanDo};
+ghost use Rattle.af_ops.specs.Edits.{edited, is_edit, with_run};
+ghost use Rattle.af_ops.specs.Prepared.{CanAddRun, CanDo};
 
 use crate::body::Body;
 use crate::edit::Edit;
+use af_runs::NewRun;
 use af_sched::State;
 use std::marker::Model;
 
@@ -47,7 +48,7 @@ impl Prepared {
     {
         match &self.edit {
             Edit::Nothing => false,
-            Edit::DagPaused(_, _) => true,
+            Edit::DagPaused(_, _) | Edit::RunAdded(_) => true,
         }
     }
 }
@@ -71,5 +72,15 @@ fn do_edit(state: &mut State, edit: Edit)
     match edit {
         Edit::Nothing => {}
         Edit::DagPaused(dag_id, is_paused) => state.set_paused(&dag_id, is_paused),
+        Edit::RunAdded(new) => add_run(state, new),
     }
+}
+
+/// Adds a run that may be added. It takes no memory.
+fn add_run(state: &mut State, new: NewRun)
+    requires { CanAddRun state.old new }
+    ensures { state.new.rows ≡ with_run state.old.rows new }
+{
+    // There is room for it and no fault, so it succeeds.
+    let _number = state.add_run(new);
 }

@@ -2,12 +2,14 @@ ghost use Rattle.std.specs.Prelude.{◌≡◌, IfOk};
 ghost use Rattle.af_ops.specs.declared.answer.OpFault.TheVariants.{OutOfMemory};
 ghost use Rattle.af_ops.specs.Effects.{effect_of};
 ghost use Rattle.af_ops.specs.Prepared.{CanDo, IsExact, MemoryLast, done_on};
-ghost use Rattle.af_ops.specs.Readings.{seen};
+ghost use Rattle.af_base.specs.Readings.{seen};
 
 use crate::answer::OpFault;
 use crate::edit::Edit;
 use crate::op::Op;
 use crate::operations::dags::{dags_text, got_dag, paused_dag};
+use crate::operations::runs::{got_run, listed_runs};
+use crate::operations::triggering::triggered_run;
 use crate::prepared::Prepared;
 use crate::product::Product;
 use crate::row::row_text;
@@ -42,5 +44,8 @@ pub fn prepare<R: Reader>(
         }
         Op::GetDag(dag_id) => got_dag(alloc, state, dag_id),
         Op::PauseDag(dag_id, input) => paused_dag(alloc, state, dag_id, input),
+        Op::ListRuns(dag) => listed_runs(alloc, state, dag.as_ref(), reader),
+        Op::TriggerRun(dag_id, input) => triggered_run(alloc, state, dag_id, input, now),
+        Op::GetRun(dag_id, run_id) => got_run(alloc, state, dag_id, run_id),
     }
 }

@@ -1,11 +1,12 @@
 ghost use Rattle.std.specs.Prelude.{◌≡◌, IfOk, IsErr, IsSome, is_some, map, string_bytes};
-ghost use Rattle.af_ops.specs.Endpoints.{IsRead, are_names, dag_id_in, op_of_row};
+ghost use Rattle.af_ops.specs.Endpoints.{IsRead, are_names, dag_id_in, is_all, is_get, op_of_row, run_id_in, run_ids_in};
 
-use crate::bodies::read_pause;
+use crate::bodies::{read_pause, read_trigger};
 use crate::endpoint::Endpoint;
+use crate::method::Method;
 use crate::op::Op;
 use crate::place::Place;
-use af_names::{DagId, NameError};
+use af_names::{DagId, NameError, RunId};
 use std::alloc::{AllocError, Global};
 
 /// The operation that a row of the table stands for, where the parts of the path, decoded, are these; none where a part is no
@@ -36,16 +37,59 @@ pub fn read_row(
             };
             Ok(Some(Op::PauseDag(dag_id, read_pause(alloc, body))))
         }
+        Endpoint::ListRuns => {
+            if is_all(parts) {
+                return Ok(Some(Op::ListRuns(None)));
+            }
+            let Some(dag_id) = dag_id_in(alloc, parts)? else {
+                return Ok(None);
+            };
+            Ok(Some(Op::ListRuns(Some(dag_id))))
+        }
+        Endpoint::TriggerRun => {
+            let Some(dag_id) = dag_id_in(alloc, parts)? else {
+                return Ok(None);
+            };
+            Ok(Some(Op::TriggerRun(dag_id, read_trigger(alloc, body))))
+        }
+        Endpoint::GetRun => {
+            let Some((dag_id, run_id)) = run_ids_in(alloc, parts)? else {
+                return Ok(None);
+            };
+            Ok(Some(Op::GetRun(dag_id, run_id)))
+        }
     }
 }
 
-/// Whether the parts of a path of this form, decoded, are names of their kinds.
-pub fn are_names(alloc: Global, place: Place, parts: &[String]) -> bool
-    ensures { result ≡ are_names place (map (λ part. string_bytes part) parts.now) }
+/// Whether the parts of a path of this form, decoded, are names of their kinds, where it is asked for by this method, or by one
+/// that the API has not. `~` stands for all DAGs in the listing of runs alone.
+pub fn are_names(alloc: Global, method: Option<Method>, place: Place, parts: &[String]) -> bool
+    ensures { result ≡ are_names method place (map (λ part. string_bytes part) parts.now) }
 {
     match place {
         Place::Version | Place::Dags => true,
         Place::Dag => is_dag_id(alloc, parts),
+        Place::Runs => is_dag_id(alloc, parts) || is_get(method) && is_all(parts),
+        Place::Run => is_dag_id(alloc, parts) && is_run_id(alloc, parts),
+    }
+}
+
+/// Whether the first part of a path is `~`.
+fn is_all(parts: &[String]) -> bool
+    ensures { result ≡ is_all (map (λ part. string_bytes part) parts.now) }
+{
+    match parts.first() {
+        Some(part) => part.as_str() == "~",
+        None => false,
+    }
+}
+
+fn is_get(method: Option<Method>) -> bool
+    ensures { result ≡ is_get method }
+{
+    match method {
+        Some(Method::Get) => true,
+        Some(Method::Post | Method::Patch | Method::Delete) | None => false,
     }
 }
 
@@ -74,5 +118,53 @@ fn dag_id_in(alloc: Global, parts: &[String]) -> Result<Option<DagId>, AllocErro
         Ok(dag_id) => Ok(Some(dag_id)),
         Err(NameError::OutOfMemory) => Err(AllocError),
         Err(_) => Ok(None),
+    }
+}
+
+/// Whether the second part of a path is the id of a run. Want of memory is told of a name alone.
+fn is_run_id(alloc: Global, parts: &[String]) -> bool
+    ensures { result ≡ is_some (run_id_in (map (λ part. string_bytes part) parts.now)) }
+{
+    match parts.get(1) {
+        Some(part) => matches!(
+            RunId::parse(alloc, part.as_str()),
+            Ok(_) | Err(NameError::OutOfMemory)
+        ),
+        None => false,
+    }
+}
+
+/// The run's id that is the second part of a path.
+fn run_id_in(alloc: Global, parts: &[String]) -> Result<Option<RunId>, AllocError>
+    ensures ok { IfOk result (λ run_id. run_id ≡ run_id_in (map (λ part. string_bytes part) parts.now)) }
+    ensures memory { IsErr result → IsSome (run_id_in (map (λ part. string_bytes part) parts.now)) }
+{
+    let Some(part) = parts.get(1) else {
+        return Ok(None);
+    };
+    match RunId::parse(alloc, part.as_str()) {
+        Ok(run_id) => Ok(Some(run_id)),
+        Err(NameError::OutOfMemory) => Err(AllocError),
+        Err(_) => Ok(None),
+    }
+}
+
+/// The ids of a run that are the parts of a path: of its DAG, and its own.
+fn run_ids_in(alloc: Global, parts: &[String]) -> Result<Option<(DagId, RunId)>, AllocError>
+    ensures ok { IfOk result (λ ids. ids ≡ run_ids_in (map (λ part. string_bytes part) parts.now)) }
+    ensures memory { IsErr result → IsSome (run_ids_in (map (λ part. string_bytes part) parts.now)) }
+{
+    let dag_id = dag_id_in(alloc, parts);
+    match run_id_in(alloc, parts) {
+        Ok(Some(run_id)) => match dag_id {
+            Ok(Some(dag_id)) => Ok(Some((dag_id, run_id))),
+            Ok(None) => Ok(None),
+            Err(error) => Err(error),
+        },
+        Ok(None) => Ok(None),
+        Err(error) => match dag_id {
+            Ok(None) => Ok(None),
+            _ => Err(error),
+        },
     }
 }

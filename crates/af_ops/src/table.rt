@@ -1,23 +1,34 @@
 ghost use Rattle.std.specs.Prelude.{◌≡◌};
+ghost use Rattle.af_ops.specs.Required.{needs_for};
 ghost use Rattle.af_ops.specs.Table.{endpoint_at, has_method, is_route, methods_at, needs_of, needing, opened, route_of};
 
 use crate::endpoint::Endpoint;
 use crate::method::Method;
 use crate::methods::Methods;
+use crate::op::Op;
 use crate::place::Place;
 use crate::route::Route;
 use af_role::{Action, Need, ResourceKind};
 
 /// All operations.
-pub const ENDPOINTS: [Endpoint; 4] = [
+pub const ENDPOINTS: [Endpoint; 7] = [
     Endpoint::Version,
     Endpoint::ListDags,
     Endpoint::GetDag,
     Endpoint::PauseDag,
+    Endpoint::ListRuns,
+    Endpoint::TriggerRun,
+    Endpoint::GetRun,
 ];
 
 /// All paths.
-pub const PLACES: [Place; 3] = [Place::Version, Place::Dags, Place::Dag];
+pub const PLACES: [Place; 5] = [
+    Place::Version,
+    Place::Dags,
+    Place::Dag,
+    Place::Runs,
+    Place::Run,
+];
 
 /// The row of an operation.
 pub fn route_of(endpoint: Endpoint) -> Route
@@ -28,6 +39,9 @@ pub fn route_of(endpoint: Endpoint) -> Route
         Endpoint::ListDags => needing(Method::Get, Place::Dags, &READ_SOME_DAG),
         Endpoint::GetDag => needing(Method::Get, Place::Dag, &READ_DAG),
         Endpoint::PauseDag => needing(Method::Patch, Place::Dag, &EDIT_DAG),
+        Endpoint::ListRuns => needing(Method::Get, Place::Runs, &READ_RUN),
+        Endpoint::TriggerRun => needing(Method::Post, Place::Runs, &CREATE_RUN),
+        Endpoint::GetRun => needing(Method::Get, Place::Run, &READ_RUN),
     }
 }
 
@@ -51,6 +65,48 @@ static EDIT_DAG: [Need; 1] = [Need {
     kind: ResourceKind::Dags,
     at_dag: true,
 }];
+
+/// `can_edit` on `DAGs` at the DAG that the path names, and `can_create` on `DAG Runs`.
+static CREATE_RUN: [Need; 2] = [
+    Need {
+        action: Action::Edit,
+        kind: ResourceKind::Dags,
+        at_dag: true,
+    },
+    Need {
+        action: Action::Create,
+        kind: ResourceKind::DagRuns,
+        at_dag: false,
+    },
+];
+
+/// `can_read` on `DAGs` at the DAG that the path names, and on `DAG Runs`.
+static READ_RUN: [Need; 2] = [
+    Need {
+        action: Action::Read,
+        kind: ResourceKind::Dags,
+        at_dag: true,
+    },
+    Need {
+        action: Action::Read,
+        kind: ResourceKind::DagRuns,
+        at_dag: false,
+    },
+];
+
+/// `can_read` on `DAGs`, or on at least one DAG that is there, and on `DAG Runs`.
+static READ_SOME_RUN: [Need; 2] = [
+    Need {
+        action: Action::Read,
+        kind: ResourceKind::Dags,
+        at_dag: false,
+    },
+    Need {
+        action: Action::Read,
+        kind: ResourceKind::DagRuns,
+        at_dag: false,
+    },
+];
 
 /// The row of an operation that anybody may ask for.
 fn opened(method: Method, place: Place) -> Route
@@ -76,7 +132,24 @@ fn needing(method: Method, place: Place, needs: &'static [Need]) -> Route
     }
 }
 
-/// What an operation requires of its user, in the order in which it is tested.
+/// What an operation requires of its user, in the order in which it is tested: what the table says, and where it names no DAG,
+/// of all DAGs what the table says of one.
+pub fn needs_for(op: &Op) -> &'static [Need]
+    ensures { result.now ≡ needs_for op.now }
+{
+    match op {
+        Op::ListRuns(None) => &READ_SOME_RUN,
+        Op::ListRuns(Some(_)) => &READ_RUN,
+        Op::Version => needs(Endpoint::Version),
+        Op::ListDags => needs(Endpoint::ListDags),
+        Op::GetDag(_) => needs(Endpoint::GetDag),
+        Op::PauseDag(_, _) => needs(Endpoint::PauseDag),
+        Op::TriggerRun(_, _) => needs(Endpoint::TriggerRun),
+        Op::GetRun(_, _) => needs(Endpoint::GetRun),
+    }
+}
+
+/// What the table requires of an operation's user, in the order in which it is tested.
 pub fn needs(endpoint: Endpoint) -> &'static [Need]
     ensures { result.now ≡ needs_of endpoint }
 {

@@ -1,17 +1,21 @@
 ghost use Rattle.std.specs.Prelude.{◌≡◌, ◌++◌, [], Some, IfOk, codes, string_bytes, unwrap_or};
 ghost use Rattle.std.specs.Option.{option_copied};
+ghost use Rattle.af_names.specs.Isoformat.{isoformat};
 ghost use Rattle.af_role.specs.Needs.{need_text};
+ghost use Rattle.af_ops.specs.Effects.{id_or};
+ghost use Rattle.af_ops.specs.Faults.{problem_of};
 ghost use Rattle.af_ops.specs.Served.{fault_told, problem_told, told_under};
 
 use crate::answer::{CallFault, OpFault, Under};
 use crate::body::Body;
 use crate::member_name::name_of;
 use crate::op::Op;
+use crate::operations::triggering::made_text;
 use crate::problem::ProblemRow;
 use crate::row::row_text;
 use crate::shown_answer::Shown;
 use crate::status::Status;
-use af_names::DagId;
+use af_names::{DagId, Instant, RunId};
 use af_role::Need;
 use std::alloc::{AllocError, Global};
 
@@ -55,6 +59,21 @@ fn shown_op_fault(alloc: Global, op: &Op, fault: OpFault, under: Under) -> Resul
             let detail = joined(alloc, "no such dag: ", id_text(op.dag()))?;
             shown_problem(alloc, under, Status::NotFound, detail.as_str())
         }
+        OpFault::NoSuchRun => {
+            let detail = joined(alloc, "no such run: ", run_id_text(op.run()))?;
+            shown_problem(alloc, under, Status::NotFound, detail.as_str())
+        }
+        OpFault::RunExists(date) => {
+            let detail = taken_id(alloc, op.given_id(), date)?;
+            shown_problem(alloc, under, Status::Conflict, detail.as_str())
+        }
+        OpFault::DateTaken(date) => {
+            let detail = joined(alloc, "date taken: ", date.isoformat().as_str())?;
+            shown_problem(alloc, under, Status::Conflict, detail.as_str())
+        }
+        OpFault::TooMany | OpFault::NoNumberLeft => {
+            shown_problem(alloc, under, Status::Conflict, "too many")
+        }
         OpFault::HistoryFull => {
             shown_problem(alloc, under, Status::InsufficientStorage, "history full")
         }
@@ -77,6 +96,26 @@ fn joined(alloc: Global, first: &str, second: &str) -> Result<String, AllocError
     let mut detail = String::from_str(alloc, first)?;
     detail.push_str(second)?;
     Ok(detail)
+}
+
+/// The id of a run that is there: the one that was given, else the one that is made of the date.
+fn taken_id(alloc: Global, given: Option<&RunId>, date: Instant) -> Result<String, AllocError>
+    ensures { IfOk result (λ text. string_bytes text ≡ codes "run exists: " ++ id_or (option_copied given.entry) date) }
+{
+    match given {
+        Some(run_id) => joined(alloc, "run exists: ", run_id.as_str()),
+        None => joined(alloc, "run exists: ", made_text(date).as_str()),
+    }
+}
+
+/// The text of a run's id, empty where there is none.
+fn run_id_text(run: Option<&RunId>) -> &str
+    ensures { result.now ≡ unwrap_or (option_copied run.entry) [] }
+{
+    match run {
+        Some(run_id) => run_id.as_str(),
+        None => "",
+    }
 }
 
 /// The text of an id, empty where there is none.

@@ -3,7 +3,7 @@ use crate::{Endpoint, Op, Served, Shown, Standing, Status, Text, read_row};
 use af_graph::{Dag, DagSpec, Rule, TaskIds, TaskSpec, TaskSpecs};
 use af_names::{DagId, Instant, PoolName, RoleName, RunId, TaskId, UserName};
 use af_policy::{Policy, PolicyDraft, User};
-use af_role::{Action, Pair, Permissions, Resource, Role};
+use af_role::{Action, Pair, Permissions, Resource, ResourceKind, Role};
 use af_sched::{DagRow, State};
 use sha2::{Digest, Sha256};
 use std::alloc::Global;
@@ -44,6 +44,35 @@ const BAD_BODY: &[u8] =
 const BAD_MEMBER: &[u8] =
     br#"{"detail":"bad member: is_paused","status":400,"title":"Bad Request","type":"about:blank"}"#;
 
+const TRIGGERED: &[u8] =
+    br#"{"dag_id":"b","dag_run_id":"manual__2024-01-01T00:00:00+00:00","data_interval_end":"2024-01-01T00:00:00+00:00","data_interval_start":"2024-01-01T00:00:00+00:00","end_date":null,"logical_date":"2024-01-01T00:00:00+00:00","run_type":"manual","start_date":null,"state":"queued"}"#;
+
+const SECOND: &[u8] =
+    br#"{"dag_id":"a","dag_run_id":"r2","data_interval_end":"2024-01-02T00:00:00+00:00","data_interval_start":"2024-01-02T00:00:00+00:00","end_date":null,"logical_date":"2024-01-02T00:00:00+00:00","run_type":"manual","start_date":null,"state":"queued"}"#;
+
+const RUNS: &[u8] =
+    br#"{"dag_runs":[{"dag_id":"b","dag_run_id":"manual__2024-01-01T00:00:00+00:00","data_interval_end":"2024-01-01T00:00:00+00:00","data_interval_start":"2024-01-01T00:00:00+00:00","end_date":null,"logical_date":"2024-01-01T00:00:00+00:00","run_type":"manual","start_date":null,"state":"queued"},{"dag_id":"a","dag_run_id":"r2","data_interval_end":"2024-01-02T00:00:00+00:00","data_interval_start":"2024-01-02T00:00:00+00:00","end_date":null,"logical_date":"2024-01-02T00:00:00+00:00","run_type":"manual","start_date":null,"state":"queued"}],"total_entries":2}"#;
+
+const RUNS_OF_B: &[u8] =
+    br#"{"dag_runs":[{"dag_id":"b","dag_run_id":"manual__2024-01-01T00:00:00+00:00","data_interval_end":"2024-01-01T00:00:00+00:00","data_interval_start":"2024-01-01T00:00:00+00:00","end_date":null,"logical_date":"2024-01-01T00:00:00+00:00","run_type":"manual","start_date":null,"state":"queued"}],"total_entries":1}"#;
+
+const NO_RUNS: &[u8] = br#"{"dag_runs":[],"total_entries":0}"#;
+
+const RUN_EXISTS: &[u8] =
+    br#"{"detail":"run exists: manual__2024-01-01T00:00:00+00:00","status":409,"title":"Conflict","type":"about:blank"}"#;
+
+const DATE_TAKEN: &[u8] =
+    br#"{"detail":"date taken: 2024-01-01T00:00:00+00:00","status":409,"title":"Conflict","type":"about:blank"}"#;
+
+const NO_RUN: &[u8] =
+    br#"{"detail":"no such run: r2","status":404,"title":"Not Found","type":"about:blank"}"#;
+
+const NO_RUN_READING: &[u8] =
+    br#"{"detail":"missing permission DAG Runs.can_read","status":403,"title":"Forbidden","type":"about:blank"}"#;
+
+const BAD_DATE: &[u8] =
+    br#"{"detail":"bad member: execution_date","status":400,"title":"Bad Request","type":"about:blank"}"#;
+
 /// The bodies that are sent.
 #[derive(Clone, Copy)]
 enum Sent {
@@ -52,6 +81,9 @@ enum Sent {
     Empty,
     Pause,
     GoOn,
+    Named,
+    Dated,
+    BadDate,
 }
 
 /// What is told: a status and a body.
@@ -70,9 +102,19 @@ enum Told {
     Absent,
     BadBody,
     BadMember,
+    Triggered,
+    Second,
+    Runs,
+    RunsOfB,
+    NoRuns,
+    RunExists,
+    DateTaken,
+    NoRun,
+    NoRunReading,
+    BadDate,
 }
 
-/// Who asks for what, at which DAG and with which body, and what is told, with the number of entries.
+/// Who asks for what, at which parts of the path and with which body, and what is told, with the number of entries.
 type Row = (
     &'static str,
     Endpoint,
@@ -234,6 +276,170 @@ const CHANGES: [Row; 10] = [
     ),
 ];
 
+/// Those who trigger runs and look at them.
+const RUN_ROWS: [Row; 20] = [
+    (
+        "ron",
+        Endpoint::ListRuns,
+        "~",
+        Sent::Nothing,
+        Told::NoRuns,
+        Some(0),
+    ),
+    (
+        "vera",
+        Endpoint::TriggerRun,
+        "b",
+        Sent::Cut,
+        Told::NoEdit,
+        Some(0),
+    ),
+    (
+        "uma",
+        Endpoint::TriggerRun,
+        "nosuch",
+        Sent::Cut,
+        Told::BadBody,
+        Some(0),
+    ),
+    (
+        "uma",
+        Endpoint::TriggerRun,
+        "nosuch",
+        Sent::BadDate,
+        Told::BadDate,
+        Some(0),
+    ),
+    (
+        "uma",
+        Endpoint::TriggerRun,
+        "nosuch",
+        Sent::Empty,
+        Told::Absent,
+        Some(0),
+    ),
+    (
+        "uma",
+        Endpoint::TriggerRun,
+        "b",
+        Sent::Empty,
+        Told::Triggered,
+        Some(1),
+    ),
+    (
+        "uma",
+        Endpoint::TriggerRun,
+        "b",
+        Sent::Empty,
+        Told::RunExists,
+        Some(1),
+    ),
+    (
+        "uma",
+        Endpoint::TriggerRun,
+        "b",
+        Sent::Named,
+        Told::DateTaken,
+        Some(1),
+    ),
+    (
+        "uma",
+        Endpoint::TriggerRun,
+        "a",
+        Sent::Dated,
+        Told::Second,
+        Some(2),
+    ),
+    (
+        "vera",
+        Endpoint::ListRuns,
+        "~",
+        Sent::Nothing,
+        Told::Runs,
+        Some(2),
+    ),
+    (
+        "ron",
+        Endpoint::ListRuns,
+        "~",
+        Sent::Nothing,
+        Told::RunsOfB,
+        Some(2),
+    ),
+    (
+        "ron",
+        Endpoint::ListRuns,
+        "b",
+        Sent::Nothing,
+        Told::RunsOfB,
+        Some(2),
+    ),
+    (
+        "vera",
+        Endpoint::ListRuns,
+        "c",
+        Sent::Nothing,
+        Told::NoRuns,
+        Some(2),
+    ),
+    (
+        "ron",
+        Endpoint::ListRuns,
+        "a",
+        Sent::Nothing,
+        Told::NoA,
+        Some(2),
+    ),
+    (
+        "bob",
+        Endpoint::ListRuns,
+        "~",
+        Sent::Nothing,
+        Told::NoRunReading,
+        Some(2),
+    ),
+    (
+        "pat",
+        Endpoint::ListRuns,
+        "~",
+        Sent::Nothing,
+        Told::NoList,
+        Some(2),
+    ),
+    (
+        "vera",
+        Endpoint::ListRuns,
+        "nosuch",
+        Sent::Nothing,
+        Told::Absent,
+        Some(2),
+    ),
+    (
+        "ron",
+        Endpoint::GetRun,
+        "b/manual__2024-01-01T00:00:00+00:00",
+        Sent::Nothing,
+        Told::Triggered,
+        Some(2),
+    ),
+    (
+        "ron",
+        Endpoint::GetRun,
+        "b/r2",
+        Sent::Nothing,
+        Told::NoRun,
+        Some(2),
+    ),
+    (
+        "vera",
+        Endpoint::GetRun,
+        "nosuch/r2",
+        Sent::Nothing,
+        Told::Absent,
+        Some(2),
+    ),
+];
+
 const RUNNING: &[u8] =
     br#"{"dag_id":"b","is_paused":false,"max_active_runs":16,"next_dagrun":null,"schedule_interval":null}"#;
 
@@ -270,13 +476,28 @@ fn only_b(alloc: Global) -> Result<Role, Fail> {
     Ok(Role::new(RoleName::parse(alloc, "OnlyB")?, permissions))
 }
 
+/// A role that reads the DAG b and all runs of what is read.
+fn runs_b(alloc: Global) -> Result<Role, Fail> {
+    let mut permissions = Permissions::new(alloc);
+    let dag = Pair::new(Action::Read, Resource::Dag(DagId::parse(alloc, "b")?));
+    let runs = Pair::new(Action::Read, Resource::Kind(ResourceKind::DagRuns));
+    let (Some(dag), Some(runs)) = (dag, runs) else {
+        return Err(Fail::new("no resources to read"));
+    };
+    permissions.add(dag)?;
+    permissions.add(runs)?;
+    Ok(Role::new(RoleName::parse(alloc, "RunsB")?, permissions))
+}
+
 fn policy(alloc: Global) -> Result<Policy, Fail> {
     let mut draft = PolicyDraft::new(alloc)?;
     draft.add_role(only_b(alloc)?)?;
+    draft.add_role(runs_b(alloc)?)?;
     let users = [
         ("adam", "Admin"),
         ("bob", "OnlyB"),
         ("pat", "Public"),
+        ("ron", "RunsB"),
         ("uma", "User"),
         ("vera", "Viewer"),
     ];
@@ -302,7 +523,9 @@ fn state(alloc: Global) -> Result<State, Fail> {
 
 fn op(alloc: Global, endpoint: Endpoint, part: &str, body: &[u8]) -> Result<Option<Op>, Fail> {
     let mut parts = Vec::new(alloc);
-    parts.push(String::from_str(alloc, part)?)?;
+    for text in part.split('/') {
+        parts.push(String::from_str(alloc, text)?)?;
+    }
     Ok(read_row(alloc, endpoint, parts.as_slice(), body)?)
 }
 
@@ -313,6 +536,9 @@ fn sent_bytes(body: Sent) -> &'static [u8] {
         Sent::Empty => b"{}",
         Sent::Pause => br#"{"is_paused":true}"#,
         Sent::GoOn => br#"{"is_paused":false}"#,
+        Sent::Named => br#"{"dag_run_id":"x"}"#,
+        Sent::Dated => br#"{"dag_run_id":"r2","logical_date":"2024-01-02T00:00:00Z"}"#,
+        Sent::BadDate => br#"{"logical_date":null,"execution_date":"x","conf":1}"#,
     }
 }
 
@@ -331,6 +557,16 @@ fn told_as(it: Told) -> (Status, &'static [u8]) {
         Told::Absent => (Status::NotFound, ABSENT),
         Told::BadBody => (Status::BadRequest, BAD_BODY),
         Told::BadMember => (Status::BadRequest, BAD_MEMBER),
+        Told::Triggered => (Status::Ok, TRIGGERED),
+        Told::Second => (Status::Ok, SECOND),
+        Told::Runs => (Status::Ok, RUNS),
+        Told::RunsOfB => (Status::Ok, RUNS_OF_B),
+        Told::NoRuns => (Status::Ok, NO_RUNS),
+        Told::RunExists => (Status::Conflict, RUN_EXISTS),
+        Told::DateTaken => (Status::Conflict, DATE_TAKEN),
+        Told::NoRun => (Status::NotFound, NO_RUN),
+        Told::NoRunReading => (Status::Forbidden, NO_RUN_READING),
+        Told::BadDate => (Status::BadRequest, BAD_DATE),
     }
 }
 
@@ -393,8 +629,14 @@ fn what_is_paused(rt: HostRuntime) -> Result<(), Fail> {
 }
 
 #[test]
+fn what_is_told_of_runs(rt: HostRuntime) -> Result<(), Fail> {
+    assert_eq!(rt; play(rt.alloc(), &RUN_ROWS)?, RUN_ROWS.len());
+    Ok(())
+}
+
+#[test]
 fn a_part_that_is_no_name(rt: HostRuntime) -> Result<(), Fail> {
-    for part in ["", "~", "a b", "a/b"] {
+    for part in ["", "~", "a b", "a:b"] {
         assert_eq!(rt;
             op(rt.alloc(), Endpoint::GetDag, part, b"")?.is_some(),
             false

@@ -3,24 +3,25 @@ ghost use Rattle.std.specs.Prelude.{◌≡◌, [], ◌∷◌, codes, map, Err, O
 ghost use Rattle.af_ops.specs.declared.answer.CallFault.TheVariants as why;
 ghost use Rattle.af_ops.specs.declared.answer.OpFault.TheVariants as fault;
 ghost use Rattle.af_ops.specs.declared.body_fault.BodyFault.TheVariants.{BadBody, BadMember, OutOfMemory};
-ghost use Rattle.af_ops.specs.declared.body_fault.Member.TheVariants.{IsPaused};
+ghost use Rattle.af_ops.specs.declared.body_fault.Member.TheVariants.{Conf, DagRunId, ExecutionDate, IsPaused, LogicalDate};
 ghost use Rattle.af_ops.specs.declared.endpoint.Endpoint.TheVariants as endpoint;
 ghost use Rattle.af_ops.specs.declared.method.Method.TheVariants.{Get, Post, Patch};
 ghost use Rattle.af_ops.specs.declared.op.Op.TheVariants as op;
 ghost use Rattle.af_ops.specs.declared.place.Place.TheVariants as place;
 ghost use Rattle.af_ops.specs.declared.status.Status.TheVariants as status;
-ghost use Rattle.af_role.specs.declared.action.Action.TheVariants.{Read, Edit};
+ghost use Rattle.af_role.specs.declared.action.Action.TheVariants.{Create, Read, Edit};
+ghost use Rattle.af_role.specs.declared.resource.ResourceKind.TheVariants.{DagRuns};
 ghost use Rattle.serde_json.specs.Written.{compact_text};
-ghost use Rattle.af_ops.specs.Bodies.{pause_in};
-ghost use Rattle.af_ops.specs.Endpoints.{op_of_row};
+ghost use Rattle.af_ops.specs.Bodies.{pause_in, trigger_in};
+ghost use Rattle.af_ops.specs.Endpoints.{are_names, op_of_row};
 ghost use Rattle.af_ops.specs.Fields.{listing_of};
 ghost use Rattle.af_ops.specs.Methods.{method_of};
-ghost use Rattle.af_ops.specs.Replies.{dag_data, fault_data, version_data};
+ghost use Rattle.af_ops.specs.Replies.{dag_data, fault_data, run_data, version_data};
 ghost use Rattle.af_ops.specs.Served.{answer_of, fault_told, left_by};
 ghost use Rattle.af_ops.specs.Statuses.{code_of, is_fault_status};
-ghost use Rattle.af_ops.specs.Table.{at_dag, at_some_dag, endpoint_at, methods_at, segments_of, spelled};
+ghost use Rattle.af_ops.specs.Table.{at_dag, at_some_dag, endpoint_at, methods_at, on_all, segments_of, spelled};
 ghost use Rattle.af_ops.specs.Verdicts.{Open, Stranger, Lacks, Refuses, Tells, Changes, judged, verdict};
-ghost use Rattle.af_ops.specs.Worked.{asks, at_entries, dag, is_told, opening, policy, state_with};
+ghost use Rattle.af_ops.specs.Worked.{asks, at_entries, dag, is_told, is_told_then, later, opening, policy, second, state_with, trigger};
 
 /// Who asks for DAGs: a viewer is told all three, who may read one DAG that one, who has no permission the requirement that is
 /// lacked. Who may not read a DAG is told the same whether it is there or not; who may is told that it is not.
@@ -90,6 +91,15 @@ pub fn routes_by_the_rule()
     ensures body { op_of_row endpoint.PauseDag (codes "b" ∷ []) (codes "{") ≡ Some (op.PauseDag (codes "b") (Err BadBody)) }
     ensures no_id { op_of_row endpoint.GetDag (codes "a b" ∷ []) [] ≡ None }
     ensures each_dag { op_of_row endpoint.PauseDag (codes "~" ∷ []) (codes "{}") ≡ None }
+    ensures all { op_of_row endpoint.ListRuns (codes "~" ∷ []) [] ≡ Some (op.ListRuns None) }
+    ensures one_of_all { op_of_row endpoint.ListRuns (codes "b" ∷ []) [] ≡ Some (op.ListRuns (Some (codes "b"))) }
+    ensures all_listed { are_names (Some Get) place.Runs (codes "~" ∷ []) ≡ true }
+    ensures none_triggered { are_names (Some Post) place.Runs (codes "~" ∷ []) ≡ false }
+    ensures no_method { are_names None place.Runs (codes "~" ∷ []) ≡ false }
+    ensures run { op_of_row endpoint.GetRun (codes "b" ∷ codes "r~1" ∷ []) [] ≡ Some (op.GetRun (codes "b") (codes "r~1")) }
+    ensures no_run { op_of_row endpoint.GetRun (codes "b" ∷ codes "~" ∷ []) [] ≡ None }
+    ensures run_path { spelled (segments_of place.Run) ≡ codes "/api/v1/dags/{dag_id}/dagRuns/{dag_run_id}" }
+    ensures run_methods { methods_at place.Runs ≡ record { get = true; post = true; patch = false; delete = false } }
     ensures no_part { op_of_row endpoint.GetDag ([] ∷ []) [] ≡ None }
 {}
 
@@ -101,4 +111,43 @@ pub fn faults_by_the_rule()
     ensures numbers { map code_of (status.Ok ∷ status.NoContent ∷ status.BadRequest ∷ status.Unauthorized ∷ status.Forbidden ∷ status.NotFound ∷ status.MethodNotAllowed ∷ status.Conflict ∷ status.ContentTooLarge ∷ status.HeadTooLarge ∷ status.InternalError ∷ status.NotImplemented ∷ status.Unavailable ∷ status.InsufficientStorage ∷ []) ≡ 200 ∷ 204 ∷ 400 ∷ 401 ∷ 403 ∷ 404 ∷ 405 ∷ 409 ∷ 413 ∷ 431 ∷ 500 ∷ 501 ∷ 503 ∷ 507 ∷ [] }
     ensures no_fault { is_fault_status status.NoContent ≡ false }
     ensures first_fault { is_fault_status status.BadRequest ≡ true }
+{}
+
+/// Who asks for runs: who may read one DAG and runs is told the runs of that one alone, of all too.
+pub fn runs_by_the_rule()
+    ensures all { asks later (codes "ron") (op.ListRuns None) ≡ Tells (compact_text (listing_of (codes "dag_runs") (run_data second ∷ []) 1)) }
+    ensures one { asks later (codes "ron") (op.ListRuns (Some (codes "b"))) ≡ Tells (compact_text (listing_of (codes "dag_runs") (run_data second ∷ []) 1)) }
+    ensures hidden { asks later (codes "ron") (op.ListRuns (Some (codes "a"))) ≡ Lacks (at_dag Read) }
+    ensures no_runs { asks later (codes "bob") (op.ListRuns None) ≡ Lacks (on_all Read DagRuns) }
+    ensures no_dags { asks later (codes "pat") (op.ListRuns None) ≡ Lacks (at_some_dag Read) }
+    ensures absent_dag { asks later (codes "vera") (op.ListRuns (Some (codes "nosuch"))) ≡ Refuses fault.NoSuchDag }
+    ensures shown { asks later (codes "ron") (op.GetRun (codes "b") (codes "r2")) ≡ Tells (compact_text (run_data second)) }
+    ensures absent { asks later (codes "ron") (op.GetRun (codes "b") (codes "r1")) ≡ Refuses fault.NoSuchRun }
+    ensures not_created { asks later (codes "vera") (op.TriggerRun (codes "b") (Err BadBody)) ≡ Lacks (at_dag Edit) }
+    ensures bad_body { asks later (codes "uma") (op.TriggerRun (codes "nosuch") (Err BadBody)) ≡ Refuses fault.BadBody }
+    ensures bad_member { asks later (codes "uma") (op.TriggerRun (codes "nosuch") (Err (BadMember Conf))) ≡ Refuses (fault.BadMember Conf) }
+    ensures no_dag { asks later (codes "uma") (op.TriggerRun (codes "nosuch") (Ok (trigger None None))) ≡ Refuses fault.NoSuchDag }
+    ensures exists { asks later (codes "uma") (op.TriggerRun (codes "b") (Ok (trigger (Some (codes "r2")) (Some 2)))) ≡ Refuses (fault.RunExists 2) }
+    ensures taken { asks later (codes "uma") (op.TriggerRun (codes "b") (Ok (trigger (Some (codes "r3")) (Some 2)))) ≡ Refuses (fault.DateTaken 2) }
+{}
+
+/// What is told of runs.
+pub fn run_messages_by_the_rule()
+    ensures triggered { is_told_then opening (codes "uma") (op.TriggerRun (codes "b") (Ok (trigger None None))) ≡ Some (record { status = status.Ok; version = Some 0; seq = Some 1; body = Some (codes "{\"dag_id\":\"b\",\"dag_run_id\":\"manual__2024-01-01T00:00:00.000001+00:00\",\"data_interval_end\":\"2024-01-01T00:00:00.000001+00:00\",\"data_interval_start\":\"2024-01-01T00:00:00.000001+00:00\",\"end_date\":null,\"logical_date\":\"2024-01-01T00:00:00.000001+00:00\",\"run_type\":\"manual\",\"start_date\":null,\"state\":\"queued\"}") }) }
+    ensures exists { is_told later (codes "uma") (op.TriggerRun (codes "b") (Ok (trigger (Some (codes "r2")) None))) ≡ Some (record { status = status.Conflict; version = Some 0; seq = Some 2; body = Some (codes "{\"detail\":\"run exists: r2\",\"status\":409,\"title\":\"Conflict\",\"type\":\"about:blank\"}") }) }
+    ensures taken { is_told later (codes "uma") (op.TriggerRun (codes "b") (Ok (trigger (Some (codes "x")) (Some 2)))) ≡ Some (record { status = status.Conflict; version = Some 0; seq = Some 2; body = Some (codes "{\"detail\":\"date taken: 1970-01-01T00:00:00.000002+00:00\",\"status\":409,\"title\":\"Conflict\",\"type\":\"about:blank\"}") }) }
+    ensures listed { is_told later (codes "ron") (op.ListRuns None) ≡ Some (record { status = status.Ok; version = Some 0; seq = Some 2; body = Some (codes "{\"dag_runs\":[{\"dag_id\":\"b\",\"dag_run_id\":\"r2\",\"data_interval_end\":\"1970-01-01T00:00:00.000002+00:00\",\"data_interval_start\":\"1970-01-01T00:00:00.000002+00:00\",\"end_date\":null,\"logical_date\":\"1970-01-01T00:00:00.000002+00:00\",\"run_type\":\"manual\",\"start_date\":null,\"state\":\"queued\"}],\"total_entries\":1}") }) }
+    ensures absent { is_told later (codes "vera") (op.GetRun (codes "b") (codes "r1")) ≡ Some (record { status = status.NotFound; version = Some 0; seq = Some 2; body = Some (codes "{\"detail\":\"no such run: r1\",\"status\":404,\"title\":\"Not Found\",\"type\":\"about:blank\"}") }) }
+    ensures denied { is_told later (codes "bob") (op.GetRun (codes "b") (codes "r2")) ≡ Some (record { status = status.Forbidden; version = Some 0; seq = Some 2; body = Some (codes "{\"detail\":\"missing permission DAG Runs.can_read\",\"status\":403,\"title\":\"Forbidden\",\"type\":\"about:blank\"}") }) }
+{}
+
+/// Bodies of a trigger: the first member of another kind or value is told, in the order of id, date and `conf`.
+pub fn triggers_by_the_rule()
+    ensures empty { trigger_in (codes "{}") ≡ Ok (trigger None None) }
+    ensures given { trigger_in (codes "{\"conf\":{},\"dag_run_id\":\"x\",\"logical_date\":null}") ≡ Ok (trigger (Some (codes "x")) None) }
+    ensures list { trigger_in (codes "[]") ≡ Err BadBody }
+    ensures each { trigger_in (codes "{\"conf\":1,\"dag_run_id\":\"~\",\"logical_date\":1}") ≡ Err (BadMember DagRunId) }
+    ensures date { trigger_in (codes "{\"conf\":1,\"execution_date\":1,\"logical_date\":1}") ≡ Err (BadMember LogicalDate) }
+    ensures older_date { trigger_in (codes "{\"conf\":1,\"execution_date\":1}") ≡ Err (BadMember ExecutionDate) }
+    ensures conf { trigger_in (codes "{\"conf\":{\"a\":1}}") ≡ Err (BadMember Conf) }
 {}

@@ -1,27 +1,24 @@
 // The operations on DAGs.
 ghost use Rattle.std.specs.Prelude.{◌≡◌, IfOk, if◌then◌else◌, Some, None};
 ghost use Rattle.serde_json.specs.Written.{compact_text};
-ghost use Rattle.af_sched.specs.State.{StateRows, with_paused};
+ghost use Rattle.af_sched.specs.State.{StateRows, StateWithRoom, with_paused};
 ghost use Rattle.af_ops.specs.declared.answer.OpFault.TheVariants.{OutOfMemory};
 ghost use Rattle.af_ops.specs.Edits.{next_by};
 ghost use Rattle.af_ops.specs.Effects.{dags_data, differs, got_dag, paused_dag};
 ghost use Rattle.af_ops.specs.Prepared.{CanDo, IsExact, MemoryLast, done_on};
-ghost use Rattle.af_ops.specs.Readings.{seen};
+ghost use Rattle.af_base.specs.Readings.{seen};
 
 use crate::answer::OpFault;
 use crate::body_fault::BodyFault;
 use crate::dag_text::PausedRow;
 use crate::edit::Edit;
-use crate::operations::shared::{dag_or, page, rows_read, truth_or};
+use crate::operations::shared::{LIMIT, dag_or, page, rows_read, truth_or};
 use crate::prepared::Prepared;
 use crate::row::{listing_text, row_text};
 use af_names::DagId;
 use af_policy::Reader;
 use af_sched::{DagRow, State};
 use std::alloc::{AllocError, Global};
-
-/// How many rows a listing tells where no limit is given.
-const LIMIT: usize = 100;
 
 /// The text of the first page of the DAGs that are read.
 pub(crate) fn dags_text<R: Reader>(
@@ -71,7 +68,8 @@ fn pause_edit(
     dag_id: &DagId,
     is_paused: bool,
 ) -> Result<Edit, AllocError>
-    ensures { IfOk result (λ edit. (state : StateRows) → next_by edit state ≡ (if differs row.now is_paused then Some (record state { dags = with_paused state.dags dag_id.now is_paused }) else None)) }
+    ensures room { IfOk result (λ edit. (state : StateWithRoom) → CanDo state edit) }
+    ensures next { IfOk result (λ edit. (state : StateRows) → next_by edit state ≡ (if differs row.now is_paused then Some (record state { dags = with_paused state.dags dag_id.now is_paused }) else None)) }
 {
     if differs(row, is_paused) {
         let dag_id = dag_id.copied(alloc)?;

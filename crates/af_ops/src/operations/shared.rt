@@ -1,15 +1,20 @@
 // What operations share: the faults that come first, and pages of listings.
 ghost use Rattle.std.specs.Prelude.{◌≡◌, IfOk, map};
-ghost use Rattle.af_ops.specs.Effects.{dag_or, input_or};
+ghost use Rattle.af_ops.specs.Effects.{dag_or, input_fault, input_or, run_or};
 ghost use Rattle.af_ops.specs.Listings.{page, read_rows};
-ghost use Rattle.af_ops.specs.Readings.{seen};
+ghost use Rattle.af_base.specs.Readings.{seen};
 
 use crate::answer::OpFault;
 use crate::body_fault::BodyFault;
-use af_names::{DagId, NamesDag};
+use crate::trigger::Trigger;
+use af_names::{DagId, NamesDag, RunId};
 use af_policy::Reader;
+use af_runs::Run;
 use af_sched::{DagRow, State};
 use std::alloc::{AllocError, Global};
+
+/// How many rows a listing tells where no limit is given.
+pub(crate) const LIMIT: usize = 100;
 
 /// The DAG of an id.
 pub(crate) fn dag_or<'a>(state: &'a State, dag_id: &DagId) -> Result<&'a DagRow, OpFault>
@@ -18,15 +23,44 @@ pub(crate) fn dag_or<'a>(state: &'a State, dag_id: &DagId) -> Result<&'a DagRow,
     state.dag(dag_id).ok_or(OpFault::NoSuchDag)
 }
 
+/// The run of two ids.
+pub(crate) fn run_or<'a>(
+    state: &'a State,
+    dag_id: &DagId,
+    run_id: &RunId,
+) -> Result<&'a Run, OpFault>
+    ensures { seen (λ run. run.now) result ≡ run_or state.now.rows dag_id.now run_id.now }
+{
+    state.run(dag_id, run_id).ok_or(OpFault::NoSuchRun)
+}
+
+/// What was read of a body that triggers a run.
+pub(crate) fn trigger_or(input: &Result<Trigger, BodyFault>) -> Result<&Trigger, OpFault>
+    ensures { seen (λ asked. asked.now) result ≡ input_or input.now }
+{
+    match input {
+        Ok(asked) => Ok(asked),
+        Err(why) => Err(input_fault(*why)),
+    }
+}
+
 /// The truth value that was read of a body.
 pub(crate) fn truth_or(input: &Result<bool, BodyFault>) -> Result<bool, OpFault>
     ensures { result ≡ input_or input.now }
 {
     match input {
         Ok(truth) => Ok(*truth),
-        Err(BodyFault::BadBody) => Err(OpFault::BadBody),
-        Err(BodyFault::BadMember(it)) => Err(OpFault::BadMember(*it)),
-        Err(BodyFault::OutOfMemory) => Err(OpFault::OutOfMemory),
+        Err(why) => Err(input_fault(*why)),
+    }
+}
+
+fn input_fault(why: BodyFault) -> OpFault
+    ensures { result ≡ input_fault why }
+{
+    match why {
+        BodyFault::BadBody => OpFault::BadBody,
+        BodyFault::BadMember(it) => OpFault::BadMember(it),
+        BodyFault::OutOfMemory => OpFault::OutOfMemory,
     }
 }
 

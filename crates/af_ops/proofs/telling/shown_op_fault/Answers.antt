@@ -16,3 +16,9 @@ returns-in-HistoryFull c =
     told_is c.args.op.now c.args.under (why.Op c.args.fault) _ c.shown_problem-in-HistoryFull.result
     (ap (λ (f : OpFault). problem_of c.args.op.now (why.Op f)) c.in-HistoryFull.is)
     c.shown_problem-in-HistoryFull.ensures
+
+pub returns-in_ok-detail-in-NoSuchRun : goal.returns-in_ok-detail-in-NoSuchRun
+returns-in_ok-detail-in-NoSuchRun c =
+    told_is c.args.op.now c.args.under (why.Op c.args.fault) _ c.shown_problem-in-NoSuchRun.result
+    (rw (c.in-NoSuchRun.is, c.as_str-in-NoSuchRun.ensures.value, c.in_ok-detail-in-NoSuchRun.ensures, c.run_id_text.ensures, c.run.ensures) refl)
+    c.shown_problem-in-NoSuchRun.ensures

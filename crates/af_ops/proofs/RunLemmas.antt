@@ -1,0 +1,72 @@
+-- Listings of runs, and runs that are added.
+use Rattle.std.proofs.Common.{◌≡◌, ◌≤◌, ◌<◌, ◌∙◌, ℕ, zero, suc, Bool, true, false, cond, List, [], ◌∷◌, length, get_or, refl, sym, ap, subst, arith}
+use Rattle.std.specs.Prelude.{Contains, Some, filter, map, option_map}
+use Rattle.std.proofs.lemmas.List.{length-map}
+use Rattle.std.proofs.lemmas.List.Elements.{All-contains, All-contains_itself, All-filter, All-map, filter_passes}
+use Rattle.af_graph.specs.declared.task_state.TaskState.TheVariants.{NoStatus}
+use Rattle.af_runs.specs.Instances.{new_instance}
+use Rattle.af_runs.specs.Runs.{queued_run}
+use Rattle.af_runs.specs.declared.instance.Instance.{Instance}
+use Rattle.af_runs.specs.declared.run.Run.{Run}
+use Rattle.af_sched.specs.State.{StateRows}
+use Rattle.af_sched.specs.declared.dag_row.DagRow.{DagRow}
+use Rattle.af_ops.specs.declared.op.Op.TheVariants as op
+use Rattle.af_ops.specs.Edits.{with_run}
+use Rattle.af_ops.specs.Effects.{Effect, new_run}
+use Rattle.af_ops.specs.Laws.{RunNumbersRise, RunsListedAreThoseRead, TriggersAddARun}
+use Rattle.af_ops.proofs.LawLemmas.{pauses, readings_keep, some_same, triggers, unchanged}
+
+later : {X : Type 0} (b : Bool) (y : X) (ys : List X) (x : X) → Contains ys x → Contains (cond b (y ∷ ys) ys) x
+later true y ys x at = (suc at.0, omega (arith, at.1), at.2)
+later false y ys x at = at
+
+-- what passes is kept
+kept_at : {X : Type 0} (p : X → Bool) (xs : List X) (k : ℕ) (x : X) → k < length xs → get_or xs k x ≡ x → p x ≡ true → Contains (filter p xs) x
+kept_at p [] k x within is passes = absurd (omega (arith, within))
+kept_at p (y ∷ xs) zero x within is passes =
+    subst (λ (b : Bool). Contains (cond b (y ∷ filter p xs) (filter p xs)) x) (sym (ap p is ∙ passes)) (0, omega arith, is)
+kept_at p (y ∷ xs) (suc k) x within is passes = later (p y) y (filter p xs) x (kept_at p xs k x (omega arith) is passes)
+
+pub listed_read : RunsListedAreThoseRead
+listed_read reads state run = (
+  (λ at. (
+    All-contains (Contains state.runs) (filter (λ (it : Run). reads it.dag_id) state.runs) run (All-filter (λ (it : Run). reads it.dag_id) (Contains state.runs) state.runs (All-contains_itself state.runs)) at,
+    All-contains (λ (it : Run). reads it.dag_id ≡ true) (filter (λ (it : Run). reads it.dag_id) state.runs) run (filter_passes (λ (it : Run). reads it.dag_id) state.runs) at,
+  )),
+  (λ both. kept_at (λ (it : Run). reads it.dag_id) state.runs both.0.0 run both.0.1 both.0.2 both.1),
+)
+
+pub adds_run : TriggersAddARun
+adds_run reads state dag_id input now effect kept is =
+    let it = triggers state dag_id input now effect is in
+    let new = new_run it.row dag_id it.run_id it.date in (
+      with_run state new,
+      it.next_is,
+      (
+        queued_run state.next_run new,
+        record {
+          last = refl;
+          of_dag = refl;
+          queued = refl;
+          whole = ap (option_map (λ (row : DagRow). length row.dag.tasks)) it.found ∙ ap Some (sym (length-map it.row.dag.tasks new_instance));
+          untried = All-map (λ (it : Instance). (it.state ≡ NoStatus) × (it.try_number ≡ 0)) new_instance it.row.dag.tasks (λ k d within. (refl, refl));
+          above = kept.numbered;
+          next = refl;
+          dags = refl;
+          pools = refl;
+        },
+      ),
+    )
+
+pub numbers_rise : RunNumbersRise
+numbers_rise reads state op.Version now effect next is changes = unchanged effect next (readings_keep reads state op.Version now effect refl is) changes
+numbers_rise reads state op.ListDags now effect next is changes = unchanged effect next (readings_keep reads state op.ListDags now effect refl is) changes
+numbers_rise reads state (op.GetDag dag_id) now effect next is changes = unchanged effect next (readings_keep reads state (op.GetDag dag_id) now effect refl is) changes
+numbers_rise reads state (op.PauseDag dag_id input) now effect next is changes =
+    let it = pauses state dag_id input effect next is changes in
+    subst (λ (s : StateRows). state.next_run ≤ s.next_run) (sym it.next_is) (omega arith)
+numbers_rise reads state (op.ListRuns dag) now effect next is changes = unchanged effect next (readings_keep reads state (op.ListRuns dag) now effect refl is) changes
+numbers_rise reads state (op.TriggerRun dag_id input) now effect next is changes =
+    let it = triggers state dag_id input now effect is in
+    subst (λ (s : StateRows). state.next_run ≤ s.next_run) (some_same (sym it.next_is ∙ changes)) (omega arith)
+numbers_rise reads state (op.GetRun dag_id run_id) now effect next is changes = unchanged effect next (readings_keep reads state (op.GetRun dag_id run_id) now effect refl is) changes
