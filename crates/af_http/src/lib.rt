@@ -39,6 +39,3 @@ pub use service::Service;
 pub use serving::serve;
 pub use stream::{Failed, Sink, Source};
 pub use writing::write_all;
-
-#[cfg(test)]
-mod tests;

@@ -7,7 +7,8 @@ use Rattle.serde_json.specs.Data.{Num, unsigned, negative, float, Data}
 use Rattle.serde_json.specs.Find.{as_number, as_str}
 use Rattle.af_names.specs.Names.{id_grammar, row_name_grammar}
 use Rattle.af_graph.specs.declared.rule.Rule.{Rule}
-use Rattle.af_graph.specs.declared.rule.Rule.TheVariants.{AllSuccess, AllFailed, AllDone, OneSuccess, OneFailed, OneDone, NoneFailed, NoneFailedMinOneSuccess, NoneSkipped, AllSkipped, Always}
+use Rattle.af_graph.specs.declared.rule.Rule.TheVariants.{AllSuccess}
+use Rattle.af_graph.specs.Texts.{rule_of}
 use Rattle.af_graph.specs.declared.task_spec.TaskSpec.{TaskSpec}
 use Rattle.af_pool.specs.Pools.{default_name, has_pool}
 use Rattle.af_pool.specs.declared.pool.Pool.{Pool}
@@ -20,28 +21,6 @@ use Rattle.af_server.specs.declared.config.tasks.Numbers.{Numbers}
 use Rattle.af_server.specs.declared.reason.Reason.{Reason}
 use Rattle.af_server.specs.declared.reason.Reason.TheVariants as reason
 use Rattle.af_server.specs.Members.{name_in, name_of, number_in, optional_list_in, or_default, signed_in}
-
-abbrev pub rules : List Rule
-rules =
-    AllSuccess ∷ AllFailed ∷ AllDone ∷ OneSuccess ∷ OneFailed ∷ OneDone ∷ NoneFailed ∷ NoneFailedMinOneSuccess
-    ∷ NoneSkipped ∷ AllSkipped ∷ Always ∷ []
-
-abbrev pub rule_text : Rule → List ℕ
-rule_text AllSuccess = codes "all_success"
-rule_text AllFailed = codes "all_failed"
-rule_text AllDone = codes "all_done"
-rule_text OneSuccess = codes "one_success"
-rule_text OneFailed = codes "one_failed"
-rule_text OneDone = codes "one_done"
-rule_text NoneFailed = codes "none_failed"
-rule_text NoneFailedMinOneSuccess = codes "none_failed_min_one_success"
-rule_text NoneSkipped = codes "none_skipped"
-rule_text AllSkipped = codes "all_skipped"
-rule_text Always = codes "always"
-
--- the trigger rule whose text this is
-abbrev pub rule_of : List ℕ → Option Rule
-rule_of text = find (λ rule. pointwise nat_eq (rule_text rule) text) rules
 
 abbrev pub outcomes : List Outcome
 outcomes = outcome.Success ∷ outcome.Failed ∷ outcome.Skipped ∷ []

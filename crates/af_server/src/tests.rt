@@ -2,6 +2,8 @@
 mod calls;
 mod configurations;
 mod connections;
+mod dags;
+mod many;
 
 use crate::once::once;
 use crate::reason::Reason;

@@ -2,7 +2,7 @@
 ghost use Rattle.std.specs.Prelude.{◌≡◌, map, codes};
 ghost use Rattle.serde_json.specs.View.{view};
 ghost use Rattle.serde_json.specs.Find.{as_number};
-ghost use Rattle.af_pool.specs.Pools.{ArePools, has_pool};
+ghost use Rattle.af_pool.specs.Pools.{ArePools};
 ghost use Rattle.af_base.specs.Readings.{OrMemory, Makes, member_of, seen};
 ghost use Rattle.af_server.specs.declared.reason.Reason.{Reason};
 ghost use Rattle.af_server.specs.Tasks.{numbers_in, pool_text_in, slots_of, slots_or, task_in, task_pool_in, task_taken, tasks_in};
@@ -13,7 +13,7 @@ use super::scripts::add_script;
 use super::upstream::read_upstream;
 use crate::members::{name, number_or, optional_list, signed_or};
 use crate::reason::Reason;
-use af_base::{member, optional_text};
+use af_base::{is_there, member, optional_text};
 use af_graph::TaskSpec;
 use af_names::{DagId, PoolName};
 use af_pool::Pool;
@@ -117,7 +117,7 @@ fn read_pool(alloc: Global, pools: &[Pool], row: &Value) -> Result<PoolName, Rea
 {
     let text = pool_text(row)?;
     let name = PoolName::parse(alloc, text)?;
-    if has_pool(pools, &name) {
+    if is_there(pools, name.as_str()) {
         Ok(name)
     } else {
         Err(Reason::Pool)
@@ -131,13 +131,6 @@ fn pool_text(row: &Value) -> Result<&str, Reason>
         Some(text) => Ok(text),
         None => Ok(DEFAULT_POOL),
     }
-}
-
-/// Whether one of the pools has this name.
-fn has_pool(pools: &[Pool], name: &PoolName) -> bool
-    ensures { result ≡ has_pool pools.now name.now }
-{
-    pools.iter().any(|pool| pool.name == *name)
 }
 
 /// Reads the numbers of a task.

@@ -1,8 +1,9 @@
 ghost use Rattle.std.specs.Prelude.{◌<◌};
 
-use crate::tests::messages::{INCOMPLETE, LAST_VERSION_ANSWER, NO_PATH, VERSION_ANSWER};
-use crate::tests::tools::{Fixed, Paper, Pieces, run};
-use crate::{Counted, Ended, serve};
+use crate::tests::answers::{INCOMPLETE, LAST_VERSION, MEMORY, NO_PATH, VERSION};
+use crate::tests::cases::is_joined;
+use crate::tests::tools::{Paper, Pieces, run, run_long};
+use af_http::Ended;
 use af_ops::Status;
 use std::alloc::Global;
 use std::test::Fail;
@@ -11,12 +12,9 @@ use std::test::Fail;
 const INPUT: &[u8] =
     b"GET /api/v1/version HTTP/1.1\r\nHost: h\r\n\r\nGET /nope HTTP/1.1\r\nHost: h\r\n\r\nGET /api/v1/dags HTTP/1.1\r\nHost: h\r\n";
 
-const MEMORY: &str =
-    "HTTP/1.1 503 Service Unavailable\r\nContent-Type: application/problem+json\r\nContent-Length: 90\r\nConnection: close\r\n\r\n{\"detail\":\"out of memory\",\"status\":503,\"title\":\"Service Unavailable\",\"type\":\"about:blank\"}";
-
 /// What answers the whole input, to the byte.
 fn whole(alloc: Global) -> Result<Vec<u8>, Fail> {
-    let mut text = Vec::from_slice(alloc, VERSION_ANSWER.as_bytes())?;
+    let mut text = Vec::from_slice(alloc, VERSION.as_bytes())?;
     text.extend_from_slice(NO_PATH.as_bytes())?;
     text.extend_from_slice(INCOMPLETE.as_bytes())?;
     Ok(text)
@@ -27,9 +25,9 @@ fn answered(came: usize) -> usize {
     if came < 41 {
         0
     } else if came < 72 {
-        VERSION_ANSWER.len()
+        VERSION.len()
     } else {
-        VERSION_ANSWER.len().saturating_add(NO_PATH.len())
+        VERSION.len().saturating_add(NO_PATH.len())
     }
 }
 
@@ -82,17 +80,15 @@ fn writers_that_fail(rt: HostRuntime) -> Result<(), Fail> {
             .saturating_add(INCOMPLETE.len().div_ceil(size));
         for call in 1..=last {
             for stalls in [false, true] {
-                let mut paper = Paper::new(alloc)?;
-                paper.size = size;
-                if stalls {
-                    paper.stalls_at = Some(call);
-                } else {
-                    paper.fails_at = Some(call);
-                }
-                let (ended, paper, _) = run(alloc, Pieces::of(INPUT, 1000), paper);
+                let paper = Paper::broken(alloc, size, call, stalls)?;
+                let (ended, paper, calls) = run(alloc, Pieces::of(INPUT, 1000), paper);
                 let count = taken(size, call.saturating_sub(1));
                 let (text, _) = wanted.as_slice().split_at(count.min(wanted.len()));
-                assert_eq!(rt; ended, Ended::WriteFault, "pieces of {size}, call {call}");
+                assert_eq!(rt;
+                    (ended, calls),
+                    (Ended::WriteFault, 1),
+                    "pieces of {size}, call {call}"
+                );
                 assert_eq!(rt;
                     paper.bytes.as_slice(),
                     text,
@@ -130,16 +126,12 @@ fn long_answers(rt: HostRuntime) -> Result<(), Fail> {
     for length in [65_400usize, 65_536, 65_537, 200_000] {
         let input =
             b"GET /api/v1/dags HTTP/1.1\r\nHost: h\r\nAuthorization: Bearer test\r\nConnection: close\r\n\r\n";
-        let mut reader = Counted::new(Pieces::of(input, 1000));
-        let mut writer = Counted::new(Paper::new(alloc)?);
-        let mut service = Fixed {
+        let (ended, paper, calls) = run_long(
             alloc,
             length,
-            calls: 0,
-        };
-        let ended = serve(alloc, &mut reader, &mut writer, &mut service);
-        let Fixed { calls, .. } = service;
-        let paper = writer.into_inner();
+            Pieces::of(input, 1000),
+            Paper::new(alloc)?,
+        );
         let head = format!(in alloc;
             "HTTP/1.1 200 OK\r\nContent-Type: application/json\r\nContent-Length: {length}\r\nX-Policy-Version: 3\r\nX-Plane-Seq: 70\r\nConnection: close\r\n\r\n"
         )?;
@@ -170,15 +162,12 @@ fn memory_refused(rt: HostRuntime) -> Result<(), Fail> {
         return Ok(());
     };
     let (ended, paper, calls) = run(alloc, Pieces::of(input, 1000), paper);
-    let before = if calls == 2 { VERSION_ANSWER } else { "" };
+    let before = if calls == 2 { VERSION } else { "" };
     let last = match ended {
         Ended::NoMemory => MEMORY,
-        _ => LAST_VERSION_ANSWER,
+        _ => LAST_VERSION,
     };
-    let written = paper.bytes.as_slice();
-    let (front, back) = written.split_at(before.len().min(written.len()));
-    assert_eq!(rt; str::from_utf8(front), Ok(before));
-    assert_eq!(rt; str::from_utf8(back), Ok(last));
+    assert!(rt; is_joined(paper.bytes.as_slice(), [before, last]));
     assert!(rt; ended == Ended::NoMemory || (ended == Ended::Closed && calls == 2));
     Ok(())
 }

@@ -1,4 +1,4 @@
-use crate::{Counted, Ended, Service, serve};
+use af_http::{Counted, Ended, Service, serve};
 use af_ops::{Body, Op, Served, Shown, Status};
 use std::alloc::{AllocError, Global};
 use std::io;
@@ -58,6 +58,23 @@ impl Paper {
             writes: 0,
         })
     }
+
+    /// A writer that fails at this write, or takes no byte of it.
+    pub fn broken(
+        alloc: Global,
+        size: usize,
+        call: usize,
+        stalls: bool,
+    ) -> Result<Paper, AllocError> {
+        let mut paper = Paper::new(alloc)?;
+        paper.size = size;
+        if stalls {
+            paper.stalls_at = Some(call);
+        } else {
+            paper.fails_at = Some(call);
+        }
+        Ok(paper)
+    }
 }
 
 impl Write for Paper {
@@ -81,42 +98,44 @@ impl Write for Paper {
     }
 }
 
-/// The operations' answers: the version to everybody, the DAGs to who has the token `test`.
+/// The operations' answers: the version to everybody; of all else, what the token says.
 #[derive(Drop)]
 pub struct Fixed {
     pub alloc: Global,
-    /// The length of the DAGs' body.
+    /// The length of the body that the token `test` is given.
     pub length: usize,
     pub calls: usize,
 }
 
 impl Fixed {
-    fn shown(&self, token: Option<&[u8]>, op: &Op) -> Result<Shown, AllocError> {
-        let (status, seen, body) = match op {
-            Op::Version => (
-                Status::Ok,
-                None,
-                Vec::from_slice(
-                    self.alloc,
-                    b"{\"git_version\":null,\"version\":\"afplane 1\"}",
-                )?,
-            ),
-            Op::ListDags if token == Some(b"test".as_slice()) => (
-                Status::Ok,
-                Some(3u32),
-                vec![in self.alloc; b'x'; self.length]?,
-            ),
-            Op::ListDags | Op::GetDag(_) | Op::PauseDag(_, _) => (
-                Status::Unauthorized,
-                Some(3),
-                Vec::from_slice(self.alloc, b"{}")?,
-            ),
-        };
-        Ok(Shown {
+    /// An answer that names version 3 and entry 70.
+    fn told(status: Status, body: Option<Vec<u8>>) -> Served {
+        Served::Shown(Shown {
             status,
-            version: seen,
-            seq: seen.map(|_| 70),
-            body: Some(Body::of(body)),
+            version: Some(3),
+            seq: Some(70),
+            body: body.map(Body::of),
+        })
+    }
+
+    fn served(&self, token: Option<&[u8]>, op: &Op) -> Result<Served, AllocError> {
+        if matches!(op, Op::Version) {
+            let body = b"{\"git_version\":null,\"version\":\"afplane 1\"}";
+            return Ok(Served::Shown(Shown {
+                status: Status::Ok,
+                version: None,
+                seq: None,
+                body: Some(Body::of(Vec::from_slice(self.alloc, body)?)),
+            }));
+        }
+        let nobody = Vec::from_slice(self.alloc, b"{}")?;
+        Ok(match token.unwrap_or(b"") {
+            b"test" => Fixed::told(Status::Ok, Some(vec![in self.alloc; b'x'; self.length]?)),
+            b"empty" => Fixed::told(Status::NoContent, None),
+            b"full" => Fixed::told(Status::NoContent, Some(nobody)),
+            b"lost" => Served::ReplyLost,
+            b"memory" => Served::NothingDone,
+            _ => Fixed::told(Status::Unauthorized, Some(nobody)),
         })
     }
 }
@@ -126,23 +145,34 @@ impl Service for Fixed {
 
     fn answer(&mut self, token: Option<&[u8]>, op: &Op) -> Served {
         self.calls = self.calls.saturating_add(1);
-        match self.shown(token, op) {
-            Ok(shown) => Served::Shown(shown),
+        match self.served(token, op) {
+            Ok(served) => served,
             Err(_) => Served::NothingDone,
         }
     }
 }
 
-/// One connection: how it ended, and what was written.
-pub fn run(alloc: Global, pieces: Pieces<'_>, paper: Paper) -> (Ended, Paper, usize) {
+/// One connection: how it ended, what was written, and how often the service was called, whose long answers have so many
+/// bytes.
+pub fn run_long(
+    alloc: Global,
+    length: usize,
+    pieces: Pieces<'_>,
+    paper: Paper,
+) -> (Ended, Paper, usize) {
     let mut reader = Counted::new(pieces);
     let mut writer = Counted::new(paper);
     let mut service = Fixed {
         alloc,
-        length: 2,
+        length,
         calls: 0,
     };
     let ended = serve(alloc, &mut reader, &mut writer, &mut service);
     let Fixed { calls, .. } = service;
     (ended, writer.into_inner(), calls)
+}
+
+/// The same, whose answers have two bytes.
+pub fn run(alloc: Global, pieces: Pieces<'_>, paper: Paper) -> (Ended, Paper, usize) {
+    run_long(alloc, 2, pieces, paper)
 }

@@ -1,0 +1,9 @@
+mod answers;
+mod cases;
+mod cut;
+mod faults;
+mod limits;
+mod messages;
+mod refusals;
+mod replies;
+mod tools;

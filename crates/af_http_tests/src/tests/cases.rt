@@ -1,0 +1,34 @@
+use crate::tests::tools::{Paper, Pieces, run};
+use af_http::Ended;
+use std::alloc::Global;
+use std::test::Fail;
+
+/// Sizes of pieces in which an input comes.
+pub const ANY_PIECES: [usize; 5] = [1, 2, 3, 40, 100_000];
+
+/// What comes on a connection, in pieces of which sizes, and what comes of it: how it ends, and the two parts of what is
+/// written.
+#[derive(Clone, Copy)]
+pub struct Case<'a> {
+    pub input: &'a [u8],
+    pub pieces: &'a [usize],
+    pub ended: Ended,
+    pub written: [&'a str; 2],
+}
+
+/// The first of its sizes with which a case does not go as it says.
+pub fn first_fault(alloc: Global, case: &Case<'_>) -> Result<Option<usize>, Fail> {
+    for size in case.pieces {
+        let (ended, paper, _) = run(alloc, Pieces::of(case.input, *size), Paper::new(alloc)?);
+        if ended != case.ended || !is_joined(paper.bytes.as_slice(), case.written) {
+            return Ok(Some(*size));
+        }
+    }
+    Ok(None)
+}
+
+/// Whether a text is these two parts.
+pub fn is_joined(text: &[u8], [first, second]: [&str; 2]) -> bool {
+    let (front, back) = text.split_at(first.len().min(text.len()));
+    front == first.as_bytes() && back == second.as_bytes()
+}

@@ -1,0 +1,78 @@
+use crate::tests::answers::{EMPTY, LOST, MEMORY, VERSION};
+use crate::tests::cases::is_joined;
+use crate::tests::tools::{Paper, Pieces, run, run_long};
+use af_http::Ended;
+use std::test::Fail;
+
+/// Tokens whose service replies so, with what is put before the answer to the next request, how the connection ends, and how
+/// often the service is called. What has no content has no body and no length, even where the service says one. Want of
+/// memory closes the connection, with nothing done or with the change done.
+const REPLIES: [(&str, &str, &str, Ended, usize); 4] = [
+    ("empty", EMPTY, VERSION, Ended::Closed, 2),
+    ("full", EMPTY, VERSION, Ended::Closed, 2),
+    ("memory", MEMORY, "", Ended::NoMemory, 1),
+    ("lost", LOST, "", Ended::NoMemory, 1),
+];
+
+#[test]
+fn each_reply(rt: HostRuntime) -> Result<(), Fail> {
+    let alloc = rt.alloc();
+    for (token, first, second, ends, wanted) in REPLIES {
+        let input = format!(in alloc;
+            "GET /api/v1/dags HTTP/1.1\r\nHost: h\r\nAuthorization: Bearer {token}\r\n\r\nGET /api/v1/version HTTP/1.1\r\nHost: h\r\n\r\n"
+        )?;
+        let (ended, paper, calls) = run(
+            alloc,
+            Pieces::of(input.as_bytes(), 1000),
+            Paper::new(alloc)?,
+        );
+        assert_eq!(rt; (ended, calls), (ends, wanted), "{token}");
+        assert!(rt;
+            is_joined(paper.bytes.as_slice(), [first, second]),
+            "{token}"
+        );
+    }
+    Ok(())
+}
+
+/// Three requests of 41 bytes each.
+const ASKS_VERSIONS: &[u8] =
+    b"GET /api/v1/version HTTP/1.1\r\nHost: h\r\n\r\nGET /api/v1/version HTTP/1.1\r\nHost: h\r\n\r\nGET /api/v1/version HTTP/1.1\r\nHost: h\r\n\r\n";
+
+/// Two requests for what is long.
+const ASKS_DAGS: &[u8] =
+    b"GET /api/v1/dags HTTP/1.1\r\nHost: h\r\nAuthorization: Bearer test\r\n\r\nGET /api/v1/dags HTTP/1.1\r\nHost: h\r\nAuthorization: Bearer test\r\n\r\n";
+
+/// A request of 41 bytes, and a head of 62 whose body has 18.
+const ASKS_CHANGE: &[u8] =
+    b"GET /api/v1/version HTTP/1.1\r\nHost: h\r\n\r\nPATCH /api/v1/dags/a HTTP/1.1\r\nHost: h\r\nContent-Length: 18\r\n\r\n{\"is_paused\":true}";
+
+/// Inputs in pieces of so many bytes, the length of long answers, the write that fails, and how often the service has been
+/// called by then: no request is answered once a write has failed, since its change would be made unseen. Not those that
+/// are held already, nor one whose body is still to come.
+const BROKEN: [(&[u8], usize, usize, usize, usize); 11] = [
+    (ASKS_VERSIONS, 41, 2, 1, 1),
+    (ASKS_VERSIONS, 41, 2, 2, 2),
+    (ASKS_VERSIONS, 41, 2, 3, 3),
+    (ASKS_VERSIONS, 1000, 2, 1, 3),
+    (ASKS_DAGS, 1000, 200_000, 1, 1),
+    (ASKS_DAGS, 1000, 200_000, 2, 1),
+    (ASKS_DAGS, 1000, 200_000, 3, 2),
+    (ASKS_DAGS, 1000, 200_000, 4, 2),
+    (ASKS_CHANGE, 103, 2, 1, 1),
+    (ASKS_CHANGE, 50, 2, 1, 1),
+    (ASKS_CHANGE, 1000, 2, 1, 2),
+];
+
+#[test]
+fn no_request_is_answered_after_a_failed_write(rt: HostRuntime) -> Result<(), Fail> {
+    let alloc = rt.alloc();
+    for (row, (input, size, length, call, wanted)) in BROKEN.iter().enumerate() {
+        for stalls in [false, true] {
+            let paper = Paper::broken(alloc, usize::MAX, *call, stalls)?;
+            let (ended, _, calls) = run_long(alloc, *length, Pieces::of(input, *size), paper);
+            assert_eq!(rt; (ended, calls), (Ended::WriteFault, *wanted), "row {row}");
+        }
+    }
+    Ok(())
+}
