@@ -1,0 +1,7 @@
+mod changes;
+mod grants;
+mod openings;
+mod reads;
+mod steps;
+mod syncs;
+mod versions;
