@@ -10,7 +10,8 @@ use Rattle.af_ops.specs.Table.{Segment, Text, Part, segments_of, places, place_r
 use Rattle.std.specs.Str.{is_utf8}
 use Rattle.std.proofs.lemmas.Str.{IsUtf8-from_is_utf8, is_utf8-from_IsUtf8}
 use Rattle.percent_encoding.specs.Percent.{percent_decode}
-use Rattle.af_http.specs.Routes.{before, decoded, onward, has_form, place_of, stands_for}
+use Rattle.af_http.specs.Parts.{with_all}
+use Rattle.af_http.specs.Routes.{before, decoded, onward, has_form, parts_in, place_of, stands_for}
 
 -- ---- cutting
 
@@ -143,3 +144,11 @@ none_by bytes false is bad = refl
 
 pub decoded_none : (part : List ℕ) → (IsUtf8 (percent_decode part) → ⊥) → decoded part ≡ None
 decoded_none part bad = none_by (percent_decode part) (is_utf8 (percent_decode part)) refl bad
+
+none_before : (parts : Option (List (List ℕ))) → with_all [] parts ≡ parts
+none_before None = refl
+none_before (Some texts) = refl
+
+-- the texts of a path's parts, where none were gathered before
+pub all_texts : (texts : List (List ℕ)) (segments wanted : List Segment) (path target : List ℕ) → texts ≡ [] → segments ≡ wanted → path ≡ target → with_all texts (parts_in segments path) ≡ parts_in wanted target
+all_texts texts segments wanted path target none same there = rw (none, same, there) (none_before (parts_in wanted target))
