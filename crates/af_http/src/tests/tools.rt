@@ -106,7 +106,12 @@ impl Fixed {
                 Some(3u32),
                 vec![in self.alloc; b'x'; self.length]?,
             ),
-            Op::ListDags | Op::GetDag(_) | Op::PauseDag(_, _) => (
+            Op::ListDags
+            | Op::GetDag(_)
+            | Op::PauseDag(_, _)
+            | Op::ListRuns(_)
+            | Op::TriggerRun(_, _)
+            | Op::GetRun(_, _) => (
                 Status::Unauthorized,
                 Some(3),
                 Vec::from_slice(self.alloc, b"{}")?,
