@@ -3,7 +3,7 @@ use Rattle.std.specs.Prelude.{◌≡◌, ◌⊎◌, List, ℕ, Option, Some, Non
 use Rattle.af_sched.specs.State.{StateRows}
 use Rattle.af_ops.specs.declared.answer.CallFault.{CallFault}
 use Rattle.af_ops.specs.declared.answer.CallFault.TheVariants as why
-use Rattle.af_ops.specs.declared.answer.OpFault.TheVariants.{HistoryFull, NoNumberLeft, OutOfMemory}
+use Rattle.af_ops.specs.declared.answer.OpFault.TheVariants.{HistoryFull, OutOfMemory}
 use Rattle.af_ops.specs.Edits.{next_by}
 use Rattle.af_ops.specs.Prepared.{Preparation}
 use Rattle.af_ops.specs.Verdicts.{Verdict, Open, Stranger, Lacks, Refuses, Tells, Changes}
@@ -26,7 +26,7 @@ abbrev pub IsDoing : Verdict → Type 0
 IsDoing (Open reply) = ⊤
 IsDoing Stranger = ⊥
 IsDoing (Lacks need) = ⊥
-IsDoing (Refuses fault) = (fault ≡ HistoryFull) ⊎ (fault ≡ NoNumberLeft)
+IsDoing (Refuses fault) = fault ≡ HistoryFull
 IsDoing (Tells reply) = ⊤
 IsDoing (Changes reply next) = ⊤
 

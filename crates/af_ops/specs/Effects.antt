@@ -1,6 +1,6 @@
 -- What a permitted operation does: its reply and the state after it, or the first fault in the order of `OpFault`. Each next
 -- state is a map or a filter over the lists of the state, or one row more at their end.
-use Rattle.std.specs.Prelude.{ℕ, ◌++◌, List, Bool, not, map, nat_le, length, Option, Some, None, ok_or, unwrap_or, Result, Ok, Err, codes, if◌then◌else◌}
+use Rattle.std.specs.Prelude.{ℕ, ◌++◌, List, Bool, not, map, length, Option, Some, None, ok_or, unwrap_or, Result, Ok, Err, codes, if◌then◌else◌}
 use Rattle.serde_json.specs.Data.{Data}
 use Rattle.serde_json.specs.Written.{compact_text}
 use Rattle.af_names.specs.Isoformat.{isoformat}
@@ -126,20 +126,16 @@ new_run row dag_id run_id date = record {
   instances = new_instances row.dag.tasks;
 }
 
--- the DAG has as many runs as it may have, or no number is left for one more
-abbrev pub full_fault : List Run → List ℕ → OpFault
-full_fault runs dag_id = if nat_le 65_536 (length (runs_of runs dag_id)) then fault.TooMany else fault.NoNumberLeft
-
 -- the id of a run that may be added, or why it may not
-abbrev pub free_by : List Run → List ℕ → List ℕ → ℕ → Option RunFault → Result (List ℕ) OpFault
-free_by runs dag_id run_id date None = Ok run_id
-free_by runs dag_id run_id date (Some run_fault.RunExists) = Err (fault.RunExists date)
-free_by runs dag_id run_id date (Some run_fault.DateTaken) = Err (fault.DateTaken date)
-free_by runs dag_id run_id date (Some run_fault.Full) = Err (full_fault runs dag_id)
-free_by runs dag_id run_id date (Some run_fault.OutOfMemory) = Err fault.OutOfMemory
+abbrev pub free_by : List ℕ → ℕ → Option RunFault → Result (List ℕ) OpFault
+free_by run_id date None = Ok run_id
+free_by run_id date (Some run_fault.RunExists) = Err (fault.RunExists date)
+free_by run_id date (Some run_fault.DateTaken) = Err (fault.DateTaken date)
+free_by run_id date (Some run_fault.Full) = Err fault.TooMany
+free_by run_id date (Some run_fault.OutOfMemory) = Err fault.OutOfMemory
 
 abbrev pub free_id : StateRows → List ℕ → List ℕ → ℕ → Result (List ℕ) OpFault
-free_id state dag_id run_id date = free_by state.runs dag_id run_id date (add_fault state.runs state.next_run dag_id run_id date)
+free_id state dag_id run_id date = free_by run_id date (add_fault state.runs state.next_run dag_id run_id date)
 
 -- the state with the run, which is told as it then stands
 abbrev pub added_run : StateRows → NewRun → Effect

@@ -27,6 +27,5 @@ problem_of asked (why.Op fault.NoSuchRun) = fault_of status.NotFound (codes "no 
 problem_of asked (why.Op (fault.RunExists date)) = fault_of status.Conflict (codes "run exists: " ++ id_or (given_id asked) date)
 problem_of asked (why.Op (fault.DateTaken date)) = fault_of status.Conflict (codes "date taken: " ++ isoformat date)
 problem_of asked (why.Op fault.TooMany) = fault_of status.Conflict (codes "too many")
-problem_of asked (why.Op fault.NoNumberLeft) = fault_of status.Conflict (codes "too many")
 problem_of asked (why.Op fault.HistoryFull) = fault_of status.InsufficientStorage (codes "history full")
 problem_of asked (why.Op fault.OutOfMemory) = None

@@ -1,11 +1,9 @@
 -- An operation that is worked out and not yet done.
-use Rattle.std.specs.Prelude.{◌≡◌, ◌<◌, ◌↔◌, ◌⊎◌, ℕ, List, false, None, Result, Ok, Err, ⊤}
+use Rattle.std.specs.Prelude.{◌≡◌, ◌<◌, ◌↔◌, ◌⊎◌, ℕ, List, false, None, Result, Ok, Err, IsOk, ⊤}
 use Rattle.af_runs.specs.Runs.{add_fault}
 use Rattle.af_runs.specs.declared.new_run.NewRun.{NewRun}
 use Rattle.af_sched.specs.Additions.{IsWholeNew}
 use Rattle.af_sched.specs.State.{StateRows, StateWithRoom}
-use Rattle.af_ops.specs.declared.answer.OpFault.{OpFault}
-use Rattle.af_ops.specs.declared.answer.OpFault.TheVariants.{NoNumberLeft}
 use Rattle.af_ops.specs.declared.edit.Edit.{Edit}
 use Rattle.af_ops.specs.declared.edit.Edit.TheVariants as edit
 use Rattle.af_ops.specs.Edits.{edited, is_edit, next_by}
@@ -36,12 +34,7 @@ CanDo state (edit.RunAdded new) = CanAddRun state new
 abbrev pub IsExact : StateRows → Edit → Type 0
 IsExact state it = (is_edit it ≡ false) ↔ (edited it state ≡ state)
 
--- an operation that is not refused, but for a run to which no number is left: only there memory may be wanted
-abbrev pub MayWant : {X : Type 0} → Result X OpFault → Type 0
-MayWant (Ok x) = ⊤
-MayWant (Err fault) = fault ≡ NoNumberLeft
-
 -- what is done where memory suffices, or want of memory in place of what would be done, never of another fault
-abbrev pub MemoryLast : {X : Type 0} → OpFault → Result X OpFault → Result X OpFault → Type 0
+abbrev pub MemoryLast : {X E : Type 0} → E → Result X E → Result X E → Type 0
 MemoryLast memory expected (Ok x) = expected ≡ Ok x
-MemoryLast memory expected (Err fault) = (expected ≡ Err fault) ⊎ (MayWant expected × (fault ≡ memory))
+MemoryLast memory expected (Err fault) = (expected ≡ Err fault) ⊎ (IsOk expected × (fault ≡ memory))

@@ -27,8 +27,6 @@ pub enum OpFault {
     DateTaken(Instant),
     /// A limit on the number of rows would be passed.
     TooMany,
-    /// No number is left for a run. It is told as `TooMany`, and only where there is memory for the run's id.
-    NoNumberLeft,
     /// It would change the state, and there is no room for one more entry.
     HistoryFull,
     /// A growth was refused, and nothing was done.

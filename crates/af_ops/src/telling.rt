@@ -71,9 +71,7 @@ fn shown_op_fault(alloc: Global, op: &Op, fault: OpFault, under: Under) -> Resul
             let detail = joined(alloc, "date taken: ", date.isoformat().as_str())?;
             shown_problem(alloc, under, Status::Conflict, detail.as_str())
         }
-        OpFault::TooMany | OpFault::NoNumberLeft => {
-            shown_problem(alloc, under, Status::Conflict, "too many")
-        }
+        OpFault::TooMany => shown_problem(alloc, under, Status::Conflict, "too many"),
         OpFault::HistoryFull => {
             shown_problem(alloc, under, Status::InsufficientStorage, "history full")
         }

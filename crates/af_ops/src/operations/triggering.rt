@@ -1,18 +1,17 @@
 // The operation that triggers a run.
-ghost use Rattle.std.specs.Prelude.{◌≡◌, ℕ, List, Some, None, Err, IfErr, IfOk, IfSome, OnOk, length, nat_le};
+ghost use Rattle.std.specs.Prelude.{◌≡◌, ℕ, List, Some, None, Err, IfErr, IfOk, IfSome, OnOk, ◌||◌};
 ghost use Rattle.std.specs.List.{list_any};
 ghost use Rattle.std.specs.Option.{option_copied};
 ghost use Rattle.af_base.specs.Readings.{seen};
-ghost use Rattle.af_runs.specs.Runs.{add_fault, is_dated, is_run, runs_of};
+ghost use Rattle.af_runs.specs.Runs.{add_fault, is_dated, is_full, is_run};
 ghost use Rattle.af_sched.specs.Additions.{IsWholeNew};
 ghost use Rattle.af_ops.specs.declared.answer.OpFault.TheVariants.{OutOfMemory};
-ghost use Rattle.af_ops.specs.Effects.{added_run, free_by, free_id, full_fault, id_or, made_id, new_run, triggered_run};
+ghost use Rattle.af_ops.specs.Effects.{added_run, free_by, free_id, id_or, made_id, new_run, triggered_run};
 ghost use Rattle.af_ops.specs.Prepared.{CanDo, IsExact, MemoryLast, done_on};
 
 use crate::answer::OpFault;
 use crate::body_fault::BodyFault;
 use crate::edit::Edit;
-use crate::operations::runs::is_of;
 use crate::operations::shared::{dag_or, trigger_or};
 use crate::prepared::Prepared;
 use crate::row::row_text;
@@ -91,7 +90,7 @@ fn made_id(alloc: Global, state: &State, dag_id: &DagId, date: Instant) -> Resul
             free(state, dag_id, &run_id, date)?;
             Ok(run_id)
         }
-        None => Err(unmade_fault(state.runs(), dag_id, text.as_str(), date)),
+        None => Err(unmade_fault(state, dag_id, text.as_str(), date)),
     }
 }
 
@@ -108,7 +107,7 @@ fn free(state: &State, dag_id: &DagId, run_id: &RunId, date: Instant) -> Result<
     ensures free { OnOk result (add_fault state.now.rows.runs state.now.rows.next_run dag_id.now run_id.now date ≡ None) }
 {
     match state.run_fault(dag_id, run_id, date) {
-        Some(fault) => Err(conflict(state.runs(), dag_id, date, fault)),
+        Some(fault) => Err(conflict(date, fault)),
         None => Ok(()),
     }
 }
@@ -124,36 +123,26 @@ pub(crate) fn made_text(date: Instant) -> ArrayString<64>
 }
 
 /// Why a run is not added.
-fn conflict(runs: &[Run], dag_id: &DagId, date: Instant, fault: RunFault) -> OpFault
-    ensures { (run_id : List ℕ) → free_by runs.now dag_id.now run_id date (Some fault) ≡ Err result }
+fn conflict(date: Instant, fault: RunFault) -> OpFault
+    ensures { (run_id : List ℕ) → free_by run_id date (Some fault) ≡ Err result }
 {
     match fault {
         RunFault::RunExists => OpFault::RunExists(date),
         RunFault::DateTaken => OpFault::DateTaken(date),
-        RunFault::Full => full_fault(runs, dag_id),
+        RunFault::Full => OpFault::TooMany,
         RunFault::OutOfMemory => OpFault::OutOfMemory,
     }
 }
 
-fn full_fault(runs: &[Run], dag_id: &DagId) -> OpFault
-    ensures { result ≡ full_fault runs.now dag_id.now }
-{
-    if has_most_runs(runs, dag_id) {
-        OpFault::TooMany
-    } else {
-        OpFault::NoNumberLeft
-    }
-}
-
 /// Why a run is not added whose id can not be made for want of memory: what would be told of it, and else that want.
-fn unmade_fault(runs: &[Run], dag_id: &DagId, run_id: &str, date: Instant) -> OpFault
-    ensures { (next : ℕ) → MemoryLast OutOfMemory (free_by runs.now dag_id.now run_id.now date (add_fault runs.now next dag_id.now run_id.now date)) (Err result) }
+fn unmade_fault(state: &State, dag_id: &DagId, run_id: &str, date: Instant) -> OpFault
+    ensures { MemoryLast OutOfMemory (free_id state.now.rows dag_id.now run_id.now date) (Err result) }
 {
-    if has_id(runs, dag_id, run_id) {
+    if has_id(state.runs(), dag_id, run_id) {
         OpFault::RunExists(date)
-    } else if has_date(runs, dag_id, date) {
+    } else if has_date(state.runs(), dag_id, date) {
         OpFault::DateTaken(date)
-    } else if has_most_runs(runs, dag_id) {
+    } else if is_full(state, dag_id) {
         OpFault::TooMany
     } else {
         OpFault::OutOfMemory
@@ -186,18 +175,11 @@ fn is_dated(run: &Run, dag_id: &DagId, date: Instant) -> bool
     run.dag_id == *dag_id && run.logical_date == date
 }
 
-/// Whether the DAG has as many runs as it may have.
-fn has_most_runs(runs: &[Run], dag_id: &DagId) -> bool
-    ensures { result ≡ nat_le 65_536 (length (runs_of runs.now dag_id.now)) }
+/// Whether the DAG has as many runs as it may have, or no number is left for another.
+fn is_full(state: &State, dag_id: &DagId) -> bool
+    ensures { result ≡ is_full state.now.rows.runs state.now.rows.next_run dag_id.now }
 {
-    count_of(runs, dag_id) >= MOST_RUNS
-}
-
-/// How many of the runs the DAG has.
-fn count_of(runs: &[Run], dag_id: &DagId) -> usize
-    ensures { result ≡ length (runs_of runs.now dag_id.now) }
-{
-    runs.iter().filter(|run| is_of(*run, dag_id)).count()
+    state.count_of_dag(dag_id) >= MOST_RUNS || state.next_run().is_none()
 }
 
 /// The run that is triggered. `AllocError` only where a growth was refused.

@@ -1,11 +1,10 @@
-use Rattle.std.proofs.Common.{◌∙◌, sym, ap, subst, List, Err, Some}
-use Rattle.std.specs.Prelude.{◌≡◌, Option}
-use Rattle.af_runs.specs.declared.run.Run.{Run}
+use Rattle.std.proofs.Common.{◌∙◌, sym, ap}
+use Rattle.std.specs.Prelude.{Option}
 use Rattle.af_runs.specs.declared.run_fault.RunFault.{RunFault}
 use Rattle.af_ops.specs.Effects.{free_by}
 use Rattle.af_ops.proofs.operations.triggering.free.Goals as goal
 
 pub returns-in-Some-clause-told : goal.returns-in-Some-clause-told
 returns-in-Some-clause-told c =
-    ap (λ (f : Option RunFault). free_by c.args.state.now.rows.runs c.args.dag_id.now c.args.run_id.now c.args.date f) (sym c.run_fault.ensures ∙ c.in-Some.is)
-    ∙ subst (λ (rows : List Run). free_by rows c.args.dag_id.now c.args.run_id.now c.args.date (Some c.in-Some.fault) ≡ Err c.conflict.result) c.runs.ensures.rows (c.conflict.ensures c.args.run_id.now)
+    ap (λ (f : Option RunFault). free_by c.args.run_id.now c.args.date f) (sym c.run_fault.ensures ∙ c.in-Some.is)
+    ∙ c.conflict.ensures c.args.run_id.now
