@@ -1,5 +1,5 @@
 use crate::tests::answers::{INCOMPLETE, LAST_VERSION, TOO_LARGE, VERSION};
-use crate::tests::cases::{Case, first_fault};
+use crate::tests::cases::is_joined;
 use crate::tests::cut::ASKS_VERSION;
 use crate::tests::tools::{Paper, Pieces, run};
 use af_http::Ended;
@@ -10,15 +10,25 @@ use std::test::Fail;
 /// The longest body.
 const LONGEST: usize = 65_536;
 
-/// What follows one another: a text as often as a number says.
-fn repeated(alloc: Global, parts: &[(&[u8], usize)]) -> Result<Vec<u8>, Fail> {
-    let mut text = Vec::new(alloc);
-    for (part, times) in parts {
-        for _ in 0..*times {
-            text.extend_from_slice(part)?;
-        }
+/// Appends a text so many times.
+fn add(text: &mut Vec<u8>, part: &[u8], times: usize) -> Result<(), Fail> {
+    for _ in 0..times {
+        text.extend_from_slice(part)?;
     }
-    Ok(text)
+    Ok(())
+}
+
+/// Whether an input that comes in pieces of a size ends so, and these two parts are written.
+fn gives(
+    alloc: Global,
+    input: &[u8],
+    size: usize,
+    wanted: Ended,
+    first: &str,
+    second: &str,
+) -> Result<bool, Fail> {
+    let (ended, paper, _) = run(alloc, Pieces::of(input, size), Paper::new(alloc)?);
+    Ok(ended == wanted && is_joined(paper.bytes.as_slice(), [first, second]))
 }
 
 /// The longest body is read, whatever the pieces, and the request behind it is answered. A byte a read: 64 for the head, and
@@ -26,25 +36,19 @@ fn repeated(alloc: Global, parts: &[(&[u8], usize)]) -> Result<Vec<u8>, Fail> {
 #[test]
 fn longest_body(rt: HostRuntime) -> Result<(), Fail> {
     let alloc = rt.alloc();
-    let head =
-        b"GET /api/v1/version HTTP/1.1\r\nHost: h\r\nContent-Length: 65536\r\n\r\n".as_slice();
-    let input = repeated(alloc, &[(head, 1), (b"\n", LONGEST), (ASKS_VERSION, 1)])?;
-    for (pieces, ended, written) in [
-        (
-            &[100usize, 16_384, 100_000] as &[usize],
-            Ended::Closed,
-            [VERSION, VERSION],
-        ),
-        (&[1usize], Ended::Turns, ["", ""]),
-    ] {
-        let case = Case {
-            input: &input,
-            pieces,
-            ended,
-            written,
-        };
-        assert_eq!(rt; first_fault(alloc, &case)?, None, "{ended:?}");
+    let mut input = Vec::from_slice(
+        alloc,
+        b"GET /api/v1/version HTTP/1.1\r\nHost: h\r\nContent-Length: 65536\r\n\r\n",
+    )?;
+    add(&mut input, b"\n", LONGEST)?;
+    add(&mut input, ASKS_VERSION, 1)?;
+    for size in [100usize, 16_384, 100_000] {
+        assert!(rt;
+            gives(alloc, &input, size, Ended::Closed, VERSION, VERSION)?,
+            "in pieces of {size}"
+        );
     }
+    assert!(rt; gives(alloc, &input, 1, Ended::Turns, "", "")?);
     Ok(())
 }
 
@@ -76,23 +80,31 @@ const HEADS: [(usize, usize, usize, Ended, &str); 5] = [
     ),
 ];
 
+/// A head of so many bytes, its empty line included.
+fn head_of(alloc: Global, size: usize) -> Result<Vec<u8>, Fail> {
+    let mut head = Vec::from_slice(alloc, b"GET /api/v1/version HTTP/1.1\r\nHost: h\r\nX: ")?;
+    let filled = size.saturating_sub(head.len()).saturating_sub(4);
+    add(&mut head, b"x", filled)?;
+    head.extend_from_slice(b"\r\n\r\n")?;
+    Ok(head)
+}
+
 #[test]
 fn large_heads(rt: HostRuntime) -> Result<(), Fail> {
     let alloc = rt.alloc();
-    let front = b"GET /api/v1/version HTTP/1.1\r\nHost: h\r\nX: ".as_slice();
     for (row, (lines, size, come, ended, text)) in HEADS.iter().enumerate() {
-        let filled = size.saturating_sub(front.len()).saturating_sub(4);
-        let head = repeated(alloc, &[(front, 1), (b"x", filled), (b"\r\n\r\n", 1)])?;
+        let head = head_of(alloc, *size)?;
         assert_eq!(rt; head.len(), *size);
+        let mut input = Vec::new(alloc);
+        add(&mut input, b"\r\n", *lines)?;
         let (came, _) = head.as_slice().split_at(head.len().min(*come));
-        let input = repeated(alloc, &[(b"\r\n", *lines), (came, 1)])?;
-        let case = Case {
-            input: &input,
-            pieces: &[1000, 16_384, 100_000],
-            ended: *ended,
-            written: [text, ""],
-        };
-        assert_eq!(rt; first_fault(alloc, &case)?, None, "row {row}");
+        add(&mut input, came, 1)?;
+        for pieces in [1000usize, 16_384, 100_000] {
+            assert!(rt;
+                gives(alloc, &input, pieces, *ended, text, "")?,
+                "row {row} in pieces of {pieces}"
+            );
+        }
     }
     Ok(())
 }
@@ -101,20 +113,17 @@ fn large_heads(rt: HostRuntime) -> Result<(), Fail> {
 #[test]
 fn many_fields(rt: HostRuntime) -> Result<(), Fail> {
     let alloc = rt.alloc();
-    let front = b"GET /api/v1/version HTTP/1.1\r\nHost: h\r\n".as_slice();
-    for (fields, ended, text) in [
+    for (fields, wanted, text) in [
         (64usize, Ended::Closed, VERSION),
         (65, Ended::Refused(Status::HeadTooLarge), TOO_LARGE),
     ] {
-        let others = fields.saturating_sub(1);
-        let input = repeated(alloc, &[(front, 1), (b"X: y\r\n", others), (b"\r\n", 1)])?;
-        let case = Case {
-            input: &input,
-            pieces: &[100_000],
-            ended,
-            written: [text, ""],
-        };
-        assert_eq!(rt; first_fault(alloc, &case)?, None, "{fields} fields");
+        let mut input = Vec::from_slice(alloc, b"GET /api/v1/version HTTP/1.1\r\nHost: h\r\n")?;
+        add(&mut input, b"X: y\r\n", fields.saturating_sub(1))?;
+        add(&mut input, b"\r\n", 1)?;
+        assert!(rt;
+            gives(alloc, &input, 100_000, wanted, text, "")?,
+            "{fields} fields"
+        );
     }
     Ok(())
 }
@@ -123,11 +132,11 @@ fn many_fields(rt: HostRuntime) -> Result<(), Fail> {
 #[test]
 fn thousand_requests(rt: HostRuntime) -> Result<(), Fail> {
     let alloc = rt.alloc();
-    let input = repeated(alloc, &[(ASKS_VERSION, 1001)])?;
-    let wanted = repeated(
-        alloc,
-        &[(VERSION.as_bytes(), 999), (LAST_VERSION.as_bytes(), 1)],
-    )?;
+    let mut input = Vec::new(alloc);
+    add(&mut input, ASKS_VERSION, 1001)?;
+    let mut wanted = Vec::new(alloc);
+    add(&mut wanted, VERSION.as_bytes(), 999)?;
+    add(&mut wanted, LAST_VERSION.as_bytes(), 1)?;
     let (ended, paper, calls) = run(alloc, Pieces::of(&input, 100_000), Paper::new(alloc)?);
     assert_eq!(rt; (ended, calls), (Ended::Closed, 1000));
     assert_eq!(rt; paper.bytes.as_slice(), wanted.as_slice());
