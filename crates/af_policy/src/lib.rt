@@ -73,3 +73,6 @@ pub use worked::{
     bearers_by_the_rule, denials_by_the_rule, grants_by_the_rule, readers_by_the_rule,
     rows_by_the_rule,
 };
+
+#[cfg(test)]
+mod tests;

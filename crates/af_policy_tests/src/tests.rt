@@ -1,7 +1,0 @@
-mod changes;
-mod grants;
-mod openings;
-mod reads;
-mod steps;
-mod syncs;
-mod versions;
