@@ -4,7 +4,7 @@
   python3 bench/differential.py                       2,000 cases of seed 1, after the examples and the limits
   python3 bench/differential.py --cases 20000 --seed 7
   python3 bench/differential.py --program 'PATH/PROGRAM'
-  python3 bench/differential.py --has landed,runs     a program that also has the operations on runs
+  python3 bench/differential.py --has landed,tasks    a program that also has the operations on tasks and instances
   python3 bench/differential.py --write FOLDER --random-only --cases 300
                                                       the cases as files, for a program that is not proved yet
 
@@ -37,7 +37,6 @@ NOW = "2024-01-01T00:00:00Z"
 SECONDS = 30
 MOST_TRIES = 300
 MOST_CONFIG = 100_000
-WANTED = {"morning": "runs"}  # examples that want more operations than the first ones
 MOMENTS = [
     *["2024-01-01T00:00:00.000001+00:00", "2024-01-01 00:00:00z", "20240101T000000Z", "2024-01-01T00Z", "2024-02-29T00:00Z", "2023-02-29T00:00Z"],
     *["1970-01-01T00:00:00Z", "1969-12-31T23:59:59Z", "1969-12-31T23:59:59.9999999Z", "1970-01-01T01:00:00+01:00", "1970-01-01T00:00:00+01:00"],
@@ -161,12 +160,10 @@ class Comparison:
 
 
 def check_examples(it):
-    """The examples, against the files that stand beside them; those alone whose operations the program has."""
+    """The examples, against the files that stand beside them."""
     folder = os.path.join(ROOT, "examples")
     for name in sorted(os.listdir(os.path.join(folder, "expected"))):
         stem = name.removesuffix(".out")
-        if not GROUPS[WANTED.get(stem, "landed")] <= it.has:
-            continue
         with open(os.path.join(folder, stem + ".http"), "rb") as file:
             data = file.read()
         with open(os.path.join(folder, "expected", name), "rb") as file:

@@ -3,7 +3,7 @@
 
   python3 bench/refusals.py                           the examples: a viewer, one team, a denial, a wrong token, a pause
   python3 bench/refusals.py --program 'PATH/PROGRAM'
-  python3 bench/refusals.py --has landed,runs         also a morning of a team, and each kind of change of a program that has the operations on runs
+  python3 bench/refusals.py --has landed,changes      also each kind of change of a program that has those
   python3 bench/refusals.py --tests                   each test of the crates below af_http whose tests `rt test` has built
 
 A run is refused its first allocation, the next its second, and so on, until a run meets none to refuse. Each is to end in
@@ -38,7 +38,7 @@ REPLY_LOST = (
 )
 REFUSED = b"afplane: configuration refused: memory\n"
 MOST = 100_000
-INPUTS = [("base.json", "viewer.http"), ("team.json", "one-team.http"), ("team.json", "denied.http"), ("team.json", "wrong-token.http"), ("base.json", "pause.http")]
+INPUTS = [("base.json", "viewer.http"), ("team.json", "one-team.http"), ("team.json", "denied.http"), ("team.json", "wrong-token.http"), ("base.json", "pause.http"), ("team.json", "morning.http")]
 # One change of each kind, over base.json, after a run of b has been triggered; what it does is looked at, and it is asked for again.
 CHANGES = [
     ("trigger_run", "POST /dags/b/dagRuns", "{}", "/dags/b/dagRuns"),
@@ -86,8 +86,7 @@ def done_before(name):
 
 def inputs(has):
     """Name, configuration and requests of each case."""
-    files = INPUTS + ([("team.json", "morning.http")] if GROUPS["runs"] <= has else [])
-    for config, requests in files:
+    for config, requests in INPUTS:
         with open(os.path.join(ROOT, "examples", requests), "rb") as file:
             yield f"{config} {requests}", config, file.read()
     for name, asked, body, look in CHANGES:

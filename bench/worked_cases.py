@@ -58,17 +58,17 @@ CONNECTIONS = [
         ("bob", "GET /dags/nosuch", "", 403, "missing permission DAG:nosuch.can_read", 0),
         ("vera", "GET /dags/nosuch", "", 404, "no such dag: nosuch", 0),
     ]),
-    ("a trigger", "landed,runs", T1, {}, [
+    ("a trigger", "landed", T1, {}, [
         ("uma", f"POST {RUNS}", "{}", 200, run_row("b", f"manual__{T1}", T1), 1),
         ("uma", f"POST {RUNS}", "{}", 409, f"run exists: manual__{T1}", 1),
         ("uma", f"POST {RUNS}", '{"dag_run_id":"x"}', 409, f"date taken: {T1}", 1),
     ]),
-    ("a denial before a body", "landed,runs", NOW, {}, [
+    ("a denial before a body", "landed", NOW, {}, [
         ("edna", f"POST {RUNS}", "{}", 403, "missing permission DAG Runs.can_create", 0),
         ("edna", f"POST {RUNS}", "{", 403, "missing permission DAG Runs.can_create", 0),
         ("uma", f"POST {RUNS}", "{", 400, "bad body", 0),
     ]),
-    ("a denial, then a body, then an absence, then a conflict", "landed,runs,changes", NOW, {}, [
+    ("a denial, then a body, then an absence, then a conflict", "landed,changes", NOW, {}, [
         ("edna", "PATCH /dags/gone/dagRuns/x", '{"state":"x"}', 403, "missing permission DAG:gone.can_edit", 0),
         ("edna", "PATCH /dags/b/dagRuns/x", '{"state":"x"}', 403, "missing permission DAG Runs.can_edit", 0),
         ("uma", "PATCH /dags/gone/dagRuns/x", '{"state":"x"}', 400, "bad member: state", 0),
@@ -82,7 +82,7 @@ CONNECTIONS = [
         ("uma", "POST /dags/a/dagRuns", '{"conf":{"x":1}}', 400, "bad member: conf", 2),
         ("uma", "POST /dags/~/dagRuns", "{}", 404, "no such path", None, None),
     ]),
-    ("runs of a reader of one DAG, not cut yet", "landed,runs", NOW, {}, [
+    ("runs of a reader of one DAG, not cut yet", "landed", NOW, {}, [
         *FIVE_RUNS,
         ("ron", "GET /dags/~/dagRuns", "", 200, listed("dag_runs", 3, on_day("b", 2), on_day("b", 3), on_day("b", 5)), 5),
         ("ron", "GET /dags/%7e/dagRuns?limit=2&offset=1", "", 200, listed("dag_runs", 3, on_day("b", 2), on_day("b", 3), on_day("b", 5)), 5),
@@ -91,14 +91,17 @@ CONNECTIONS = [
         ("ron", "GET /dags/a/dagRuns", "", 403, "missing permission DAG:a.can_read", 5),
         ("vera", "GET /dags/a/dagRuns", "", 200, listed("dag_runs", 2, on_day("a", 1), on_day("a", 4)), 5),
         ("vera", f"GET {R2}", "", 200, on_day("b", 2), 5),
+        ("vera", f"GET {RUNS}/r1", "", 404, "no such run: r1", 5),
+    ]),
+    ("tasks and instances", "landed,tasks", NOW, {}, [
+        *FIVE_RUNS,
         ("vera", f"GET {R2}/taskInstances/t", "", 200, instance_row(), 5),
         ("vera", f"GET {R2}/taskInstances", "", 200, listed("task_instances", 1, instance_row()), 5),
         ("ron", f"GET {R2}/taskInstances", "", 403, "missing permission Task Instances.can_read", 5),
         ("vera", "GET /dags/b/tasks", "", 200, listed("tasks", 1, TASK), 5),
-        ("vera", f"GET {RUNS}/r1", "", 404, "no such run: r1", 5),
         ("vera", f"GET {R2}/taskInstances/u", "", 404, "no such task: u", 5),
     ]),
-    ("pages of the runs of a reader of one DAG", "landed,runs,pages", NOW, {}, [
+    ("pages of the runs of a reader of one DAG", "landed,tasks,pages", NOW, {}, [
         *FIVE_RUNS,
         ("ron", "GET /dags/~/dagRuns?limit=2&offset=1", "", 200, listed("dag_runs", 3, on_day("b", 3), on_day("b", 5)), 5),
         ("ron", "GET /dags/~/dagRuns?offset=9", "", 200, listed("dag_runs", 3), 5),
@@ -108,7 +111,7 @@ CONNECTIONS = [
         ("bob", "GET /dags/~/dagRuns?limit=-1", "", 403, "missing permission DAG Runs.can_read", 5),
         ("vera", "GET /dags/b/tasks?limit=x", "", 200, listed("tasks", 1, TASK), 5),
     ]),
-    ("marks and clears", "landed,runs,changes", NOW, {}, [
+    ("marks and clears", "landed,tasks,changes", NOW, {}, [
         *FIVE_RUNS[:3],
         ("uma", f"PATCH {R2}", '{"state":"queued"}', 200, on_day("b", 2), 3),
         ("uma", f"PATCH {R2}", '{"state":"success"}', 200, run_row("b", "r2", "2024-01-02T00:00:00+00:00", "success", ENDED), 4),
