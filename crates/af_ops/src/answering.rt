@@ -1,5 +1,6 @@
-ghost use Rattle.std.specs.Prelude.{◌≡◌, ◌<◌, true, false};
+ghost use Rattle.std.specs.Prelude.{◌≢◌, ◌≡◌, ◌<◌, true, false};
 ghost use Rattle.std.specs.Option.{option_copied};
+ghost use Rattle.af_ops.specs.declared.served.Served.TheVariants.{ReplyLost};
 ghost use Rattle.af_ops.specs.declared.op.Op.{Op};
 ghost use Rattle.af_ops.specs.Decisions.{fault_verdict, prepared_verdict};
 ghost use Rattle.af_ops.specs.Edits.{is_edit};
@@ -40,7 +41,8 @@ impl Standing {
         op: &Op,
         now: Instant,
     ) -> Served
-        ensures { IsServed op.now (verdict policy.now self.old (option_copied token.entry) op.now now) self.old result self.new }
+        ensures served { IsServed op.now (verdict policy.now self.old (option_copied token.entry) op.now now) self.old result self.new }
+        ensures kept { result ≢ ReplyLost }
     {
         if route_of(op.endpoint()).is_open {
             return openly(alloc, &mut self.state, self.under, op, now);
@@ -59,8 +61,9 @@ impl Standing {
 
 /// Answers an operation that anybody may ask for.
 fn openly(alloc: Global, state: &mut State, under: Under, op: &Op, now: Instant) -> Served
-    ensures { IsServed op.now (opened (effect_of (λ dag. false) state.old.rows op.now now))
+    ensures served { IsServed op.now (opened (effect_of (λ dag. false) state.old.rows op.now now))
         (record { under = under; state = state.old.rows }) result (record { under = under; state = state.new.rows }) }
+    ensures kept { result ≢ ReplyLost }
 {
     match prepare(alloc, state, op, &Nobody, now) {
         Ok(prepared) => Served::Shown(shown_openly(prepared.into_body())),
@@ -78,8 +81,9 @@ fn judged(
     op: &Op,
     now: Instant,
 ) -> Served
-    ensures { IsServed op.now (judged policy.now (record { under = under.old; state = state.old.rows }) op.now now (bearer_of policy.now (option_copied token.entry)))
+    ensures served { IsServed op.now (judged policy.now (record { under = under.old; state = state.old.rows }) op.now now (bearer_of policy.now (option_copied token.entry)))
         (record { under = under.old; state = state.old.rows }) result (record { under = under.new; state = state.new.rows }) }
+    ensures kept { result ≢ ReplyLost }
 {
     match decide(alloc, policy, state, *under, token, op, now) {
         Ok(prepared) => done(state, under, prepared),
@@ -89,7 +93,8 @@ fn judged(
 
 /// Tells a fault, after which the server stands as before.
 fn refused(alloc: Global, op: &Op, fault: CallFault, under: Under) -> Served
-    ensures { (state : StateRows) → IsServed op.now (fault_verdict fault) (record { under = under; state = state }) result (record { under = under; state = state }) }
+    ensures served { (state : StateRows) → IsServed op.now (fault_verdict fault) (record { under = under; state = state }) result (record { under = under; state = state }) }
+    ensures kept { result ≢ ReplyLost }
 {
     match shown_fault(alloc, op, fault, under) {
         Ok(shown) => Served::Shown(shown),
@@ -101,7 +106,8 @@ fn refused(alloc: Global, op: &Op, fault: CallFault, under: Under) -> Served
 fn done(state: &mut State, under: &mut Under, prepared: Prepared) -> Served
     requires room { CanDo state.old prepared.edit }
     requires entries { is_edit prepared.edit ≡ true → under.old.seq < history_limit }
-    ensures { (asked : Op) → IsServed asked (prepared_verdict state.old.rows prepared) (record { under = under.old; state = state.old.rows }) result (record { under = under.new; state = state.new.rows }) }
+    ensures served { (asked : Op) → IsServed asked (prepared_verdict state.old.rows prepared) (record { under = under.old; state = state.old.rows }) result (record { under = under.new; state = state.new.rows }) }
+    ensures kept { result ≢ ReplyLost }
 {
     if prepared.changes() {
         under.seq += 1;

@@ -1,5 +1,8 @@
 //! Requests of several users, one after another, with the bodies that the stable REST API of Airflow 2 and RFC 9457 spell.
-use crate::{Endpoint, Op, Served, Shown, Standing, Status, Text, read_row};
+use crate::{
+    CallFault, Endpoint, Op, OpFault, Served, Shown, Standing, Status, Text, Under, decide,
+    read_row,
+};
 use af_graph::{Dag, DagSpec, Rule, TaskIds, TaskSpec, TaskSpecs};
 use af_names::{DagId, Instant, PoolName, RoleName, RunId, TaskId, UserName};
 use af_policy::{Policy, PolicyDraft, User};
@@ -631,6 +634,51 @@ fn what_is_paused(rt: HostRuntime) -> Result<(), Fail> {
 #[test]
 fn what_is_told_of_runs(rt: HostRuntime) -> Result<(), Fail> {
     assert_eq!(rt; play(rt.alloc(), &RUN_ROWS)?, RUN_ROWS.len());
+    Ok(())
+}
+
+/// What comes of an operation of uma's where there are so many entries: whether it is permitted, or the history is full.
+fn with_entries(
+    alloc: Global,
+    entries: u32,
+    endpoint: Endpoint,
+    body: &[u8],
+) -> Result<Option<bool>, Fail> {
+    let policy = policy(alloc)?;
+    let mut state = state(alloc)?;
+    let under = Under {
+        version: 0,
+        seq: entries,
+    };
+    let Some(op) = op(alloc, endpoint, "b", body)? else {
+        return Err(Fail::new("a part is no name"));
+    };
+    let now = Instant::read("2024-01-01T00:00:00Z")?;
+    match decide(alloc, &policy, &mut state, under, Some(b"uma"), &op, now) {
+        Ok(_) => Ok(Some(true)),
+        Err(CallFault::Op(OpFault::HistoryFull)) => Ok(Some(false)),
+        Err(_) => Ok(None),
+    }
+}
+
+/// The last entry may be added, and none after it; what changes nothing is told nevertheless.
+#[test]
+fn a_full_history_takes_no_change(rt: HostRuntime) -> Result<(), Fail> {
+    let alloc = rt.alloc();
+    for (entries, endpoint, body, permitted) in [
+        (999_999u32, Endpoint::PauseDag, "{\"is_paused\":true}", true),
+        (1_000_000, Endpoint::PauseDag, "{\"is_paused\":true}", false),
+        (1_000_000, Endpoint::PauseDag, "{\"is_paused\":false}", true),
+        (999_999, Endpoint::TriggerRun, "{}", true),
+        (1_000_000, Endpoint::TriggerRun, "{}", false),
+        (1_000_000, Endpoint::ListRuns, "", true),
+    ] {
+        assert_eq!(rt;
+            with_entries(alloc, entries, endpoint, body.as_bytes())?,
+            Some(permitted),
+            "{entries} entries"
+        );
+    }
     Ok(())
 }
 

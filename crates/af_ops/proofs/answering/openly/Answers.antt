@@ -1,7 +1,7 @@
 use Rattle.af_ops.proofs.DecisionLemmas.{served_openly}
 use Rattle.af_ops.proofs.answering.openly.Goals as goal
 
-pub returns-in-Err : goal.returns-in-Err
-returns-in-Err c =
+pub returns-in-Err-clause-served : goal.returns-in-Err-clause-served
+returns-in-Err-clause-served c =
     rw (c.prepare.ensures.rows)
-    (served_openly c.args.op.now _ (record { under = c.args.under; state = c.args.state.now.rows }) c.in-Err.fault c.refused.result c.in-Err.ensures.told (c.refused.ensures c.args.state.now.rows))
+    (served_openly c.args.op.now _ (record { under = c.args.under; state = c.args.state.now.rows }) c.in-Err.fault c.refused.result c.in-Err.ensures.told (c.refused.ensures.served c.args.state.now.rows))
