@@ -1,5 +1,5 @@
 -- A text has one reading.
-use Rattle.std.proofs.Common.{◌≡◌, ◌+◌, ◌<◌, ◌≤◌, arith, length, take, drop, ◌⊎◌, inl, inr, ℕ, Bool, true, false, List, [], ◌∷◌, ◌++◌, refl, sym, ap, ◌∙◌, subst, Option, Some, None}
+use Rattle.std.proofs.Common.{◌≡◌, ◌+◌, arith, length, take, drop, ◌⊎◌, inl, inr, ℕ, Bool, true, false, List, [], ◌∷◌, ◌++◌, refl, sym, ap, ◌∙◌, subst, Option, Some, None}
 use Rattle.std.specs.Prelude.{Result, Ok, Err}
 use Rattle.httparse.specs.Grammar.{RequestHead, ReadsRequest}
 use Rattle.httparse.proofs.GrammarLemmas.{request_unique}
@@ -7,7 +7,7 @@ use Rattle.af_ops.specs.declared.op.Op.{Op}
 use Rattle.af_ops.specs.declared.served.Served.{Served}
 use Rattle.af_http.specs.Fronts.{nothing, part, large, whole, front_of}
 use Rattle.af_http.specs.Requests.{Asked, asked_by, body_length, is_head}
-use Rattle.af_http.specs.Reading.{Begins, Stand, Cut, Parses, IsUnread, IsRefused, closes_after, status_of, refusal_text}
+use Rattle.af_http.specs.Reading.{Begins, Stand, Parses, IsUnread, IsRefused, closes_after, status_of, refusal_text}
 use Rattle.af_http.specs.Run.{Exchange, asked_in, exchanges_text, end_by, end_after, AllGoOn, LastEnds, EndsOr, IsWritten, Makes, Answered, Run}
 use Rattle.af_http.specs.Streams.{Taken}
 use Rattle.af_http.specs.Replies.{wants_memory}

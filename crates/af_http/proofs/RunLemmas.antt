@@ -1,20 +1,19 @@
 -- A run, one turn at a time.
 use Rattle.std.proofs.Common.{◌≡◌, ◌<◌, ◌≤◌, ◌+◌, ◌*◌, ◌||◌, ◌⊎◌, inl, inr, ℕ, Bool, true, false, List, [], ◌∷◌, ◌++◌, length, refl, sym, ap, ◌∙◌, subst, Option, Some, None, arith}
-use Rattle.std.specs.Io.KnownBytes.{Appends}
 use Rattle.std.proofs.lemmas.List.{append-nil, append_assoc, length_push, append_cancel_left}
 use Rattle.std.proofs.lemmas.Bool.{eq-eqb, cases_eq}
 use Rattle.af_ops.specs.declared.op.Op.{Op}
 use Rattle.af_ops.specs.declared.served.Served.{Served}
-use Rattle.af_http.specs.Limits.{read_limit, request_limit}
-use Rattle.af_http.specs.Streams.{Given, Taken, Waiting, Took, Grew, one_if}
+use Rattle.af_http.specs.Limits.{read_limit}
+use Rattle.af_http.specs.Streams.{Given, Taken, Waiting, Took, Grew}
 use Rattle.af_http.specs.Requests.{Asked}
 use Rattle.af_http.specs.Replies.{wants_memory}
 use Rattle.af_http.specs.Answers.{memory_text}
 use Rattle.af_http.specs.Reading.{Begins, Stand, closes_after}
-use Rattle.af_http.specs.Run.{Exchange, asked_in, exchange_text, exchanges_text, end_by, end_after, AllGoOn, LastEnds, last_text, IsLeft, Ends, EndsOr, IsWritten, write_faults, IsMemoryText, Makes, Answered, Run}
-use Rattle.af_http.specs.Reads.{Awaits, Awaited, Reads, read_faults}
+use Rattle.af_http.specs.Run.{Exchange, asked_in, exchange_text, exchanges_text, end_by, end_after, AllGoOn, LastEnds, last_text, Ends, EndsOr, IsWritten, write_faults, IsMemoryText, Makes, Answered}
+use Rattle.af_http.specs.Reads.{Awaited, Reads, read_faults}
 use Rattle.af_http.specs.Connections.{Connects}
-use Rattle.af_http.specs.Sending.{Place, all_put, Broke, Went, Puts, Writes}
+use Rattle.af_http.specs.Sending.{Place, all_put, Broke, Went, Puts}
 use Rattle.af_http.specs.Turns.{or_fault, Stops, Stopped, Exchanges, Turned, WentAll, Ran}
 use Rattle.af_http.proofs.StreamLemmas.{took_none, took_more}
 use Rattle.af_http.proofs.SendLemmas.{grew_none, grew_also}

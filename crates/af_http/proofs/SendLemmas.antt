@@ -1,9 +1,9 @@
 -- Texts that are put, one after another.
 use Rattle.std.proofs.Common.{◌≡◌, ◌≤◌, ◌<◌, ◌+◌, ℕ, Bool, true, false, List, [], ◌++◌, length, Option, Some, None, refl, sym, ap, ◌∙◌, subst, arith}
-use Rattle.std.specs.Io.KnownBytes.{Appends, prepend_known, Consumes}
+use Rattle.std.specs.Io.KnownBytes.{Appends}
 use Rattle.std.proofs.lemmas.List.{append-nil, append_assoc, length-append}
-use Rattle.af_http.specs.Streams.{Given, Taken, Waiting, Grew, Took, StaysKnown, IsWhole}
-use Rattle.af_http.specs.Sending.{Place, all_put, Broke, Went, Puts, Writes}
+use Rattle.af_http.specs.Streams.{Taken, Waiting, Grew}
+use Rattle.af_http.specs.Sending.{Place, all_put, Broke, Went, Puts}
 
 -- a writer that took nothing
 appends_none : (x : Option (List ℕ)) → Appends x x []

@@ -13,7 +13,7 @@ use Rattle.af_http.specs.Extents.{open_front, IsExtent}
 use Rattle.af_http.specs.Gathering.{Fills, Holds, IsGathered, ends_of, failures_of, body_ends, body_failures}
 use Rattle.af_http.specs.Requests.{Asked, asked_by, body_length, is_head}
 use Rattle.af_http.specs.Replies.{reply_text, wants_memory}
-use Rattle.af_http.specs.Reading.{Begins, Cut, Parses, IsUnread, IsRefused, IsEmpty, IsOpen, closes_after, at_end, refusal_text, status_of}
+use Rattle.af_http.specs.Reading.{Begins, Cut, Parses, IsUnread, IsRefused, IsOpen, closes_after, refusal_text, status_of}
 use Rattle.af_http.specs.Run.{exchange_text, end_by, end_after}
 use Rattle.af_http.specs.Reads.{Awaits, read_faults}
 use Rattle.af_http.specs.Sending.{Place, all_put, Went, Puts}

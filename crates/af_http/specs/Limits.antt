@@ -1,5 +1,5 @@
 -- The limits of a connection (this product's own rules).
-use Rattle.std.specs.Prelude.{ℕ, ◌+◌}
+use Rattle.std.specs.Prelude.{ℕ}
 
 -- The most bytes that may stand without an empty line (the refusal is RFC 6585, section 5). So a head is too large where
 -- its first 16,385 bytes hold no whole empty line, whatever follows.

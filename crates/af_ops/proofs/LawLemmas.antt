@@ -13,12 +13,10 @@ use Rattle.af_sched.specs.declared.dag_row.DagRow.{DagRow}
 use Rattle.af_ops.specs.declared.answer.OpFault.{OpFault}
 use Rattle.af_ops.specs.declared.answer.OpFault.TheVariants.{NoSuchDag, NoSuchRun}
 use Rattle.af_ops.specs.declared.body_fault.BodyFault.{BodyFault}
-use Rattle.af_ops.specs.declared.op.Op.{Op}
 use Rattle.af_ops.specs.declared.op.Op.TheVariants as op
 use Rattle.af_ops.specs.declared.trigger.Trigger.{Trigger}
 use Rattle.af_ops.specs.Edits.{with_run}
-use Rattle.af_ops.specs.Effects.{Effect, added_run, differs, effect_of, free_id, id_or, input_or, kept, listed_runs, new_run, paused_dag, pausing, runs_data, triggered_run}
-use Rattle.af_ops.specs.Endpoints.{dag_of}
+use Rattle.af_ops.specs.Effects.{Effect, added_run, differs, free_id, id_or, input_or, kept, listed_runs, new_run, paused_dag, pausing, runs_data, triggered_run}
 use Rattle.af_ops.specs.Laws.{ListingsGoById, ReadingsLeaveTheState, ChangesLeaveAnotherState, ChangesStayAtTheirDag, LeavesOthers}
 use Rattle.af_ops.specs.Listings.{read_rows}
 use Rattle.af_ops.specs.Replies.{dag_data, run_data}

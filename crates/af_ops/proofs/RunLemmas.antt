@@ -1,6 +1,6 @@
 -- Listings of runs, and runs that are added.
 use Rattle.std.proofs.Common.{◌≡◌, ◌≤◌, ◌<◌, ◌∙◌, ℕ, zero, suc, Bool, true, false, cond, List, [], ◌∷◌, length, get_or, refl, sym, ap, subst, arith}
-use Rattle.std.specs.Prelude.{Contains, Some, filter, map, option_map}
+use Rattle.std.specs.Prelude.{Contains, Some, filter, option_map}
 use Rattle.std.proofs.lemmas.List.{length-map}
 use Rattle.std.proofs.lemmas.List.Elements.{All-contains, All-contains_itself, All-filter, All-map, filter_passes}
 use Rattle.af_graph.specs.declared.task_state.TaskState.TheVariants.{NoStatus}
@@ -12,7 +12,7 @@ use Rattle.af_sched.specs.State.{StateRows}
 use Rattle.af_sched.specs.declared.dag_row.DagRow.{DagRow}
 use Rattle.af_ops.specs.declared.op.Op.TheVariants as op
 use Rattle.af_ops.specs.Edits.{with_run}
-use Rattle.af_ops.specs.Effects.{Effect, new_run}
+use Rattle.af_ops.specs.Effects.{new_run}
 use Rattle.af_ops.specs.Laws.{RunNumbersRise, RunsListedAreThoseRead, TriggersAddARun}
 use Rattle.af_ops.proofs.LawLemmas.{pauses, readings_keep, some_same, triggers, unchanged}
 

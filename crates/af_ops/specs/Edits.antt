@@ -1,5 +1,5 @@
 -- The kinds of change that operations make to a state.
-use Rattle.std.specs.Prelude.{◌+◌, List, [], ◌∷◌, ◌++◌, Bool, true, false, unwrap_or, Option, Some, None}
+use Rattle.std.specs.Prelude.{◌+◌, [], ◌∷◌, ◌++◌, Bool, true, false, unwrap_or, Option, Some, None}
 use Rattle.af_runs.specs.Runs.{queued_run}
 use Rattle.af_runs.specs.declared.new_run.NewRun.{NewRun}
 use Rattle.af_sched.specs.State.{StateRows, with_paused}

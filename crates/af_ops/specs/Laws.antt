@@ -1,5 +1,5 @@
 -- Laws about operations, in words of their own.
-use Rattle.std.specs.Prelude.{◌≡◌, ◌≢◌, ◌↔◌, ◌<◌, ◌≤◌, ◌+◌, ◌||◌, ℕ, List, [], ◌∷◌, ◌++◌, Bool, true, false, not, nat_eq, filter, length, map, All, Contains, Some, None, option_map, Result, Ok, ⊤, codes, if◌then◌else◌}
+use Rattle.std.specs.Prelude.{◌≡◌, ◌≢◌, ◌↔◌, ◌<◌, ◌≤◌, ◌+◌, ◌||◌, ℕ, List, [], ◌∷◌, ◌++◌, Bool, true, false, not, nat_eq, filter, length, All, Contains, Some, None, option_map, Result, Ok, ⊤, codes, if◌then◌else◌}
 use Rattle.std.specs.Cmp.Lexicographic.{pointwise}
 use Rattle.af_graph.specs.declared.task_state.TaskState.TheVariants.{NoStatus}
 use Rattle.af_runs.specs.Runs.{AreRuns, is_of}

@@ -1,6 +1,6 @@
 -- A small policy and a small state, for worked values: a viewer, a user who may read one DAG, one who may read its runs too, one who
 -- may edit all, one without permissions, and three DAGs of one task, the first of them paused.
-use Rattle.std.specs.Prelude.{ℕ, pos, List, [], ◌∷◌, ◌++◌, Bool, true, false, Option, Some, None, Result, Ok, codes}
+use Rattle.std.specs.Prelude.{ℕ, pos, List, [], ◌∷◌, ◌++◌, Bool, true, false, Option, Some, None, codes}
 use Rattle.af_role.specs.declared.action.Action.TheVariants.{Read}
 use Rattle.af_role.specs.declared.resource.ResourceKind.TheVariants.{DagRuns}
 use Rattle.af_role.specs.Pairs.{on_dag, on_kind}

@@ -1,5 +1,5 @@
 -- The runs that an iterator has still to give.
-use Rattle.std.proofs.Common.{◌≡◌, refl, sym, ◌∙◌, ap, subst, ℕ, zero, suc, ◌<◌, ◌≤◌, ◌+◌, List, [], ◌∷◌, ◌++◌, map, length, take, drop, Bool, arith, add-one, Bor}
+use Rattle.std.proofs.Common.{◌≡◌, refl, sym, ◌∙◌, ap, ℕ, zero, suc, ◌<◌, ◌+◌, List, [], ◌∷◌, ◌++◌, map, length, take, drop, Bool, arith, add-one, Bor}
 use Rattle.std.specs.Prelude.{Option, Some, None, filter, option_copied, slice_get}
 use Rattle.std.specs.Iterator.{YieldsFirstRef}
 use Rattle.std.specs.List.Sorted.{IsStrictlySortedBy}

@@ -1,4 +1,4 @@
-use Rattle.std.proofs.Common.{◌≡◌, ◌-◌, ◌<◌, ◌≤◌, List, ℕ, length}
+use Rattle.std.proofs.Common.{◌-◌, ◌<◌, List, ℕ, length}
 use Rattle.af_http.specs.Gathering.{Fills}
 use Rattle.af_http.specs.Streams.{Took}
 use Rattle.af_http.proofs.gathering.gather_body.Given as goal

@@ -1,4 +1,4 @@
-use Rattle.std.proofs.Common.{◌∙◌, inl, inr, refl, [], sym, ap, subst, List, ℕ, length, take, arith}
+use Rattle.std.proofs.Common.{◌∙◌, inl, inr, refl, [], ap, subst, List, ℕ, length, take, arith}
 use Rattle.af_http.specs.Requests.{Asked, asked_by, is_head}
 use Rattle.af_http.specs.Reading.{Parses, IsUnread}
 use Rattle.af_http.proofs.LengthLemmas.{unread_early}

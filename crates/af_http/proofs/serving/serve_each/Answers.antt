@@ -1,4 +1,4 @@
-use Rattle.std.proofs.Common.{◌∙◌, refl, arith}
+use Rattle.std.proofs.Common.{arith}
 use Rattle.af_http.proofs.RunLemmas.{begun_none, begun_more, begun_ends, goes_few}
 use Rattle.af_http.proofs.serving.serve_each.Goals as goal
 

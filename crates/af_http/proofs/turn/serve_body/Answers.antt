@@ -1,4 +1,4 @@
-use Rattle.std.proofs.Common.{◌∙◌, inr, refl, sym, [], true, false, arith}
+use Rattle.std.proofs.Common.{◌∙◌, inr, refl, sym, [], true, false}
 use Rattle.af_http.specs.Reading.{refusal_text, status_of}
 use Rattle.af_http.specs.declared.ended.Ended.TheVariants as end
 use Rattle.af_http.specs.declared.gathering.BodyGathered.TheVariants as body

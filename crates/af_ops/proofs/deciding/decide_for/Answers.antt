@@ -4,7 +4,7 @@ use Rattle.af_role.specs.declared.need.Need.{Need}
 use Rattle.af_policy.specs.Grants.{first_unmet}
 use Rattle.af_policy.specs.Views.{held}
 use Rattle.af_ops.specs.Decisions.{IsDecided}
-use Rattle.af_ops.specs.Endpoints.{dag_of, endpoint_of}
+use Rattle.af_ops.specs.Endpoints.{dag_of}
 use Rattle.af_ops.specs.Required.{needs_for}
 use Rattle.af_ops.specs.Verdicts.{dag_ids, permitted}
 use Rattle.af_ops.proofs.deciding.decide_for.Goals as goal

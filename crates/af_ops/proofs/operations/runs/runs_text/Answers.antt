@@ -1,5 +1,4 @@
 use Rattle.std.proofs.Common.{◌∙◌, codes, map, refl}
-use Rattle.af_runs.specs.declared.run.Run.{Run}
 use Rattle.af_ops.specs.Rows.{run_fields}
 use Rattle.af_ops.proofs.PageLemmas.{listing_now}
 use Rattle.af_ops.proofs.operations.runs.runs_text.Goals as goal

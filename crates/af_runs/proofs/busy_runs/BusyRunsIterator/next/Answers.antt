@@ -1,5 +1,4 @@
-use Rattle.std.proofs.Common.{◌<◌, ◌∙◌, ap, arith, length, subst, sym, List, ◌+◌, drop}
-use Rattle.std.specs.Iterator.{YieldsFirstRef}
+use Rattle.std.proofs.Common.{◌<◌, arith, length, List}
 use Rattle.af_runs.specs.Busy.{busy_of}
 use Rattle.af_runs.specs.declared.run.Run.{Run}
 use Rattle.af_runs.proofs.YieldLemmas.{yields_at}

@@ -1,5 +1,4 @@
 use Rattle.std.proofs.Common.{◌≡◌, ◌<◌, ◌+◌, ◌∙◌, ap, arith, drop, length, refl, rules, sym, List, ◌∷◌}
-use Rattle.std.specs.Prelude.{Some, slice_get}
 use Rattle.af_runs.specs.Runs.{runs_of}
 use Rattle.af_runs.specs.declared.run.Run.{Run}
 use Rattle.af_runs.proofs.YieldLemmas.{get-drop, next_at, none_left, within_some}
