@@ -11,6 +11,7 @@ use Rattle.std.proofs.lemmas.Option.{none-some, same_Some}
 use Rattle.af_graph.specs.Rows.{places, row_at, is_among, arranged, turned, IsWithin}
 use Rattle.af_graph.specs.Graph.{same_name, place_of, named_rows, upstream_rows, downstream_rows}
 use Rattle.af_graph.specs.Order.{is_free, taken_in}
+use Rattle.af_graph.specs.Limits.{most_tasks}
 use Rattle.af_graph.specs.Definition.{id_at, at_place, is_repeated, names_nobody, is_never_taken, has_bad_slots, first_of, no_task, too_many, duplicate, unknown_upstream, cycle, bad_slots, fault_of}
 use Rattle.af_graph.specs.Steps.{told, IsPlaced, IsPair}
 use Rattle.af_graph.specs.declared.task_spec.TaskSpec.{TaskSpec}
@@ -110,17 +111,17 @@ module _ (tasks : List TaskSpec) where
   pub some_task : eqb (length tasks) 0 ≡ false → no_task tasks ≡ None
   some_task e = cond-false (eqb (length tasks) 0) (Some fault.NoTask) None e
 
-  pub few_tasks : length tasks ≤ 512 → too_many tasks ≡ None
-  few_tasks e = cond-false (ltb 512 (length tasks)) (Some fault.TooMany) None (le-ltb 512 (length tasks) e)
+  pub few_tasks : length tasks ≤ most_tasks → too_many tasks ≡ None
+  few_tasks e = cond-false (ltb most_tasks (length tasks)) (Some fault.TooMany) None (le-ltb most_tasks (length tasks) e)
 
   pub tell_no_task : eqb (length tasks) 0 ≡ true → fault_of tasks ≡ Some fault.NoTask
   tell_no_task e =
       tell (no_task tasks) (too_many tasks ∷ duplicate tasks ∷ unknown_upstream tasks ∷ cycle tasks ∷ bad_slots tasks ∷ []) fault.NoTask (cond-true (eqb (length tasks) 0) (Some fault.NoTask) None e)
 
-  pub tell_too_many : no_task tasks ≡ None → 512 < length tasks → fault_of tasks ≡ Some fault.TooMany
+  pub tell_too_many : no_task tasks ≡ None → most_tasks < length tasks → fault_of tasks ≡ Some fault.TooMany
   tell_too_many first many =
       skip (no_task tasks) (too_many tasks ∷ duplicate tasks ∷ unknown_upstream tasks ∷ cycle tasks ∷ bad_slots tasks ∷ []) first
-      ∙ tell (too_many tasks) (duplicate tasks ∷ unknown_upstream tasks ∷ cycle tasks ∷ bad_slots tasks ∷ []) fault.TooMany (cond-true (ltb 512 (length tasks)) (Some fault.TooMany) None (lt-ltb 512 (length tasks) many))
+      ∙ tell (too_many tasks) (duplicate tasks ∷ unknown_upstream tasks ∷ cycle tasks ∷ bad_slots tasks ∷ []) fault.TooMany (cond-true (ltb most_tasks (length tasks)) (Some fault.TooMany) None (lt-ltb most_tasks (length tasks) many))
 
   from_third : no_task tasks ≡ None → too_many tasks ≡ None → fault_of tasks ≡ first_of (duplicate tasks ∷ unknown_upstream tasks ∷ cycle tasks ∷ bad_slots tasks ∷ [])
   from_third first second =

@@ -5,6 +5,7 @@ use Rattle.std.specs.Option.{option_map, option_map_or}
 use Rattle.af_graph.specs.Rows.{places, is_among}
 use Rattle.af_graph.specs.Graph.{place_of, upstream_rows}
 use Rattle.af_graph.specs.Order.{order_of}
+use Rattle.af_graph.specs.Limits.{most_tasks, most_slots}
 use Rattle.af_graph.specs.declared.task_spec.TaskSpec.{TaskSpec}
 use Rattle.af_graph.specs.declared.dag_spec.DagSpec.{DagSpec}
 use Rattle.af_graph.specs.declared.dag_fault.DagFault.{DagFault}
@@ -34,9 +35,9 @@ names_nobody tasks task = list_any (is_nobody tasks) task.upstream
 abbrev pub is_never_taken : List TaskSpec → ℕ → Bool
 is_never_taken tasks place = not (is_among (order_of (upstream_rows tasks)) place)
 
--- the slots of a task are outside 1 to 1,000,000
+-- the slots of a task are outside 1 to the most
 abbrev pub has_bad_slots : TaskSpec → Bool
-has_bad_slots task = not (nat_le 1 task.pool_slots && nat_le task.pool_slots 1_000_000)
+has_bad_slots task = not (nat_le 1 task.pool_slots && nat_le task.pool_slots most_slots)
 
 -- the first task in the order of the definition at whose place the test holds is told
 abbrev pub first_task : List TaskSpec → (ℕ → Bool) → (List ℕ → DagFault) → Option DagFault
@@ -52,9 +53,9 @@ first_of (Some fault ∷ others) = Some fault
 abbrev pub no_task : List TaskSpec → Option DagFault
 no_task tasks = if length tasks == 0 then Some NoTask else None
 
--- there are more than 512 tasks
+-- there are more tasks than may be
 abbrev pub too_many : List TaskSpec → Option DagFault
-too_many tasks = if nat_lt 512 (length tasks) then Some TooMany else None
+too_many tasks = if nat_lt most_tasks (length tasks) then Some TooMany else None
 
 abbrev pub duplicate : List TaskSpec → Option DagFault
 duplicate tasks = first_task tasks (is_repeated tasks) Duplicate

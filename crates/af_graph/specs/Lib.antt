@@ -1,6 +1,7 @@
 pub mod Definition
 pub mod Graph
 pub mod Laws
+pub mod Limits
 pub mod Order
 pub mod Rows
 pub mod Schedules

@@ -4,6 +4,7 @@ ghost use Rattle.std.specs.Prelude.{◌≡◌, ◌<◌, ◌≤◌, ◌+◌, take
 ghost use Rattle.std.specs.List.{find, list_all, position};
 ghost use Rattle.af_graph.specs.Rows.{places, is_among};
 ghost use Rattle.af_graph.specs.Graph.{place_of, upstream_rows};
+ghost use Rattle.af_graph.specs.Limits.{most_tasks};
 ghost use Rattle.af_graph.specs.Order.{is_free, one_more};
 ghost use Rattle.af_graph.specs.Definition.{at_place, fault_of, is_never_taken, is_repeated, names_nobody};
 ghost use Rattle.af_graph.specs.Steps.{is_done, told, IsPlaced};
@@ -134,7 +135,7 @@ fn next_free(tasks: &[TaskSpec], taken: &[u16]) -> Option<usize>
 
 /// Takes one place more behind the first so many, the next that may be taken, if there is one. Answers how many are taken.
 fn take_next(tasks: &[TaskSpec], taken: &mut [u16], count: usize) -> usize
-    requires few { length tasks.now ≤ 512 }
+    requires few { length tasks.now ≤ most_tasks }
     requires room { count < length taken.old }
     ensures order { take result taken.new ≡ one_more (upstream_rows tasks.now) (take count taken.old) }
     ensures more { result ≤ count + 1 }
@@ -163,7 +164,7 @@ fn first_left(tasks: &[TaskSpec], taken: &[u16]) -> Option<usize>
 
 /// The place of the first task that stands on a cycle or below one.
 fn first_never_taken(tasks: &[TaskSpec]) -> Option<usize>
-    requires { length tasks.now ≤ 512 }
+    requires { length tasks.now ≤ most_tasks }
     ensures { result ≡ find (is_never_taken tasks.now) (places tasks.now) }
 {
     let mut taken = [0; MOST_TASKS];

@@ -14,7 +14,7 @@ use std::alloc::{AllocError, Global};
 /// The most tasks that a DAG has.
 pub const MOST_TASKS: usize = 512;
 
-/// The most pool slots that an instance of a task occupies.
+/// The most slots that a pool has, and that an instance of a task occupies.
 pub const MOST_SLOTS: u64 = 1_000_000;
 
 /// The graph of a definition's tasks, worked out.

@@ -12,30 +12,31 @@ use Rattle.af_base.specs.Ordered.{has_key}
 use Rattle.af_base.specs.Places.{StandsAt, FitsAt}
 use Rattle.af_base.proofs.OrderedLemmas.{order-insert, order-set, order-without, with_row-is_insert, with_change-is_set}
 use Rattle.af_names.proofs.OrderLemmas.{list_any-inserted, All-inserted, list_any-map, length-filter_le}
+use Rattle.af_graph.specs.Limits.{most_slots}
 use Rattle.af_pool.specs.declared.pool.Pool.{Pool}
-use Rattle.af_pool.specs.Pools.{ArePools, name_of, with_pool, with_slots, without_pool, default_name}
+use Rattle.af_pool.specs.Pools.{ArePools, name_of, with_pool, with_slots, without_pool, default_name, most_pools}
 
 -- the one pool that is there at first
-pub default_alone : (slots : ℕ) → slots ≤ 1_000_000 → ArePools (record { name = default_name; slots = slots } ∷ [])
+pub default_alone : (slots : ℕ) → slots ≤ most_slots → ArePools (record { name = default_name; slots = slots } ∷ [])
 unfolding IsStrictlySortedBy
 default_alone slots bounded = record {
   in_order = (tt, tt);
   few = omega arith;
-  bounded = All-cons (λ (pool : Pool). pool.slots ≤ 1_000_000) record { name = default_name; slots = slots } [] bounded (All-nil (λ (pool : Pool). pool.slots ≤ 1_000_000));
+  bounded = All-cons (λ (pool : Pool). pool.slots ≤ most_slots) record { name = default_name; slots = slots } [] bounded (All-nil (λ (pool : Pool). pool.slots ≤ most_slots));
   has_default = refl;
 }
 
 -- one more pool, where its row fits
-pub ArePools-with : (pools : List Pool) (pool : Pool) (place : ℕ) → FitsAt name_of pools pool.name place → ArePools pools → pool.slots ≤ 1_000_000 → length pools < 65_536 → ArePools (with_pool pools pool)
+pub ArePools-with : (pools : List Pool) (pool : Pool) (place : ℕ) → FitsAt name_of pools pool.name place → ArePools pools → pool.slots ≤ most_slots → length pools < most_pools → ArePools (with_pool pools pool)
 ArePools-with pools pool place fits are bounded few = rw (with_row-is_insert name_of pools pool place fits) record {
   in_order = order-insert name_of pools pool place fits are.in_order;
   few = rw (length-insert pools place pool fits.within) (omega arith);
-  bounded = All-inserted (λ (other : Pool). other.slots ≤ 1_000_000) pools pool place are.bounded bounded;
+  bounded = All-inserted (λ (other : Pool). other.slots ≤ most_slots) pools pool place are.bounded bounded;
   has_default = list_any-inserted (has_key name_of default_name) pools pool place are.has_default;
 }
 
 -- the row that stands at a place has other slots
-pub ArePools-with_slots : (pools : List Pool) (name : List ℕ) (place slots : ℕ) → StandsAt name_of pools name place → ArePools pools → slots ≤ 1_000_000 → ArePools (with_slots pools name slots)
+pub ArePools-with_slots : (pools : List Pool) (name : List ℕ) (place slots : ℕ) → StandsAt name_of pools name place → ArePools pools → slots ≤ most_slots → ArePools (with_slots pools name slots)
 ArePools-with_slots pools name place slots stands are bounded =
     let d : Pool = record { name = []; slots = 0 } in
     let row : Pool = record (get_or pools place d) { slots = slots } in
@@ -43,7 +44,7 @@ ArePools-with_slots pools name place slots stands are bounded =
     rw (with_change-is_set name_of pools name place stands (λ (pool : Pool). record pool { slots = slots }) d) record {
       in_order = order-set name_of pools place row d refl are.in_order;
       few = rw (length-set pools place row) are.few;
-      bounded = All-set (λ (other : Pool). other.slots ≤ 1_000_000) pools place row bounded are.bounded;
+      bounded = All-set (λ (other : Pool). other.slots ≤ most_slots) pools place row bounded are.bounded;
       has_default =
           sym (list_any-map name_of (λ (n : List ℕ). pointwise nat_eq n default_name) (set pools place row))
           ∙ ap (list_any (λ (n : List ℕ). pointwise nat_eq n default_name)) names
@@ -56,7 +57,7 @@ pub ArePools-without : (pools : List Pool) (name : List ℕ) → ArePools pools 
 ArePools-without pools name are other = record {
   in_order = order-without name_of pools name are.in_order;
   few = let le = length-filter_le (λ (pool : Pool). not (has_key name_of name pool)) pools in omega (arith, are.few, le);
-  bounded = All-filter (λ (pool : Pool). not (has_key name_of name pool)) (λ (pool : Pool). pool.slots ≤ 1_000_000) pools are.bounded;
+  bounded = All-filter (λ (pool : Pool). not (has_key name_of name pool)) (λ (pool : Pool). pool.slots ≤ most_slots) pools are.bounded;
   has_default =
       any-filter_same (has_key name_of default_name) (λ pool. not (has_key name_of name pool)) true
       (λ pool is. ap not (nat_list_eq_equiv.congr pool.name default_name name is ∙ nat_list_eq_equiv.symm default_name name ∙ other)) pools

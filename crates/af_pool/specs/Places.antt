@@ -2,21 +2,22 @@
 use Rattle.std.specs.Prelude.{ℕ, ◌≡◌, ◌<◌, ◌≤◌, None, List, false, length}
 use Rattle.af_pool.specs.declared.pool.Pool.{Pool}
 use Rattle.af_graph.specs.Graph.{same_name}
+use Rattle.af_graph.specs.Limits.{most_slots}
 use Rattle.af_graph.specs.declared.dag_spec.DagSpec.{DagSpec}
 use Rattle.af_base.specs.Places.{StandsAt, FitsAt}
-use Rattle.af_pool.specs.Pools.{name_of, add_fault, set_fault, remove_fault, default_name}
+use Rattle.af_pool.specs.Pools.{name_of, add_fault, set_fault, remove_fault, default_name, most_pools}
 
 -- a pool of this name with these slots may be added, and its row goes to this place
 pub record CanAdd (pools : List Pool) (name : List ℕ) (slots place : ℕ) : Type 0 where
   pub no_fault : add_fault pools name slots ≡ None
-  pub bounded : slots ≤ 1_000_000
-  pub few : length pools < 65_536
+  pub bounded : slots ≤ most_slots
+  pub few : length pools < most_pools
   pub fits : FitsAt name_of pools name place
 
 -- the pool of this name, whose row stands at this place, may get these slots
 pub record CanSet (pools : List Pool) (name : List ℕ) (slots place : ℕ) : Type 0 where
   pub no_fault : set_fault pools name slots ≡ None
-  pub bounded : slots ≤ 1_000_000
+  pub bounded : slots ≤ most_slots
   pub stands : StandsAt name_of pools name place
 
 -- the pool of this name, whose row stands at this place, may be removed

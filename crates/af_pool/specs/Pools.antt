@@ -4,6 +4,7 @@ use Rattle.std.specs.List.{list_any}
 pub use Rattle.af_base.specs.Ordered.{comes_before}
 use Rattle.af_base.specs.Ordered.{Kept, AreInOrder, is_there, row_of, with_row, with_change, without_row}
 use Rattle.af_graph.specs.Graph.{same_name}
+use Rattle.af_graph.specs.Limits.{most_slots}
 use Rattle.af_graph.specs.declared.dag_spec.DagSpec.{DagSpec}
 use Rattle.af_graph.specs.declared.task_state.TaskState.{TaskState}
 use Rattle.af_pool.specs.declared.pool.Pool.{Pool}
@@ -18,6 +19,10 @@ PoolRows = Kept Pool
 -- the name of the pool that is always there
 abbrev pub default_name : List ℕ
 default_name = codes "default_pool"
+
+-- the most pools that there are
+abbrev pub most_pools : ℕ
+most_pools = 65_536
 
 -- the key by which the rows are in order
 abbrev pub name_of : Pool → List ℕ
@@ -62,14 +67,14 @@ IsOkOrOutOfMemory result = IfErr result (λ fault. fault ≡ OutOfMemory)
 -- why a pool is not added, memory aside: the first of these faults
 abbrev pub add_fault : List Pool → List ℕ → ℕ → Option PoolFault
 add_fault pools name slots =
-    if nat_lt 1_000_000 slots then Some BadSlots
+    if nat_lt most_slots slots then Some BadSlots
     else (if has_pool pools name then Some Exists
-    else (if nat_le 65_536 (length pools) then Some Full else None))
+    else (if nat_le most_pools (length pools) then Some Full else None))
 
 -- why a pool does not get other slots: the first of these faults
 abbrev pub set_fault : List Pool → List ℕ → ℕ → Option PoolFault
 set_fault pools name slots =
-    if nat_lt 1_000_000 slots then Some BadSlots
+    if nat_lt most_slots slots then Some BadSlots
     else (if not (has_pool pools name) then Some NoSuchPool else None)
 
 -- why a pool is not removed: the first of these faults
@@ -95,7 +100,7 @@ open_slots pools name occupants = slots_of pools name - occupied_slots pools nam
 pub record ArePools (pools : List Pool) : Type 0 where
   -- they are in byte order of their names, and no two have one name
   pub in_order : AreInOrder name_of pools
-  pub few : length pools ≤ 65_536
-  pub bounded : All (λ pool. pool.slots ≤ 1_000_000) pools
+  pub few : length pools ≤ most_pools
+  pub bounded : All (λ pool. pool.slots ≤ most_slots) pools
   -- the default pool is there
   pub has_default : has_pool pools default_name ≡ true

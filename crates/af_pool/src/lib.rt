@@ -10,4 +10,4 @@ mod pools;
 pub use fault::PoolFault;
 pub use occupant::Occupant;
 pub use pool::Pool;
-pub use pools::Pools;
+pub use pools::{DEFAULT_POOL, MOST_POOLS, Pools};

@@ -7,22 +7,19 @@ use crate::fault::PoolFault;
 use crate::occupant::{Occupant, slots_in, slots_taken};
 use crate::pool::{Pool, SetSlots};
 use af_base::Ordered;
-use af_graph::{Dag, TaskState};
+use af_graph::{Dag, MOST_SLOTS, TaskState};
 use af_names::PoolName;
 use std::alloc::{AllocError, Global};
 use std::marker::Model;
 
 /// The name of the pool that is always there.
-const DEFAULT_POOL: &str = "default_pool";
+pub const DEFAULT_POOL: &str = "default_pool";
 
 /// The slots that the default pool has at first.
 const DEFAULT_SLOTS: u32 = 128;
 
-/// The most slots that a pool has.
-const MOST_SLOTS: u64 = 1_000_000;
-
 /// The most pools that there are.
-const MOST_POOLS: usize = 65_536;
+pub const MOST_POOLS: usize = 65_536;
 
 /// The pools, by name in byte order. Contracts see them as that list of rows, beside the number of rows for which
 /// memory is reserved.
