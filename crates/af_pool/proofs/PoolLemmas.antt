@@ -1,10 +1,11 @@
 -- The rows of the pools stay few, bounded and with the default pool.
-use Rattle.std.proofs.Common.{◌≡◌, refl, sym, ◌∙◌, ap, ℕ, ◌<◌, ◌≤◌, List, [], ◌∷◌, map, length, get_or, set, true, false, not, nat_eq, arith}
-use Rattle.std.specs.List.{list_any}
-use Rattle.std.specs.Cmp.Lexicographic.{pointwise, nat_list_eq_equiv}
+use Rattle.std.proofs.Common.{◌≡◌, refl, sym, ◌∙◌, ap, ℕ, ◌<◌, ◌≤◌, List, [], ◌∷◌, map, length, get_or, set, Bool, true, false, not, nat_eq, subst, inl, inr, ◌⊎◌, arith}
+use Rattle.std.specs.List.{Any, Contains, list_any}
+use Rattle.std.specs.Cmp.Lexicographic.{pointwise, nat_list_eq_equiv, same_text}
 use Rattle.std.specs.List.Sorted.{IsStrictlySortedBy}
 use Rattle.std.proofs.lemmas.List.Elements.{All-set, All-filter, All-cons, All-nil}
 use Rattle.std.proofs.lemmas.List.Edits.{length-insert}
+use Rattle.std.proofs.lemmas.List.Folds.{list_any-from_Any}
 use Rattle.std.proofs.lemmas.Map.Views.{any-filter_same}
 use Rattle.std.proofs.Math.Seq.{map-set_same}
 use Rattle.std.proofs.Math.ListN.{length-set}
@@ -14,7 +15,7 @@ use Rattle.af_base.proofs.OrderedLemmas.{order-insert, order-set, order-without,
 use Rattle.af_names.proofs.OrderLemmas.{list_any-inserted, All-inserted, list_any-map, length-filter_le}
 use Rattle.af_graph.specs.Limits.{most_slots}
 use Rattle.af_pool.specs.declared.pool.Pool.{Pool}
-use Rattle.af_pool.specs.Pools.{ArePools, name_of, with_pool, with_slots, without_pool, default_name, most_pools}
+use Rattle.af_pool.specs.Pools.{ArePools, name_of, with_pool, with_slots, without_pool, default_name, most_pools, is_named, is_in_use, NeededStay}
 
 -- the one pool that is there at first
 pub default_alone : (slots : ℕ) → slots ≤ most_slots → ArePools (record { name = default_name; slots = slots } ∷ [])
@@ -63,3 +64,31 @@ ArePools-without pools name are other = record {
       (λ pool is. ap not (nat_list_eq_equiv.congr pool.name default_name name is ∙ nat_list_eq_equiv.symm default_name name ∙ other)) pools
       ∙ are.has_default;
 }
+
+-- a text that is among the names is named
+named : (names : List (List ℕ)) (name : List ℕ) → Contains names name → is_named names name ≡ true
+named names name among =
+    list_any-from_Any (λ (pool : List ℕ). pointwise nat_eq pool name) names (among.0, name, among.1, among.2, nat_list_eq_equiv.refl name)
+
+-- what passes where another test, which fails, would
+fails_too : (passes other : Bool) → (passes ≡ true → other ≡ true) → other ≡ false → passes ≡ false
+fails_too false other follows fails = refl
+fails_too true other follows fails = sym (follows refl) ∙ fails
+
+-- where a pool that isn't needed is taken out, each that is needed stays
+module _ {X : Type 0} (pools_of : X → List (List ℕ)) (rows : List X) where
+  in_use : (name : List ℕ) → Any (λ row. Contains (pools_of row) name) rows → is_in_use pools_of rows name ≡ true
+  in_use name some =
+      list_any-from_Any (λ row. is_named (pools_of row) name) rows (some.0, some.1, some.2, some.3, named (pools_of some.1) name some.4)
+
+  pub needed_stay : (pools : List Pool) (name : List ℕ) → pointwise nat_eq name default_name ≡ false → is_in_use pools_of rows name ≡ false → NeededStay pools_of rows pools (without_pool pools name)
+  needed_stay pools name other free kept needed there =
+      any-filter_same (has_key name_of kept) (λ pool. not (has_key name_of name pool)) true
+      (λ pool is. ap not (nat_list_eq_equiv.congr pool.name kept name is ∙ apart needed)) pools
+      ∙ there
+    where
+      apart : (kept ≡ default_name) ⊎ Any (λ row. Contains (pools_of row) kept) rows → pointwise nat_eq kept name ≡ false
+      apart (inl is) = rw is (nat_list_eq_equiv.symm default_name name ∙ other)
+      apart (inr used) =
+          fails_too (pointwise nat_eq kept name) (is_in_use pools_of rows name)
+          (λ same. subst (λ n. is_in_use pools_of rows n ≡ true) (same_text kept name (sym same)) (in_use kept used)) free

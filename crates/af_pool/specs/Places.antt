@@ -3,9 +3,8 @@ use Rattle.std.specs.Prelude.{ℕ, ◌≡◌, ◌<◌, ◌≤◌, None, List, fa
 use Rattle.af_pool.specs.declared.pool.Pool.{Pool}
 use Rattle.af_graph.specs.Graph.{same_name}
 use Rattle.af_graph.specs.Limits.{most_slots}
-use Rattle.af_graph.specs.declared.dag_spec.DagSpec.{DagSpec}
 use Rattle.af_base.specs.Places.{StandsAt, FitsAt}
-use Rattle.af_pool.specs.Pools.{name_of, add_fault, set_fault, remove_fault, default_name, most_pools}
+use Rattle.af_pool.specs.Pools.{name_of, add_fault, set_fault, remove_fault, is_in_use, default_name, most_pools}
 
 -- a pool of this name with these slots may be added, and its row goes to this place
 pub record CanAdd (pools : List Pool) (name : List ℕ) (slots place : ℕ) : Type 0 where
@@ -21,7 +20,8 @@ pub record CanSet (pools : List Pool) (name : List ℕ) (slots place : ℕ) : Ty
   pub stands : StandsAt name_of pools name place
 
 -- the pool of this name, whose row stands at this place, may be removed
-pub record CanRemove (pools : List Pool) (name : List ℕ) (dags : List DagSpec) (place : ℕ) : Type 0 where
-  pub no_fault : remove_fault pools name dags ≡ None
+pub record CanRemove {X : Type 0} (pools_of : X → List (List ℕ)) (rows : List X) (pools : List Pool) (name : List ℕ) (place : ℕ) : Type 0 where
+  pub no_fault : remove_fault pools_of rows pools name ≡ None
+  pub free : is_in_use pools_of rows name ≡ false
   pub other : same_name name default_name ≡ false
   pub stands : StandsAt name_of pools name place

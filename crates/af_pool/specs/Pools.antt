@@ -1,5 +1,5 @@
 -- Pools: rows by name in byte order (Airflow 2, "Pools"). The limits are this product's own rule.
-use Rattle.std.specs.Prelude.{ℕ, ◌≡◌, ◌-◌, ◌≤◌, List, Bool, true, not, length, unwrap_or, option_map, All, nat_lt, nat_le, codes, Option, Some, None, Result, IfErr, if◌then◌else◌}
+use Rattle.std.specs.Prelude.{ℕ, ◌≡◌, ◌⊎◌, ◌-◌, ◌≤◌, List, map, Any, Contains, Bool, true, not, length, unwrap_or, option_map, All, nat_lt, nat_le, codes, Option, Some, None, Result, IfErr, if◌then◌else◌}
 use Rattle.std.specs.List.{list_any}
 pub use Rattle.af_base.specs.Ordered.{comes_before}
 use Rattle.af_base.specs.Ordered.{Kept, AreInOrder, is_there, row_of, with_row, with_change, without_row}
@@ -52,13 +52,17 @@ with_slots pools name slots = with_change name_of (λ pool. record pool { slots 
 abbrev pub without_pool : List Pool → List ℕ → List Pool
 without_pool pools name = without_row name_of pools name
 
--- whether some task of the DAG names the pool
-abbrev pub names_pool : List ℕ → DagSpec → Bool
-names_pool name dag = list_any (λ task. same_name task.pool name) dag.tasks
+-- the pools that the tasks of a DAG name
+abbrev pub pools_of : DagSpec → List (List ℕ)
+pools_of dag = map (λ task. task.pool) dag.tasks
 
--- whether some task of the DAGs names the pool
-abbrev pub is_in_use : List ℕ → List DagSpec → Bool
-is_in_use name dags = list_any (names_pool name) dags
+-- whether a pool is among those that are named
+abbrev pub is_named : List (List ℕ) → List ℕ → Bool
+is_named pools name = list_any (λ pool. same_name pool name) pools
+
+-- whether one of the rows names the pool
+abbrev pub is_in_use : {X : Type 0} → (X → List (List ℕ)) → List X → List ℕ → Bool
+is_in_use pools_of rows name = list_any (λ row. is_named (pools_of row) name) rows
 
 -- the call succeeded, or a growth of memory was refused
 abbrev pub IsOkOrOutOfMemory : {T : Type 0} → Result T PoolFault → Type 0
@@ -78,11 +82,16 @@ set_fault pools name slots =
     else (if not (has_pool pools name) then Some NoSuchPool else None)
 
 -- why a pool is not removed: the first of these faults
-abbrev pub remove_fault : List Pool → List ℕ → List DagSpec → Option PoolFault
-remove_fault pools name dags =
+abbrev pub remove_fault : {X : Type 0} → (X → List (List ℕ)) → List X → List Pool → List ℕ → Option PoolFault
+remove_fault pools_of rows pools name =
     if not (has_pool pools name) then Some NoSuchPool
     else (if same_name name default_name then Some DefaultPool
-    else (if is_in_use name dags then Some InUse else None))
+    else (if is_in_use pools_of rows name then Some InUse else None))
+
+-- the default pool, and each pool that a row names, is there afterwards if it was before
+abbrev pub NeededStay : {X : Type 0} → (X → List (List ℕ)) → List X → List Pool → List Pool → Type 0
+NeededStay pools_of rows old new =
+    (name : List ℕ) → (name ≡ default_name) ⊎ Any (λ row. Contains (pools_of row) name) rows → has_pool old name ≡ true → has_pool new name ≡ true
 
 -- the slots occupied in the pool of this name; 0 where there is none
 abbrev pub occupied_slots : List Pool → List ℕ → List OccupantRow → ℕ

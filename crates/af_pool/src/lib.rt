@@ -3,11 +3,13 @@
 
 mod fault;
 pub mod laws;
+mod names_pools;
 mod occupant;
 mod pool;
 mod pools;
 
 pub use fault::PoolFault;
+pub use names_pools::NamesPools;
 pub use occupant::Occupant;
 pub use pool::Pool;
 pub use pools::{DEFAULT_POOL, MOST_POOLS, Pools};

@@ -1,13 +1,14 @@
 ghost use Rattle.std.specs.Prelude.{◌≡◌, ◌≢◌, ◌⊎◌, ◌+◌, ◌-◌, ◌^◌, ◌<◌, ◌≤◌, ◌∷◌, [], Err, Some, IfOk, IfErr, IfSome, IsNone, IsOk, OnOk, OnErr, MatchResult, min, option_copied, is_ok, if◌then◌else◌};
 ghost use Rattle.af_pool.specs.Places.{CanAdd, CanSet, CanRemove};
 ghost use Rattle.af_graph.specs.Graph.{same_name};
-ghost use Rattle.af_pool.specs.Pools.{ArePools, names_pool, default_name, has_pool, pool_of, slots_of, is_in_use, with_pool, with_slots, without_pool, add_fault, set_fault, remove_fault, IsOkOrOutOfMemory, occupied_slots, occupied_in, open_slots};
+ghost use Rattle.af_pool.specs.Pools.{ArePools, NeededStay, default_name, has_pool, pool_of, slots_of, is_in_use, with_pool, with_slots, without_pool, add_fault, set_fault, remove_fault, IsOkOrOutOfMemory, occupied_slots, occupied_in, open_slots};
 
 use crate::fault::PoolFault;
+use crate::names_pools::NamesPools;
 use crate::occupant::{Occupant, slots_in, slots_taken};
 use crate::pool::{Pool, SetSlots};
 use af_base::Ordered;
-use af_graph::{Dag, MOST_SLOTS, TaskState};
+use af_graph::{MOST_SLOTS, TaskState};
 use af_names::PoolName;
 use std::alloc::{AllocError, Global};
 use std::marker::Model;
@@ -132,22 +133,24 @@ impl Pools {
     }
 
     /// Why the pool of this name would not be removed: `NoSuchPool` where no pool has the name; `DefaultPool` for the
-    /// default pool; `InUse` where some task of the DAGs names it.
-    pub fn remove_fault(&self, name: &PoolName, dags: &[Dag]) -> Option<PoolFault>
-        ensures { result ≡ remove_fault self.now.rows name.now dags.now }
+    /// default pool; `InUse` where one of the rows names it.
+    pub fn remove_fault<T: NamesPools>(&self, name: &PoolName, rows: &[T]) -> Option<PoolFault>
+        ensures { result ≡ remove_fault T.pools rows.now self.now.rows name.now }
     {
-        self.place_to_remove(name, dags).err()
+        self.place_to_remove(name, rows).err()
     }
 
     /// Removes a pool. Its faults are those of `remove_fault`; a fault leaves the pools as they were.
-    pub fn remove(&mut self, name: &PoolName, dags: &[Dag]) -> Result<(), PoolFault>
-        ensures refused { IfSome (remove_fault self.old.rows name.now dags.now) (λ fault. result ≡ Err fault) }
-        ensures accepted { IsNone (remove_fault self.old.rows name.now dags.now) → IsOk result }
+    pub fn remove<T: NamesPools>(&mut self, name: &PoolName, rows: &[T]) -> Result<(), PoolFault>
+        ensures refused { IfSome (remove_fault T.pools rows.now self.old.rows name.now) (λ fault. result ≡ Err fault) }
+        ensures accepted { IsNone (remove_fault T.pools rows.now self.old.rows name.now) → IsOk result }
         ensures ok { OnOk result (self.new.rows ≡ without_pool self.old.rows name.now) }
         ensures err { OnErr result (self.new ≡ self.old) }
         ensures spare { self.old.spare ≤ self.new.spare }
+        // No pool that is needed goes, whatever is answered.
+        ensures needed { NeededStay T.pools rows.now self.old.rows self.new.rows }
     {
-        let place = self.place_to_remove(name, dags)?;
+        let place = self.place_to_remove(name, rows)?;
         let _pool = self.rows.remove_at(name.as_str(), place);
         Ok(())
     }
@@ -182,14 +185,18 @@ impl Pools {
     }
 
     /// Where the row of a pool that may be removed stands.
-    fn place_to_remove(&self, name: &PoolName, dags: &[Dag]) -> Result<usize, PoolFault>
-        ensures ok { IfOk result (CanRemove self.now.rows name.now dags.now) }
-        ensures err { IfErr result (λ fault. remove_fault self.now.rows name.now dags.now ≡ Some fault) }
+    fn place_to_remove<T: NamesPools>(
+        &self,
+        name: &PoolName,
+        rows: &[T],
+    ) -> Result<usize, PoolFault>
+        ensures ok { IfOk result (CanRemove T.pools rows.now self.now.rows name.now) }
+        ensures err { IfErr result (λ fault. remove_fault T.pools rows.now self.now.rows name.now ≡ Some fault) }
     {
         match self.rows.place(name.as_str()) {
             Err(_) => Err(PoolFault::NoSuchPool),
             Ok(_) if is_default(name) => Err(PoolFault::DefaultPool),
-            Ok(_) if is_in_use(name, dags) => Err(PoolFault::InUse),
+            Ok(_) if is_in_use(name, rows) => Err(PoolFault::InUse),
             Ok(place) => Ok(place),
         }
     }
@@ -267,16 +274,9 @@ fn is_default(name: &PoolName) -> bool
     name.as_str() == DEFAULT_POOL
 }
 
-/// Whether some task of the DAGs names the pool.
-fn is_in_use(name: &PoolName, dags: &[Dag]) -> bool
-    ensures { result ≡ is_in_use name.now dags.now }
+/// Whether one of the rows names the pool.
+fn is_in_use<T: NamesPools>(name: &PoolName, rows: &[T]) -> bool
+    ensures { result ≡ is_in_use T.pools rows.now name.now }
 {
-    dags.iter().any(|dag| names_pool(dag, name))
-}
-
-/// Whether some task of the DAG names the pool.
-fn names_pool(dag: &Dag, name: &PoolName) -> bool
-    ensures { result ≡ names_pool name.now dag.now }
-{
-    dag.tasks().iter().any(|task| task.pool == *name)
+    rows.iter().any(|row| row.names_pool(name))
 }

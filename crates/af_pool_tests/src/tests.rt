@@ -1,6 +1,6 @@
 use af_graph::{Dag, DagSpec, Rule, TaskIds, TaskSpec, TaskSpecs, TaskState};
 use af_names::{DagId, PoolName, TaskId};
-use af_pool::{Occupant, Pool, PoolFault, Pools};
+use af_pool::{NamesPools, Occupant, Pool, PoolFault, Pools};
 use std::alloc::Global;
 use std::process::Abort;
 use std::test::Fail;
@@ -29,7 +29,7 @@ fn taken(
     let answer = match step {
         Add(slots) => pools.add(name, slots),
         Set(slots) => pools.set_slots(&name, slots),
-        Remove => pools.remove(&name, &[]),
+        Remove => pools.remove::<Dag>(&name, &[]),
         RemoveAmongDags => pools.remove(&name, dags),
     };
     match answer {
@@ -226,4 +226,56 @@ fn a_pool_that_a_task_names_stays(rt: HostRuntime) -> Result<(), Fail> {
         &steps,
         &[("default_pool", 128)],
     )
+}
+
+/// A row that names one pool.
+#[derive(Drop)]
+struct OnePool {
+    pool: PoolName,
+}
+
+impl NamesPools for OnePool {
+    ghost use Rattle.std.specs.Prelude.{[], ◌∷◌};
+
+    ghost pools = { λ row. row.pool ∷ [] };
+
+    fn names_pool(&self, name: &PoolName) -> bool {
+        self.pool == *name
+    }
+}
+
+#[test]
+fn rows_of_any_kind_keep_the_pools_that_they_name(rt: HostRuntime) -> Result<(), Fail> {
+    let alloc = rt.alloc();
+    let mut pools = Pools::new(alloc)?;
+    pools.add(PoolName::parse(alloc, "p")?, 2)?;
+    pools.add(PoolName::parse(alloc, "q")?, 2)?;
+    let mut rows = Vec::new(alloc);
+    for pool in ["default_pool", "p"] {
+        let pool = PoolName::parse(alloc, pool)?;
+        rows.push(OnePool { pool })?;
+    }
+    let wanted = [
+        ("absent", Err(PoolFault::NoSuchPool)),
+        ("default_pool", Err(PoolFault::DefaultPool)),
+        ("p", Err(PoolFault::InUse)),
+        ("q", Ok(())),
+        ("q", Err(PoolFault::NoSuchPool)),
+    ];
+    for (name, told) in wanted {
+        let pool = PoolName::parse(alloc, name)?;
+        assert_eq!(rt;
+            pools.remove_fault(&pool, rows.as_slice()),
+            told.err(),
+            "foretold of {name}"
+        );
+        assert_eq!(rt;
+            pools.remove(&pool, rows.as_slice()),
+            told,
+            "told of {name}"
+        );
+    }
+    let left = [("default_pool", 128), ("p", 2)];
+    assert!(rt; has_rows(pools.rows(), &left), "those that are named");
+    Ok(())
 }
