@@ -9,7 +9,8 @@
 A run is refused its first allocation, the next its second, and so on, until a run meets none to refuse. Each is to end in
 one of four ways: as the run with all its memory does, which is as the oracle says; with some of its answers, whole and in
 order, and then the fixed 503, status 1; the same with the fixed 500, where the next answer is that of a change; or with the
-configuration refused for want of memory, status 3, and nothing on standard output. A test is to pass, or to end in the fault for want of memory and in no other. The last line is `N runs as they must be, M not`, and the
+configuration refused for want of memory, status 3, and nothing on standard output. Where each request names a path or a
+method that is not there, the 503 comes at the opening alone. A test is to pass, or to end in the fault for want of memory and in no other. The last line is `N runs as they must be, M not`, and the
 status 0 only where M is 0. It wants a C compiler (`cc`).
 """
 import argparse
@@ -63,6 +64,8 @@ CHANGES = [
 # What has to be done before them.
 BEFORE = {"mark_run": ["trigger_run"], "delete_run": ["trigger_run"], "clear_run": ["mark_run"], "clear_instances": ["mark_run"]}
 BEFORE.update({"delete_pool": ["add_pool"], "set_variable": ["add_variable"], "delete_variable": ["add_variable"], "drop_role": ["add_role"]})
+# Paths and methods that are not there: no memory is wanted to say so.
+NOWHERE = ["GET /nope", "GET /dags/%20", "PUT /dags/%62", "GET /dags/b/dagRuns/%FF", "GET /dags/%7E/dagRuns/r1", "DELETE /dags/b/dagRuns"]
 SETUP = {"trigger_run": ("POST /dags/b/dagRuns", '{"dag_run_id":"r1","logical_date":"2023-12-31T00:00:00Z"}')}
 
 
@@ -89,6 +92,7 @@ def inputs(has):
     for config, requests in INPUTS:
         with open(os.path.join(ROOT, "examples", requests), "rb") as file:
             yield f"{config} {requests}", config, file.read()
+    yield "nowhere", "base.json", b"".join(request(asked) for asked in NOWHERE)
     for name, asked, body, look in CHANGES:
         if name in has:
             change = request(asked, body)
@@ -216,6 +220,8 @@ def refuse_each(program, library, has, name, config, data):
     if whole != oracle.run(words, data, has):
         sys.exit(f"refusals: {name}, with all its memory, is not answered as the oracle says: status {whole[0]}, {whole[1][:600]!r}, {whole[2]!r}")
     fronts, changed = fronts_of(whole[1])
+    if name == "nowhere":
+        fronts = fronts[:1]
     right, wrong, kinds = 0, 0, {}
     for number in range(1, MOST):
         status, out, err, met = run(program, words, data, library, number)

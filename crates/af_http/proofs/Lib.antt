@@ -6,6 +6,7 @@ pub mod StreamLemmas
 pub mod SendLemmas
 pub mod AnswerLemmas
 pub mod RouteLemmas
+pub mod PartLemmas
 pub mod TurnLemmas
 pub mod ReadLemmas
 pub mod RunLemmas

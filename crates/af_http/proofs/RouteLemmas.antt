@@ -1,17 +1,13 @@
 -- A text cut at the first of some bytes; one path of the table at most has a path's form.
-use Rattle.std.proofs.Common.{◌≡◌, ◌≢◌, ◌<◌, ◌==◌, ◌&&◌, ℕ, zero, suc, Bool, true, false, cond, not, List, [], ◌∷◌, length, take, drop, get_or, refl, sym, ap, ◌∙◌, Option, Some, None, arith}
-use Rattle.std.specs.Prelude.{bytes_eq, ◌||◌, IsUtf8, if◌then◌else◌}
+use Rattle.std.proofs.Common.{◌≡◌, ◌≢◌, ◌<◌, ◌==◌, ◌&&◌, ℕ, zero, suc, Bool, true, false, cond, not, List, [], ◌∷◌, length, take, drop, get_or, refl, sym, ap, ◌∙◌, Some, arith}
+use Rattle.std.specs.Prelude.{bytes_eq, ◌||◌}
 use Rattle.std.specs.List.{find}
 use Rattle.std.proofs.lemmas.Bool.{eq-eqb, ne_eqb, eqb-true, and_parts}
 use Rattle.std.proofs.lemmas.Slice.Eq.{bytes_eq-Decides}
 use Rattle.af_ops.specs.declared.place.Place.{Place}
 use Rattle.af_ops.specs.declared.place.Place.TheVariants as place
 use Rattle.af_ops.specs.Table.{Segment, Text, Part, segments_of, places, place_rank}
-use Rattle.std.specs.Str.{is_utf8}
-use Rattle.std.proofs.lemmas.Str.{IsUtf8-from_is_utf8, is_utf8-from_IsUtf8}
-use Rattle.percent_encoding.specs.Percent.{percent_decode}
-use Rattle.af_http.specs.Parts.{with_all}
-use Rattle.af_http.specs.Routes.{before, decoded, onward, has_form, parts_in, place_of, stands_for}
+use Rattle.af_http.specs.Routes.{before, onward, has_form, place_of, stands_for}
 
 -- ---- cutting
 
@@ -132,23 +128,3 @@ found (q ∷ qs) p path i h = found_at q qs p path (place_rank q == place_rank p
 
 pub one_place : (path : List ℕ) (p : Place) → has_form (segments_of p) path ≡ true → place_of path ≡ Some p
 one_place path p h = found places p path (first_place p) h
-
--- ---- parts
-
-pub decoded_text : (part : List ℕ) → IsUtf8 (percent_decode part) → decoded part ≡ Some (percent_decode part)
-decoded_text part utf8 = ap (λ (b : Bool). if b then Some (percent_decode part) else None) (is_utf8-from_IsUtf8 (percent_decode part) utf8)
-
-none_by : (bytes : List ℕ) (b : Bool) → is_utf8 bytes ≡ b → (IsUtf8 bytes → ⊥) → (if b then Some bytes else None) ≡ None
-none_by bytes true is bad = absurd (bad (IsUtf8-from_is_utf8 bytes is))
-none_by bytes false is bad = refl
-
-pub decoded_none : (part : List ℕ) → (IsUtf8 (percent_decode part) → ⊥) → decoded part ≡ None
-decoded_none part bad = none_by (percent_decode part) (is_utf8 (percent_decode part)) refl bad
-
-none_before : (parts : Option (List (List ℕ))) → with_all [] parts ≡ parts
-none_before None = refl
-none_before (Some texts) = refl
-
--- the texts of a path's parts, where none were gathered before
-pub all_texts : (texts : List (List ℕ)) (segments wanted : List Segment) (path target : List ℕ) → texts ≡ [] → segments ≡ wanted → path ≡ target → with_all texts (parts_in segments path) ≡ parts_in wanted target
-all_texts texts segments wanted path target none same there = rw (none, same, there) (none_before (parts_in wanted target))

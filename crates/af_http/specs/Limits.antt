@@ -32,3 +32,10 @@ incoming_room = 98304
 -- how many bytes are held for the writer at most
 abbrev pub outgoing_room : ℕ
 outgoing_room = 65536
+
+-- the most parts of a path of the table, and the most bytes of a name of any kind
+abbrev pub part_limit : ℕ
+part_limit = 3
+
+abbrev pub name_limit : ℕ
+name_limit = 250

@@ -1,6 +1,6 @@
 -- Which operation a request names (Airflow 2, "Stable REST API"): its path is one of the table's, its parts are names of their
 -- kinds, and its method is one that the path has.
-use Rattle.std.specs.Prelude.{ℕ, ◌≡◌, ◌==◌, ◌&&◌, Bool, true, false, not, List, [], ◌∷◌, Option, Some, None, option_map, option_and_then, ok_or, Result, Ok, Err, cond, if◌then◌else◌, bytes_eq, ⊤}
+use Rattle.std.specs.Prelude.{ℕ, ◌≡◌, ◌==◌, ◌&&◌, Bool, true, false, not, List, [], ◌∷◌, Option, Some, None, option_map, option_and_then, ok_or, Result, Ok, Err, cond, if◌then◌else◌, bytes_eq, IsOk}
 use Rattle.std.specs.List.{find}
 use Rattle.std.specs.Str.{is_utf8}
 use Rattle.percent_encoding.specs.Percent.{percent_decode}
@@ -103,9 +103,10 @@ abbrev pub IsAsked : Result Op RouteFault → Op → Type 0
 IsAsked (Ok wanted) op = IsRead (Some wanted) (Some op)
 IsAsked (Err fault) op = ⊥
 
--- This was read, or there was no memory to read it with; of an operation, its body may be unread for that.
+-- This was read. There was no memory to read it with only where it is an operation, whose body may be unread for that too: that
+-- there is no such path or no such method is told, memory or not.
 abbrev pub IsRouted : Result Op RouteFault → Result Op RouteFault → Type 0
 IsRouted expected (Ok op) = IsAsked expected op
 IsRouted expected (Err NoPath) = expected ≡ Err NoPath
 IsRouted expected (Err (BadMethod methods)) = expected ≡ Err (BadMethod methods)
-IsRouted expected (Err OutOfMemory) = ⊤
+IsRouted expected (Err OutOfMemory) = IsOk expected

@@ -15,6 +15,7 @@ mod laws;
 mod lines;
 mod message;
 mod outgoing;
+mod parts;
 mod problems;
 mod reading;
 mod refusal;

@@ -25,7 +25,7 @@ pub const REQUEST_LIMIT: u32 = 1000;
 /// What is made of a request. No other function calls the service, and none is asked once a write has failed, since its
 /// answer would not leave: a change would be made unseen.
 fn make<S: Service>(
-    routes: &Routes,
+    routes: &mut Routes,
     service: &mut S,
     request: &Request<'_>,
     body: &[u8],
@@ -64,7 +64,7 @@ fn answer_request<W: Sink, S: Service>(
     request: &Request<'_>,
     body: &[u8],
     count: u32,
-    routes: &Routes,
+    routes: &mut Routes,
     writer: &mut W,
     outgoing: &mut Outgoing,
     service: &mut S,
@@ -88,7 +88,7 @@ pub fn answer_message<W: Sink, S: Service>(
     held: &[u8],
     size: usize,
     count: u32,
-    routes: &Routes,
+    routes: &mut Routes,
     writer: &mut W,
     outgoing: &mut Outgoing,
     service: &mut S,

@@ -1,23 +1,26 @@
-ghost use Rattle.std.specs.Prelude.{◌≡◌, IfOk, option_map, map, string_bytes};
+ghost use Rattle.std.specs.Prelude.{◌≡◌, ◌+◌, ◌≤◌, Some, false, length, map, string_bytes, true};
 ghost use Rattle.af_ops.specs.Segments.{seen};
-ghost use Rattle.af_http.specs.Parts.{with_all};
-ghost use Rattle.af_http.specs.Routes.{IsRouted, before, by_method, decoded, endpoint_of, has_form, named, onward, op_of, parts_in, path_of, place_of, read, stands_for, with_parts};
+ghost use Rattle.af_http.specs.Limits.{part_limit};
+ghost use Rattle.af_http.specs.Parts.{IsUnfit, part_count, with_all};
+ghost use Rattle.af_http.specs.Routes.{IsRouted, before, endpoint_of, has_form, named, onward, op_of, parts_in, path_of, place_of, read, stands_for};
 
+use crate::parts::Parts;
 use crate::route_fault::RouteFault;
 use af_ops::{
     Endpoint, Method, Op, PLACES, Place, Segment, are_names, endpoint_at, methods_at, read_row,
 };
 use matchit::Router;
 use memchr::memchr;
-use percent_encoding::{DecodeError, percent_decode};
 use std::alloc::{AllocError, Global};
 
-/// The table of paths. A router finds the likely one; that it has the path's form is tested, so what is found does not depend
+/// The table of paths, with room for the parts of one. A router finds the likely one; that it has the path's form is tested, so what is found does not depend
 /// on the router.
 #[derive(Drop)]
 pub struct Routes {
     alloc: Global,
     router: Router<Place>,
+    /// The parts of the path that is read.
+    parts: Parts,
 }
 
 /// What stands before the first of these bytes, and from it on.
@@ -55,43 +58,24 @@ fn has_form(segments: &[Segment], path: &[u8]) -> bool
     *slash == b'/' && (stands_for(segment, piece) && has_form(segments, rest))
 }
 
-/// The text of a part.
-fn decoded(alloc: Global, part: &[u8]) -> Result<Option<String>, AllocError>
-    ensures { IfOk result (λ text. option_map string_bytes text ≡ decoded part.now) }
-{
-    match percent_decode(part).decode_utf8(alloc) {
-        Ok(text) => Ok(Some(text.into_owned(alloc)?)),
-        Err(DecodeError::OutOfMemory) => Err(AllocError),
-        Err(_) => Ok(None),
-    }
-}
-
-/// These texts, and then those of a path's parts, in order; none where one of these is no text.
-fn parts_from(
-    alloc: Global,
-    segments: &[Segment],
-    path: &[u8],
-    mut parts: Vec<String>,
-) -> Result<Option<Vec<String>>, AllocError>
-    ensures { IfOk result (λ all. option_map (λ list. map string_bytes list.items) all ≡ with_all (map string_bytes parts.items) (parts_in (map seen segments.now) path.now)) }
+/// Puts the texts of a path's parts behind those that are there, in order, and tells whether each has one that is not too long
+/// for a name.
+fn read_parts(segments: &[Segment], path: &[u8], parts: &mut Parts) -> bool
+    requires { length parts.old + part_count (map seen segments.now) ≤ part_limit }
+    ensures texts { result ≡ true → with_all parts.old (parts_in (map seen segments.now) path.now) ≡ Some parts.new }
+    ensures unfit { result ≡ false → IsUnfit (parts_in (map seen segments.now) path.now) }
 {
     let Some((segment, segments)) = segments.split_first() else {
-        return Ok(Some(parts));
+        return true;
     };
     let Some((_, path)) = path.split_first() else {
-        return Ok(Some(parts));
+        return true;
     };
     let (piece, rest) = cut(b'/', path);
     if !segment.is_part {
-        return parts_from(alloc, segments, rest, parts);
+        return read_parts(segments, rest, parts);
     }
-    match decoded(alloc, piece)? {
-        Some(text) => {
-            parts.push(text)?;
-            parts_from(alloc, segments, rest, parts)
-        }
-        None => Ok(None),
-    }
+    parts.push(piece) && read_parts(segments, rest, parts)
 }
 
 /// The operation of a method at a path.
@@ -115,23 +99,8 @@ fn read(alloc: Global, endpoint: Endpoint, parts: &[String], body: &[u8]) -> Res
     }
 }
 
-/// What a method and a body ask for at a path of this form, whose parts are names.
-fn by_method(
-    alloc: Global,
-    method: &[u8],
-    place: Place,
-    parts: &[String],
-    body: &[u8],
-) -> Result<Op, RouteFault>
-    ensures { IsRouted (by_method method.now place (map (λ part. string_bytes part) parts.now) body.now) result }
-{
-    match endpoint_of(method, place) {
-        Some(endpoint) => read(alloc, endpoint, parts, body),
-        None => Err(RouteFault::BadMethod(methods_at(place))),
-    }
-}
-
-/// The same, where the parts are not known to be names.
+/// What a method and a body ask for at a path of this form, whose parts have these texts. Each is read as a name once: by its
+/// operation, or where the path has no such method.
 fn named(
     alloc: Global,
     method: &[u8],
@@ -141,25 +110,11 @@ fn named(
 ) -> Result<Op, RouteFault>
     ensures { IsRouted (named method.now body.now place (map (λ part. string_bytes part) parts.now)) result }
 {
-    if are_names(alloc, Method::named(method), place, parts) {
-        by_method(alloc, method, place, parts, body)
-    } else {
-        Err(RouteFault::NoPath)
-    }
-}
-
-/// The same, where the parts are not known to be texts.
-fn with_parts(
-    alloc: Global,
-    method: &[u8],
-    place: Place,
-    parts: Option<Vec<String>>,
-    body: &[u8],
-) -> Result<Op, RouteFault>
-    ensures { IsRouted (with_parts method.now body.now place (option_map (λ list. map string_bytes list.items) parts)) result }
-{
-    match parts {
-        Some(parts) => named(alloc, method, place, parts.as_slice(), body),
+    match endpoint_of(method, place) {
+        Some(endpoint) => read(alloc, endpoint, parts, body),
+        None if are_names(alloc, Method::named(method), place, parts) => Err(RouteFault::BadMethod(
+            methods_at(place),
+        )),
         None => Err(RouteFault::NoPath),
     }
 }
@@ -181,7 +136,11 @@ impl Routes {
                 return Err(AllocError);
             }
         }
-        Ok(Routes { alloc, router })
+        Ok(Routes {
+            alloc,
+            router,
+            parts: Parts::new(alloc)?,
+        })
     }
 
     /// The path of the table that the router takes this for.
@@ -204,17 +163,19 @@ impl Routes {
         }
     }
 
-    /// The operation that a method, a target and a body name, or why they name none. The query is not read yet.
-    pub fn read_op(&self, method: &[u8], target: &[u8], body: &[u8]) -> Result<Op, RouteFault>
+    /// The operation that a method, a target and a body name, or why they name none. Want of memory is told only where they
+    /// name one. The query is not read yet.
+    pub fn read_op(&mut self, method: &[u8], target: &[u8], body: &[u8]) -> Result<Op, RouteFault>
         ensures { IsRouted (op_of method.now target.now body.now) result }
     {
         let path = path_of(target);
         let Some(place) = self.place_of(path) else {
             return Err(RouteFault::NoPath);
         };
-        match parts_from(self.alloc, place.segments(), path, Vec::new(self.alloc)) {
-            Ok(parts) => with_parts(self.alloc, method, place, parts, body),
-            Err(_) => Err(RouteFault::OutOfMemory),
+        self.parts.clear();
+        if !read_parts(place.segments(), path, &mut self.parts) {
+            return Err(RouteFault::NoPath);
         }
+        named(self.alloc, method, place, self.parts.as_slice(), body)
     }
 }

@@ -108,7 +108,7 @@ fn answer_held<W: Sink, S: Service>(
         connection.incoming.as_slice(),
         size,
         count,
-        &connection.routes,
+        &mut connection.routes,
         writer,
         &mut connection.outgoing,
         service,

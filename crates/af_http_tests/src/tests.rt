@@ -4,6 +4,7 @@ mod cut;
 mod faults;
 mod limits;
 mod messages;
+mod paths;
 mod refusals;
 mod replies;
 mod tools;
