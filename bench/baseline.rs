@@ -14,6 +14,8 @@ use std::process::exit;
 
 #[path = "baseline/answer.rs"]
 mod answer;
+#[path = "baseline/changes.rs"]
+mod changes;
 #[path = "baseline/config.rs"]
 mod config;
 #[path = "baseline/graph.rs"]
@@ -32,6 +34,8 @@ mod operations;
 mod plane;
 #[path = "baseline/policy.rs"]
 mod policy;
+#[path = "baseline/pools.rs"]
+mod pools;
 #[path = "baseline/routes.rs"]
 mod routes;
 #[path = "baseline/rows.rs"]
@@ -95,6 +99,7 @@ impl Connection {
             None => Err(fault(401, "authentication required")),
         };
         let status = match decided {
+            Ok(()) if self.reply.is_empty() => 204,
             Ok(()) => 200,
             Err(fault) => {
                 put_fault(&mut self.reply, &fault);

@@ -34,6 +34,8 @@ import termios
 import time
 
 import oracle
+from oracle_names import instant_of
+from oracle_table import having
 
 HERE = os.path.dirname(os.path.realpath(__file__))
 PROGRAM = os.path.join(HERE, "..", "crates", "af_server", "out", "af_server")
@@ -43,6 +45,8 @@ MOST = 999  # a connection closes with its 1,000th request
 SECONDS = 120
 # Under valgrind the C library is not to fill and copy by `rep`, of which callgrind counts each byte.
 PLAIN = {"GLIBC_TUNABLES": "glibc.cpu.x86_rep_stosb_threshold=1000000000:glibc.cpu.x86_rep_movsb_threshold=1000000000"}
+# What the oracle is asked for: all that the baseline has.
+HAS = having("landed,tasks,changes")
 RULES = ["all_success", "all_done", "none_failed", "one_success", "none_failed_min_one_success"]
 
 
@@ -141,6 +145,33 @@ def mixed(ids):
     return lead, played
 
 
+def changed(ids, before):
+    """So many triggers; then four reads of five, of five kinds, and changes of five kinds."""
+    rng, is_paused = random.Random(14), {}
+    runs = [(it, f"run_{n:05}") for n in range(before) for it in [ids[n % len(ids)]]]
+    lead = [trigger(dag, n) for n, (dag, _) in enumerate(runs)]
+    lead += [ask("/variables", "POST", {"key": f"key_{n}", "value": "0"}) for n in range(10)]
+    played = []
+    for n in range(before, MOST - 10):
+        dag, run = rng.choice(runs)
+        path, kind = f"/dags/{dag}/dagRuns/{run}", rng.randrange(5)
+        if rng.randrange(5):
+            played.append(ask([f"/dags/{dag}", f"/dags/{dag}/dagRuns", path, f"{path}/taskInstances", "/pools"][kind]))
+        elif kind == 0:
+            is_paused[dag] = not is_paused.get(dag, False)
+            played.append(pause(dag, is_paused[dag]))
+        elif kind == 1:
+            runs.append((dag, f"run_{n:05}"))
+            played.append(trigger(dag, n))
+        elif kind == 2:
+            played.append(ask(path, "PATCH", {"state": rng.choice(["success", "failed", "queued"])}))
+        elif kind == 3:
+            played.append(ask(f"/dags/{dag}/clearTaskInstances", "POST", {"dag_run_id": run, "dry_run": False, "only_failed": False}))
+        else:
+            played.append(ask(f"/variables/key_{n % 10}", "PATCH", {"value": str(n)}))
+    return lead, played
+
+
 # ---- Loads -------------------------------------------------------------------------------------------------
 
 
@@ -182,6 +213,19 @@ def loads():
     yield Load("an instance, 5 tasks", made, [ask(f"{runs[n % 200]}/taskInstances/step_0{n % 5}") for n in range(MOST)], lead)
     lead, played = mixed(ids)
     yield Load("mixed, 100 DAGs of 5 tasks", made, played, lead)
+    made, (lead, runs) = lambda: config(dags=100, tasks=5, role="Op"), runs_before(ids, 400)
+    yield Load("mark a run, 400 runs", made, [ask(runs[n // 2 % 400], "PATCH", {"state": ("failed", "queued")[n % 2]}) for n in range(MOST)], lead)
+    clears = [ask(runs[n // 2 % 400], "PATCH", {"state": "failed"}) if n % 2 == 0 else ask(f"{runs[n // 2 % 400]}/clear", "POST", {"dry_run": False}) for n in range(MOST)]
+    yield Load("mark and clear a run, 400 runs", made, clears, lead)
+    yield Load("clear, a dry run of 300 of 400 runs", made, [ask(f"/dags/{ids[50]}/clearTaskInstances", "POST", {"only_failed": False, "task_ids": ["step_00"]})] * MOST, lead)
+    yield Load("delete a run, of 400", made, [ask(it, "DELETE") for it in runs], lead)
+    yield Load("pools, 9", made, [ask("/pools")] * MOST)
+    yield Load("change a pool", made, [ask("/pools/pool_1", "PATCH", {"slots": 4 + n % 2}) for n in range(MOST)])
+    variables = [ask("/variables", "POST", {"key": f"key_{n:03}", "value": "0"}) for n in range(100)]
+    yield Load("change a variable, of 100", made, [ask(f"/variables/key_{n % 100:03}", "PATCH", {"value": str(n)}) for n in range(MOST)], variables)
+    yield Load("variables, 100", made, [ask("/variables")] * MOST, variables)
+    lead, played = changed(ids, 700)
+    yield Load("reads and changes, 700 runs", made, played, lead)
     for name, made in (
         ("10 users, 3 DAGs", lambda: config()),
         ("1,024 DAGs of 1 task", lambda: config(dags=1024)),
@@ -221,7 +265,8 @@ def answers_of(program, words, data):
 
 
 def all_well(answers, count):
-    return answers.count(b"HTTP/1.1 ") == answers.count(b"HTTP/1.1 200 OK\r\n") == count
+    told = answers.count(b"HTTP/1.1 200 OK\r\n") + answers.count(b"HTTP/1.1 204 No Content\r\n")
+    return answers.count(b"HTTP/1.1 ") == told == count
 
 
 def check(program, words, load, made):
@@ -231,7 +276,7 @@ def check(program, words, load, made):
     theirs, ours = answers_of(BASELINE, words, data), answers_of(program, words, data)
     if not all_well(theirs, count):
         fail(f"the baseline refuses a request of {load.name}: {re.search(rb'HTTP/1.1 [^2].*', theirs)}")
-    told, _ = oracle.answers(oracle.Plane(made), data)
+    told, _ = oracle.answers(oracle.Plane(made, instant_of(NOW), HAS), data)
     for name, other in (("the oracle", told), (program, ours)):
         if b'"no such path"' in other and other is not theirs:
             if other is ours:

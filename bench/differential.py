@@ -5,6 +5,8 @@
   python3 bench/differential.py --cases 20000 --seed 7
   python3 bench/differential.py --program 'PATH/PROGRAM'
   python3 bench/differential.py --has landed,tasks    a program that also has the operations on tasks and instances
+  python3 bench/differential.py --baseline --has landed,tasks,changes
+                                                      the plain Rust program that bench.py measures beside afplane
   python3 bench/differential.py --write FOLDER --random-only --cases 300
                                                       the cases as files, for a program that is not proved yet
 
@@ -17,13 +19,18 @@ import argparse
 import json
 import os
 import random
+import re
 import shlex
 import subprocess
 import sys
 import tempfile
 
+import bench
 import config_cases
 import oracle
+import oracle_bodies
+import oracle_config
+import oracle_names
 import policy_cases
 import request_cases
 import state_cases
@@ -159,6 +166,15 @@ class Comparison:
         return b"".join(pieces)
 
 
+def answer_as_baseline():
+    """Has the oracle answer as the baseline is to: with its own usage line, and with no instant but of RFC 3339's form."""
+    form = re.compile(r"\d{4}-\d\d-\d\d[Tt ]\d\d:\d\d:\d\d(?:[.,]\d{1,9})?(?:[Zz]|[+-]\d\d(?::\d\d)?)", re.ASCII)
+    read = oracle_names.instant_of
+    for it in (oracle, oracle_bodies, oracle_config, oracle_names):
+        it.instant_of = lambda text: read(text) if form.fullmatch(text) else None
+    oracle.USAGE = "usage: baseline once CONFIG NOW"
+
+
 def check_examples(it):
     """The examples, against the files that stand beside them."""
     folder = os.path.join(ROOT, "examples")
@@ -212,11 +228,16 @@ def main():
     options.add_argument("--cases", type=int, default=2000, help="random cases (0 to 10,000,000)")
     options.add_argument("--seed", type=int, default=1)
     options.add_argument("--has", type=having, default=having("landed"), metavar="NAMES", help=f"what the program has: {', '.join(GROUPS)}, or single names")
+    options.add_argument("--baseline", action="store_true", help="compile baseline.rs, and compare that")
     options.add_argument("--write", metavar="FOLDER", help="write the cases as files for `rt try --cases` into a new folder, and run nothing")
     options.add_argument("--random-only", action="store_true", help="without the examples and the limits")
     args = options.parse_args()
     program = shlex.split(args.program) if args.program else [PROGRAM]
-    if not args.program and not args.write and not os.path.exists(PROGRAM):
+    if args.baseline:
+        bench.build_baseline()
+        answer_as_baseline()
+        program = [bench.BASELINE]
+    elif not args.program and not args.write and not os.path.exists(PROGRAM):
         sys.exit("differential.py: the program isn't built: run ./afplane once, or name one by --program")
     if args.write and os.path.exists(args.write):
         sys.exit(f"differential.py: {args.write} is there already; --write makes a new folder")

@@ -1,9 +1,9 @@
 #!/usr/bin/env python3
 """Refuses each allocation of afplane in turn, and looks at what it does then.
 
-  python3 bench/refusals.py                           the examples: a viewer, one team, a denial, a wrong token, a pause
+  python3 bench/refusals.py                           the examples, and each kind of change: a DAG paused, a run triggered
   python3 bench/refusals.py --program 'PATH/PROGRAM'
-  python3 bench/refusals.py --has landed,changes      also each kind of change of a program that has those
+  python3 bench/refusals.py --has landed,changes      also the changes of a program that has those
   python3 bench/refusals.py --tests                   each test of the crates below af_http whose tests `rt test` has built
 
 A run is refused its first allocation, the next its second, and so on, until a run meets none to refuse. Each is to end in
@@ -40,9 +40,16 @@ REPLY_LOST = (
 REFUSED = b"afplane: configuration refused: memory\n"
 MOST = 100_000
 INPUTS = [("base.json", "viewer.http"), ("team.json", "one-team.http"), ("team.json", "denied.http"), ("team.json", "wrong-token.http"), ("base.json", "pause.http"), ("team.json", "morning.http")]
-# One change of each kind, over base.json, after a run of b has been triggered; what it does is looked at, and it is asked for again.
+INPUTS += [("team.json", "everything.http"), ("team.json", "refusals.http")]
+# Changes over base.json, of each kind one or more, after what has to stand before them; what they do is looked at, and they are asked for again.
 CHANGES = [
+    ("patch_dag", "PATCH /dags/b", '{"is_paused":true}', "/dags/b"),
+    ("patch_dag", "PATCH /dags/a", '{"is_paused":false}', "/dags"),
     ("trigger_run", "POST /dags/b/dagRuns", "{}", "/dags/b/dagRuns"),
+    ("trigger_run", "POST /dags/b/dagRuns", '{"dag_run_id":"r2"}', "/dags/b/dagRuns/r2"),
+    ("trigger_run", "POST /dags/b/dagRuns", '{"dag_run_id":"r2","logical_date":"2024-02-29T12:00:00.5Z","conf":{}}', "/dags/~/dagRuns"),
+    ("trigger_run", "POST /dags/b/dagRuns", '{"execution_date":"2024-02-29T12:00:00+01:00"}', "/dags/b/dagRuns"),
+    ("trigger_run", "POST /dags/b/dagRuns", '{"dag_run_id":"r1"}', "/dags/b/dagRuns/r1"),
     ("mark_run", "PATCH /dags/b/dagRuns/r1", '{"state":"failed"}', "/dags/b/dagRuns/r1"),
     ("delete_run", "DELETE /dags/b/dagRuns/r1", "", "/dags/b/dagRuns"),
     ("clear_run", "POST /dags/b/dagRuns/r1/clear", '{"dry_run":false}', "/dags/b/dagRuns/r1"),
@@ -62,7 +69,7 @@ CHANGES = [
     ("sync", "POST /own/dags/b/sync", '{"access_control":{"OnlyB":[]}}', "/roles/OnlyB"),
 ]
 # What has to be done before them.
-BEFORE = {"mark_run": ["trigger_run"], "delete_run": ["trigger_run"], "clear_run": ["mark_run"], "clear_instances": ["mark_run"]}
+BEFORE = {"trigger_run": ["trigger_run"], "mark_run": ["trigger_run"], "delete_run": ["trigger_run"], "clear_run": ["mark_run"], "clear_instances": ["mark_run"]}
 BEFORE.update({"delete_pool": ["add_pool"], "set_variable": ["add_variable"], "delete_variable": ["add_variable"], "drop_role": ["add_role"]})
 # Paths and methods that are not there: no memory is wanted to say so.
 NOWHERE = ["GET /nope", "GET /dags/%20", "PUT /dags/%62", "GET /dags/b/dagRuns/%FF", "GET /dags/%7E/dagRuns/r1", "DELETE /dags/b/dagRuns"]
@@ -83,7 +90,7 @@ def done_before(name):
     rows = {it[0]: it[1:3] for it in CHANGES}
     text = b""
     for it in BEFORE.get(name, []):
-        text += done_before(it) + request(*SETUP.get(it, rows[it]))
+        text += (b"" if it in SETUP else done_before(it)) + request(*SETUP.get(it, rows[it]))
     return text
 
 
@@ -96,7 +103,7 @@ def inputs(has):
     for name, asked, body, look in CHANGES:
         if name in has:
             change = request(asked, body)
-            yield name, "base.json", done_before(name) + change + request(f"GET {look}") + change
+            yield f"{asked} {body}", "base.json", done_before(name) + change + request(f"GET {look}") + change
 
 
 def build():

@@ -1,14 +1,13 @@
 //! Answers: status line, fields, and the body of a fault.
 use std::borrow::Cow;
 
-use crate::rows::{put, put_number};
+use crate::rows::{put, put_escaped, put_number};
 
 pub struct Fault {
     pub status: u16,
     pub detail: Cow<'static, str>,
 }
 
-/// A fault, whose detail needs no escapes.
 pub fn fault(status: u16, detail: impl Into<Cow<'static, str>>) -> Fault {
     Fault { status, detail: detail.into() }
 }
@@ -16,6 +15,7 @@ pub fn fault(status: u16, detail: impl Into<Cow<'static, str>>) -> Fault {
 fn title(status: u16) -> &'static str {
     match status {
         200 => "OK",
+        204 => "No Content",
         400 => "Bad Request",
         401 => "Unauthorized",
         403 => "Forbidden",
@@ -31,7 +31,7 @@ fn title(status: u16) -> &'static str {
 
 pub fn put_fault(out: &mut Vec<u8>, fault: &Fault) {
     put(out, "{\"detail\":\"");
-    put(out, &fault.detail);
+    put_escaped(out, &fault.detail);
     put(out, "\",\"status\":");
     put_number(out, fault.status.into());
     put(out, ",\"title\":\"");
@@ -39,15 +39,18 @@ pub fn put_fault(out: &mut Vec<u8>, fault: &Fault) {
     put(out, "\",\"type\":\"about:blank\"}");
 }
 
-/// Writes the head of an answer. `entries` is their number, where the answer was decided under a policy.
+/// Writes the head of an answer: without a type and a length, where it has no content. `entries` is their number, where the
+/// answer was decided under a policy.
 pub fn put_head(out: &mut Vec<u8>, status: u16, length: usize, allow: Option<&str>, entries: Option<u64>, closes: bool) {
     put(out, "HTTP/1.1 ");
     put_number(out, status.into());
     put(out, " ");
     put(out, title(status));
-    put(out, if status == 200 { "\r\nContent-Type: application/json" } else { "\r\nContent-Type: application/problem+json" });
-    put(out, "\r\nContent-Length: ");
-    put_number(out, length as u64);
+    if status != 204 {
+        put(out, if status == 200 { "\r\nContent-Type: application/json" } else { "\r\nContent-Type: application/problem+json" });
+        put(out, "\r\nContent-Length: ");
+        put_number(out, length as u64);
+    }
     if let Some(allow) = allow {
         put(out, "\r\nAllow: ");
         put(out, allow);

@@ -1,18 +1,17 @@
 //! The configuration, judged as afplane judges it: the first fault decides the reason.
-use std::collections::{HashMap, HashSet};
+use std::collections::{BTreeMap, HashMap, HashSet};
 use std::rc::Rc;
 
 use crate::graph::graph;
 use crate::json::{self, Value};
-use crate::names::{is_account_name, is_id, is_pool_name};
-use crate::plane::{Dag, Plane, Schedule, Task};
+use crate::names::{is_account_name, is_id, is_pool_name, is_variable_key};
+use crate::plane::{Dag, Plane, Pool, Schedule, Task, MOST_POOLS, MOST_SLOTS, MOST_VARIABLES};
 use crate::policy::{action_of, default_roles, Policy, Role, User};
 use crate::instant;
 
 pub const MOST_BYTES: usize = 16 << 20;
 const MOST_ROLES: usize = 4_096;
 const MOST_USERS: usize = 65_536;
-const MOST_POOLS: usize = 65_536;
 const MOST_DAGS: usize = 1_024;
 const MOST_TASKS: usize = 512;
 const YEAR: i128 = 31_536_000;
@@ -138,16 +137,14 @@ fn policy_of(config: &Value<'_>) -> Judged<Policy> {
     if has_admin { Ok(Policy { roles, users }) } else { Err("admin") }
 }
 
-fn pools_of(config: &Value<'_>) -> Judged<HashMap<Rc<str>, u32>> {
-    let all = rows(config, "pools")?;
-    let mut pools = HashMap::with_capacity(all.len() + 1);
-    pools.insert(Rc::from("default_pool"), 128);
+fn pools_of(config: &Value<'_>) -> Judged<BTreeMap<Rc<str>, Pool>> {
+    let mut pools = BTreeMap::from([(Rc::from("default_pool"), Pool::of(128))]);
     let mut has_default = false;
-    for row in all {
+    for row in rows(config, "pools")? {
         let name = name(row, "name", is_pool_name)?;
-        let slots = within(row.get("slots").ok_or("shape")?, 0, 1_000_000)? as u32;
+        let slots = within(row.get("slots").ok_or("shape")?, 0, MOST_SLOTS)? as u32;
         let is_default = name == "default_pool" && !std::mem::replace(&mut has_default, true);
-        if pools.insert(Rc::from(name), slots).is_some() && !is_default {
+        if pools.insert(Rc::from(name), Pool::of(slots)).is_some() && !is_default {
             return Err("duplicate");
         }
         if pools.len() > MOST_POOLS {
@@ -155,6 +152,21 @@ fn pools_of(config: &Value<'_>) -> Judged<HashMap<Rc<str>, u32>> {
         }
     }
     Ok(pools)
+}
+
+fn variables_of(config: &Value<'_>) -> Judged<BTreeMap<Box<str>, Box<str>>> {
+    let mut variables = BTreeMap::new();
+    for row in rows(config, "variables")? {
+        let key = name(row, "key", is_variable_key)?;
+        let value = text(row, "value")?;
+        if variables.insert(key.into(), value.into()).is_some() {
+            return Err("duplicate");
+        }
+        if variables.len() > MOST_VARIABLES {
+            return Err("limit");
+        }
+    }
+    Ok(variables)
 }
 
 fn schedule_of(row: &Value<'_>) -> Judged<Option<(Schedule, u64)>> {
@@ -168,7 +180,7 @@ fn schedule_of(row: &Value<'_>) -> Judged<Option<(Schedule, u64)>> {
 }
 
 /// A task and the ids of those upstream. Slots are judged with the graph.
-fn task_of<'v>(row: &'v Value<'_>, pools: &HashMap<Rc<str>, u32>) -> Judged<(Task, Vec<&'v str>, i128)> {
+fn task_of<'v>(row: &'v Value<'_>, pools: &BTreeMap<Rc<str>, Pool>) -> Judged<(Task, Vec<&'v str>, i128)> {
     let id = name(row, "task_id", is_id)?;
     let upstream = rows(row, "upstream")?.iter().map(|it| it.text().ok_or("shape")).collect::<Judged<Vec<&str>>>()?;
     if !upstream.iter().all(|it| is_id(it)) {
@@ -189,7 +201,7 @@ fn task_of<'v>(row: &'v Value<'_>, pools: &HashMap<Rc<str>, u32>) -> Judged<(Tas
     Ok((task, upstream, slots))
 }
 
-fn dag_of(row: &Value<'_>, pools: &HashMap<Rc<str>, u32>) -> Judged<Dag> {
+fn dag_of(row: &Value<'_>, pools: &BTreeMap<Rc<str>, Pool>) -> Judged<Dag> {
     let id = name(row, "dag_id", is_id)?;
     let schedule = schedule_of(row)?;
     let catchup = truth(row, "catchup", true)?;
@@ -226,7 +238,8 @@ pub fn read(bytes: &[u8]) -> Judged<(Policy, Plane)> {
     let config = json::parse(bytes).ok_or("syntax")?;
     let Value::Object(_) = config else { return Err("shape") };
     let policy = policy_of(&config)?;
-    let pools = pools_of(&config)?;
+    let mut pools = pools_of(&config)?;
+    let variables = variables_of(&config)?;
     let all = rows(&config, "dags")?;
     let (mut dags, mut ids) = (Vec::with_capacity(all.len()), HashSet::with_capacity(all.len()));
     for row in all {
@@ -237,9 +250,12 @@ pub fn read(bytes: &[u8]) -> Judged<(Policy, Plane)> {
         if dags.len() >= MOST_DAGS {
             return Err("limit");
         }
+        for it in &dag.tasks {
+            pools.get_mut(&it.pool).ok_or("pool")?.tasks += 1;
+        }
         dags.push(dag);
     }
     dags.sort_unstable_by(|a, b| a.id.cmp(&b.id));
     let places = dags.iter().enumerate().map(|(place, it)| (it.id.clone(), place)).collect();
-    Ok((policy, Plane { dags, places, runs: Vec::new(), pools, entries: 0 }))
+    Ok((policy, Plane { dags, places, runs: Vec::new(), count: 0, pools, variables, entries: 0 }))
 }

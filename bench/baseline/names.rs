@@ -17,6 +17,10 @@ pub fn is_pool_name(text: &str) -> bool {
     is_spelled(text, 250, |it| matches!(it, b' '..=b'~'))
 }
 
+pub fn is_variable_key(text: &str) -> bool {
+    is_pool_name(text)
+}
+
 /// The name of a user or a role.
 pub fn is_account_name(text: &str) -> bool {
     is_spelled(text, 64, |it| matches!(it, b' '..=b'~'))

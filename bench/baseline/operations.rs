@@ -6,11 +6,12 @@ use crate::instant;
 use crate::json::{self, Value};
 use crate::names::is_run_id;
 use crate::plane::{Dag, Instance, Plane, Run, MOST_ENTRIES, MOST_RUNS};
+use crate::{changes, pools};
 use crate::policy::Bearer;
 use crate::routes::Op;
 use crate::rows::{close_listing, open_listing, put_dag, put_instance, put_listing, put_run, put_task};
 
-const PAGE: usize = 100;
+pub const PAGE: usize = 100;
 
 /// Does an operation for a user, at a moment, and writes the body of its reply.
 pub fn decide(plane: &mut Plane, bearer: &Bearer<'_>, op: &Op<'_>, body: &[u8], now: u64, out: &mut Vec<u8>) -> Result<(), Fault> {
@@ -21,8 +22,8 @@ pub fn decide(plane: &mut Plane, bearer: &Bearer<'_>, op: &Op<'_>, body: &[u8], 
         // It needs no user, and is answered before.
         Op::Version => {}
         Op::Dags => {
-            let shows = |it: &Dag| bearer.reads(&it.id);
-            put_shown(out, "dags", &plane.dags, bearer.reads_all(), shows, put_dag);
+            let total = bearer.reads_all().then_some(plane.dags.len());
+            put_shown(out, "dags", plane.dags.iter(), total, |it| bearer.reads(&it.id), put_dag);
         }
         Op::Dag(dag) => put_dag(out, find_dag(plane, dag)?),
         Op::PauseDag(dag) => pause(plane, dag, body, out)?,
@@ -33,18 +34,22 @@ pub fn decide(plane: &mut Plane, bearer: &Bearer<'_>, op: &Op<'_>, body: &[u8], 
         Op::AllRuns => {
             let shows = |it: &Run| bearer.reads(&plane.dags[it.dag].id);
             let put_row = |out: &mut Vec<u8>, it: &Run| put_run(out, it, &plane.dags[it.dag]);
-            put_shown(out, "dag_runs", &plane.runs, bearer.reads_all(), shows, put_row);
+            put_shown(out, "dag_runs", plane.runs.iter().flatten(), bearer.reads_all().then_some(plane.count), shows, put_row);
         }
         Op::Runs(dag) => {
             let dag = find_dag(plane, dag)?;
             let page = dag.runs.iter().take(PAGE);
-            put_listing(out, "dag_runs", page, dag.runs.len(), |out, &it| put_run(out, &plane.runs[it], dag));
+            put_listing(out, "dag_runs", page, dag.runs.len(), |out, &it| put_run(out, plane.run(it), dag));
         }
         Op::Trigger(dag) => trigger(plane, dag, body, now, out)?,
         Op::Run(dag, run) => {
             let (dag, run) = find_run(plane, dag, run)?;
             put_run(out, run, dag);
         }
+        Op::MarkRun(dag, run) => changes::mark(plane, dag, run, body, now, out)?,
+        Op::DeleteRun(dag, run) => changes::delete(plane, dag, run)?,
+        Op::ClearRun(dag, run) => changes::clear_run(plane, dag, run, body, out)?,
+        Op::ClearInstances(dag) => changes::clear_instances(plane, dag, body, out)?,
         Op::Instances(dag, run) => {
             let (dag, run) = find_run(plane, dag, run)?;
             let page = run.instances.iter().zip(&dag.tasks).take(PAGE);
@@ -56,18 +61,36 @@ pub fn decide(plane: &mut Plane, bearer: &Bearer<'_>, op: &Op<'_>, body: &[u8], 
             let place = place.ok_or_else(|| fault(404, format!("no such task: {task}")))?;
             put_instance(out, &run.instances[place], &dag.tasks[place], run, dag);
         }
+        Op::Pools => pools::list_pools(plane, out),
+        Op::AddPool => pools::add_pool(plane, body, out)?,
+        Op::Pool(name) => pools::show_pool(plane, name, out)?,
+        Op::SetPool(name) => pools::set_pool(plane, name, body, out)?,
+        Op::DeletePool(name) => pools::delete_pool(plane, name)?,
+        Op::Variables => pools::list_variables(plane, out),
+        Op::AddVariable => pools::add_variable(plane, body, out)?,
+        Op::Variable(key) => pools::show_variable(plane, key, out)?,
+        Op::SetVariable(key) => pools::set_variable(plane, key, body, out)?,
+        Op::DeleteVariable(key) => pools::delete_variable(plane, key)?,
     }
     Ok(())
 }
 
-/// A listing cut to what the user reads. Where that is everything, only the rows of the page are looked at.
-fn put_shown<T>(out: &mut Vec<u8>, name: &str, rows: &[T], all: bool, shows: impl Fn(&T) -> bool, put_row: impl Fn(&mut Vec<u8>, &T)) {
-    if all {
-        return put_listing(out, name, rows.iter().take(PAGE), rows.len(), put_row);
+/// A listing cut to what the user reads. Where that is everything, `total` is how many rows there are, and only those of the page
+/// are looked at.
+fn put_shown<'r, T: 'r>(
+    out: &mut Vec<u8>,
+    name: &str,
+    rows: impl Iterator<Item = &'r T>,
+    total: Option<usize>,
+    shows: impl Fn(&T) -> bool,
+    put_row: impl Fn(&mut Vec<u8>, &T),
+) {
+    if let Some(total) = total {
+        return put_listing(out, name, rows.take(PAGE), total, put_row);
     }
     open_listing(out, name);
     let mut total = 0;
-    for row in rows.iter().filter(|it| shows(it)) {
+    for row in rows.filter(|it| shows(it)) {
         if total < PAGE {
             if total > 0 {
                 out.push(b',');
@@ -79,7 +102,7 @@ fn put_shown<T>(out: &mut Vec<u8>, name: &str, rows: &[T], all: bool, shows: imp
     close_listing(out, total);
 }
 
-fn place_of(plane: &Plane, dag: &str) -> Result<usize, Fault> {
+pub fn place_of(plane: &Plane, dag: &str) -> Result<usize, Fault> {
     plane.places.get(dag).copied().ok_or_else(|| fault(404, format!("no such dag: {dag}")))
 }
 
@@ -87,21 +110,25 @@ fn find_dag<'a>(plane: &'a Plane, dag: &str) -> Result<&'a Dag, Fault> {
     Ok(&plane.dags[place_of(plane, dag)?])
 }
 
-fn find_run<'a>(plane: &'a Plane, dag: &str, run: &str) -> Result<(&'a Dag, &'a Run), Fault> {
-    let dag = find_dag(plane, dag)?;
-    let place = dag.by_id.get(run).ok_or_else(|| fault(404, format!("no such run: {run}")))?;
-    Ok((dag, &plane.runs[*place]))
+/// The place of a run among all, of the DAG that stands at a place.
+pub fn place_of_run(plane: &Plane, dag: usize, run: &str) -> Result<usize, Fault> {
+    plane.dags[dag].by_id.get(run).copied().ok_or_else(|| fault(404, format!("no such run: {run}")))
 }
 
-fn has_room(plane: &Plane) -> Result<(), Fault> {
+fn find_run<'a>(plane: &'a Plane, dag: &str, run: &str) -> Result<(&'a Dag, &'a Run), Fault> {
+    let dag = place_of(plane, dag)?;
+    Ok((&plane.dags[dag], plane.run(place_of_run(plane, dag, run)?)))
+}
+
+pub fn has_room(plane: &Plane) -> Result<(), Fault> {
     if plane.entries < MOST_ENTRIES { Ok(()) } else { Err(fault(507, "history full")) }
 }
 
-fn object(body: &[u8]) -> Result<Value<'_>, Fault> {
+pub fn object(body: &[u8]) -> Result<Value<'_>, Fault> {
     json::parse(body).filter(|it| matches!(it, Value::Object(_))).ok_or_else(|| fault(400, "bad body"))
 }
 
-fn bad_member(name: &str) -> Fault {
+pub fn bad_member(name: &str) -> Fault {
     fault(400, format!("bad member: {name}"))
 }
 
@@ -159,11 +186,11 @@ fn trigger(plane: &mut Plane, dag: &str, body: &[u8], now: u64, out: &mut Vec<u8
     dag.runs.push(number);
     dag.by_id.insert(id.clone(), number);
     dag.by_date.insert(date, number);
-    let opened = |retries: u32| Instance { state: None, try_number: 0, max_tries: retries.into(), start: None, end: None };
-    let instances = dag.tasks.iter().map(|it| opened(it.retries)).collect();
+    let instances = dag.tasks.iter().map(|it| Instance::waiting(0, it)).collect();
     let run = Run { dag: place, id, run_type: "manual", logical_date: date, interval: (date, date), start: None, end: None, state: "queued", instances };
     put_run(out, &run, dag);
-    plane.runs.push(run);
+    plane.runs.push(Some(run));
+    plane.count += 1;
     plane.entries += 1;
     Ok(())
 }

@@ -1,13 +1,16 @@
 //! DAGs, runs, instances and pools, with their indexes. What a scheduler alone would look at is kept too.
 #![allow(dead_code)]
 
-use std::collections::HashMap;
+use std::collections::{BTreeMap, HashMap};
 use std::rc::Rc;
 
 use crate::graph::Graph;
 use crate::instant;
 
 pub const MOST_RUNS: usize = 65_536;
+pub const MOST_POOLS: usize = 65_536;
+pub const MOST_VARIABLES: usize = 65_536;
+pub const MOST_SLOTS: i128 = 1_000_000;
 pub const MOST_ENTRIES: u64 = 1_000_000;
 
 #[derive(Clone, Copy)]
@@ -77,22 +80,48 @@ pub struct Run {
     pub instances: Vec<Instance>,
 }
 
-#[derive(Clone)]
+#[derive(Clone, Copy, PartialEq)]
 pub struct Instance {
     pub state: Option<&'static str>,
     pub try_number: u32,
     pub max_tries: u64,
     pub start: Option<u64>,
     pub end: Option<u64>,
+    pub retry_at: Option<u64>,
+}
+
+impl Instance {
+    /// The instance of a task that was tried so often and has not begun its next try.
+    pub fn waiting(tries: u32, task: &Task) -> Instance {
+        Instance { state: None, try_number: tries, max_tries: u64::from(tries) + u64::from(task.retries), start: None, end: None, retry_at: None }
+    }
+}
+
+pub struct Pool {
+    pub slots: u32,
+    /// The slots of its instances that are queued, and of those that are running.
+    pub queued: u64,
+    pub running: u64,
+    /// How many tasks name it.
+    pub tasks: usize,
+}
+
+impl Pool {
+    pub fn of(slots: u32) -> Pool {
+        Pool { slots, queued: 0, running: 0, tasks: 0 }
+    }
 }
 
 pub struct Plane {
     /// In order of their ids.
     pub dags: Vec<Dag>,
     pub places: HashMap<Box<str>, usize>,
-    /// In order of number, which is the place plus 1.
-    pub runs: Vec<Run>,
-    pub pools: HashMap<Rc<str>, u32>,
+    /// In order of number, which is the place plus 1; none where the run was deleted.
+    pub runs: Vec<Option<Run>>,
+    /// How many runs there are.
+    pub count: usize,
+    pub pools: BTreeMap<Rc<str>, Pool>,
+    pub variables: BTreeMap<Box<str>, Box<str>>,
     /// How many changes there were.
     pub entries: u64,
 }
@@ -100,5 +129,31 @@ pub struct Plane {
 impl Plane {
     pub fn has_dag(&self, id: &str) -> bool {
         self.places.contains_key(id)
+    }
+
+    pub fn run(&self, place: usize) -> &Run {
+        self.runs[place].as_ref().expect("a run that an index names")
+    }
+
+    /// Puts an instance in the place of one of a run, and counts the slots that it holds in its stead. Whether it is another.
+    pub fn set_instance(&mut self, run: usize, place: usize, to: Instance) -> bool {
+        let run = self.runs[run].as_mut().expect("a run that an index names");
+        let from = std::mem::replace(&mut run.instances[place], to);
+        if from.state != to.state {
+            let task = &self.dags[run.dag].tasks[place];
+            let pool = self.pools.get_mut(&task.pool).expect("a pool that a task names");
+            let slots = u64::from(task.pool_slots);
+            match from.state {
+                Some("queued") => pool.queued -= slots,
+                Some("running") => pool.running -= slots,
+                _ => {}
+            }
+            match to.state {
+                Some("queued") => pool.queued += slots,
+                Some("running") => pool.running += slots,
+                _ => {}
+            }
+        }
+        from != to
     }
 }

@@ -1,8 +1,8 @@
 //! Which operation a method and a path name.
 use std::borrow::Cow;
 
-use crate::names::{is_id, is_run_id};
-use crate::policy::{Need, Resource::*, CREATE, EDIT, READ};
+use crate::names::{is_id, is_pool_name, is_run_id, is_variable_key};
+use crate::policy::{Need, Resource::*, CREATE, DELETE, EDIT, READ};
 
 type Text<'a> = Cow<'a, str>;
 
@@ -16,8 +16,22 @@ pub enum Op<'a> {
     Runs(Text<'a>),
     Trigger(Text<'a>),
     Run(Text<'a>, Text<'a>),
+    MarkRun(Text<'a>, Text<'a>),
+    DeleteRun(Text<'a>, Text<'a>),
+    ClearRun(Text<'a>, Text<'a>),
     Instances(Text<'a>, Text<'a>),
     Instance(Text<'a>, Text<'a>, Text<'a>),
+    ClearInstances(Text<'a>),
+    Pools,
+    AddPool,
+    Pool(Text<'a>),
+    SetPool(Text<'a>),
+    DeletePool(Text<'a>),
+    Variables,
+    AddVariable,
+    Variable(Text<'a>),
+    SetVariable(Text<'a>),
+    DeleteVariable(Text<'a>),
 }
 
 impl Op<'_> {
@@ -31,16 +45,28 @@ impl Op<'_> {
             Op::AllRuns => &[Need::Some(READ), Need::On(DagRuns, READ)],
             Op::Runs(_) | Op::Run(..) => &[Need::At(READ), Need::On(DagRuns, READ)],
             Op::Trigger(_) => &[Need::At(EDIT), Need::On(DagRuns, CREATE)],
+            Op::MarkRun(..) | Op::ClearRun(..) => &[Need::At(EDIT), Need::On(DagRuns, EDIT)],
+            Op::DeleteRun(..) => &[Need::At(EDIT), Need::On(DagRuns, DELETE)],
             Op::Instances(..) | Op::Instance(..) => &[Need::At(READ), Need::On(DagRuns, READ), Need::On(TaskInstances, READ)],
+            Op::ClearInstances(_) => &[Need::At(EDIT), Need::On(DagRuns, READ), Need::On(TaskInstances, EDIT)],
+            Op::Pools | Op::Pool(_) => &[Need::On(Pools, READ)],
+            Op::AddPool => &[Need::On(Pools, CREATE)],
+            Op::SetPool(_) => &[Need::On(Pools, EDIT)],
+            Op::DeletePool(_) => &[Need::On(Pools, DELETE)],
+            Op::Variables | Op::Variable(_) => &[Need::On(Variables, READ)],
+            Op::AddVariable => &[Need::On(Variables, CREATE)],
+            Op::SetVariable(_) => &[Need::On(Variables, EDIT)],
+            Op::DeleteVariable(_) => &[Need::On(Variables, DELETE)],
         }
     }
 
-    /// The DAG that the path names.
+    /// The DAG that the path names; an empty text where it names none.
     pub fn dag(&self) -> &str {
         match self {
-            Op::Version | Op::Dags | Op::AllRuns => "",
-            Op::Dag(dag) | Op::PauseDag(dag) | Op::Tasks(dag) | Op::Runs(dag) | Op::Trigger(dag) => dag,
-            Op::Run(dag, _) | Op::Instances(dag, _) | Op::Instance(dag, ..) => dag,
+            Op::Dag(dag) | Op::PauseDag(dag) | Op::Tasks(dag) | Op::Runs(dag) | Op::Trigger(dag) | Op::ClearInstances(dag) => dag,
+            Op::Run(dag, _) | Op::MarkRun(dag, _) | Op::DeleteRun(dag, _) | Op::ClearRun(dag, _) => dag,
+            Op::Instances(dag, _) | Op::Instance(dag, ..) => dag,
+            _ => "",
         }
     }
 }
@@ -114,13 +140,45 @@ pub fn route<'a>(method: &[u8], path: &'a [u8]) -> Result<Op<'a>, Unrouted> {
         }
         ([b"dags", dag, b"dagRuns", run, rest @ ..], _) => {
             let (dag, run) = (named(dag, is_id)?, named(run, is_run_id)?);
-            let op = match rest {
-                [] => Op::Run(dag, run),
-                [b"taskInstances"] => Op::Instances(dag, run),
-                [b"taskInstances", task] => Op::Instance(dag, run, named(task, is_id)?),
+            let op = match (rest, method) {
+                ([], b"GET") => return Ok(Op::Run(dag, run)),
+                ([], b"PATCH") => return Ok(Op::MarkRun(dag, run)),
+                ([], b"DELETE") => return Ok(Op::DeleteRun(dag, run)),
+                ([], _) => return Err(BadMethod("GET, PATCH, DELETE")),
+                ([b"clear"], b"POST") => return Ok(Op::ClearRun(dag, run)),
+                ([b"clear"], _) => return Err(BadMethod("POST")),
+                ([b"taskInstances"], _) => Op::Instances(dag, run),
+                ([b"taskInstances", task], _) => Op::Instance(dag, run, named(task, is_id)?),
                 _ => return Err(NoPath),
             };
             if method == b"GET" { Ok(op) } else { Err(BadMethod("GET")) }
+        }
+        ([b"dags", dag, b"clearTaskInstances"], _) => {
+            let dag = named(dag, is_id)?;
+            if method == b"POST" { Ok(Op::ClearInstances(dag)) } else { Err(BadMethod("POST")) }
+        }
+        ([b"pools"], b"GET") => Ok(Op::Pools),
+        ([b"pools"], b"POST") => Ok(Op::AddPool),
+        ([b"variables"], b"GET") => Ok(Op::Variables),
+        ([b"variables"], b"POST") => Ok(Op::AddVariable),
+        ([b"pools" | b"variables"], _) => Err(BadMethod("GET, POST")),
+        ([b"pools", name], _) => {
+            let name = named(name, is_pool_name)?;
+            match method {
+                b"GET" => Ok(Op::Pool(name)),
+                b"PATCH" => Ok(Op::SetPool(name)),
+                b"DELETE" => Ok(Op::DeletePool(name)),
+                _ => Err(BadMethod("GET, PATCH, DELETE")),
+            }
+        }
+        ([b"variables", key], _) => {
+            let key = named(key, is_variable_key)?;
+            match method {
+                b"GET" => Ok(Op::Variable(key)),
+                b"PATCH" => Ok(Op::SetVariable(key)),
+                b"DELETE" => Ok(Op::DeleteVariable(key)),
+                _ => Err(BadMethod("GET, PATCH, DELETE")),
+            }
         }
         _ => Err(NoPath),
     }

@@ -1,6 +1,6 @@
 //! How DAGs, tasks, runs and instances are shown: compact JSON, members in byte order.
 use crate::instant;
-use crate::plane::{Dag, Instance, Run, Schedule, Task};
+use crate::plane::{Dag, Instance, Pool, Run, Schedule, Task};
 
 pub fn put(out: &mut Vec<u8>, text: &str) {
     out.extend_from_slice(text.as_bytes());
@@ -27,16 +27,27 @@ fn put_signed(out: &mut Vec<u8>, number: i32) {
     put_number(out, number.unsigned_abs().into());
 }
 
-/// The name of a pool, of printed ASCII. Nothing else that is shown needs escapes.
-fn put_name(out: &mut Vec<u8>, text: &str) {
+/// A text between quotes, with what JSON escapes: the names of pools and variables, and the values of these. Nothing else that
+/// is shown needs it.
+pub fn put_name(out: &mut Vec<u8>, text: &str) {
     out.push(b'"');
+    put_escaped(out, text);
+    out.push(b'"');
+}
+
+pub fn put_escaped(out: &mut Vec<u8>, text: &str) {
     for byte in text.bytes() {
-        if byte == b'"' || byte == b'\\' {
-            out.push(b'\\');
+        match byte {
+            b'"' | b'\\' => out.extend_from_slice(&[b'\\', byte]),
+            b'\n' => put(out, "\\n"),
+            b'\r' => put(out, "\\r"),
+            b'\t' => put(out, "\\t"),
+            8 => put(out, "\\b"),
+            12 => put(out, "\\f"),
+            0..32 => put(out, &format!("\\u{byte:04x}")),
+            _ => out.push(byte),
         }
-        out.push(byte);
     }
-    out.push(b'"');
 }
 
 fn put_date(out: &mut Vec<u8>, date: Option<u64>) {
@@ -156,5 +167,43 @@ pub fn put_instance(out: &mut Vec<u8>, instance: &Instance, task: &Task, run: &R
     put(out, &task.id);
     put(out, "\",\"try_number\":");
     put_number(out, instance.try_number.into());
+    out.push(b'}');
+}
+
+/// An instance that a clear has chosen.
+pub fn put_chosen(out: &mut Vec<u8>, task: &Task, run: &Run, dag: &Dag) {
+    put(out, "{\"dag_id\":\"");
+    put(out, &dag.id);
+    put(out, "\",\"dag_run_id\":\"");
+    put(out, &run.id);
+    put(out, "\",\"logical_date\":\"");
+    instant::put(out, run.logical_date);
+    put(out, "\",\"task_id\":\"");
+    put(out, &task.id);
+    put(out, "\"}");
+}
+
+pub fn put_pool(out: &mut Vec<u8>, name: &str, pool: &Pool) {
+    let occupied = pool.queued + pool.running;
+    put(out, "{\"name\":");
+    put_name(out, name);
+    put(out, ",\"occupied_slots\":");
+    put_number(out, occupied);
+    put(out, ",\"open_slots\":");
+    put_number(out, u64::from(pool.slots).saturating_sub(occupied));
+    put(out, ",\"queued_slots\":");
+    put_number(out, pool.queued);
+    put(out, ",\"running_slots\":");
+    put_number(out, pool.running);
+    put(out, ",\"slots\":");
+    put_number(out, pool.slots.into());
+    out.push(b'}');
+}
+
+pub fn put_variable(out: &mut Vec<u8>, key: &str, value: &str) {
+    put(out, "{\"key\":");
+    put_name(out, key);
+    put(out, ",\"value\":");
+    put_name(out, value);
     out.push(b'}');
 }
