@@ -11,15 +11,16 @@ use Rattle.af_sched.specs.State.{StateRows, is_of_id, with_paused}
 use Rattle.af_sched.specs.State as sched
 use Rattle.af_sched.specs.declared.dag_row.DagRow.{DagRow}
 use Rattle.af_ops.specs.declared.answer.OpFault.{OpFault}
-use Rattle.af_ops.specs.declared.answer.OpFault.TheVariants.{NoSuchDag, NoSuchRun}
+use Rattle.af_ops.specs.declared.answer.OpFault.TheVariants.{NoSuchDag, NoSuchRun, NoSuchTask}
 use Rattle.af_ops.specs.declared.body_fault.BodyFault.{BodyFault}
 use Rattle.af_ops.specs.declared.op.Op.TheVariants as op
 use Rattle.af_ops.specs.declared.trigger.Trigger.{Trigger}
 use Rattle.af_ops.specs.Edits.{with_run}
-use Rattle.af_ops.specs.Effects.{Effect, added_run, differs, free_id, id_or, input_or, kept, listed_runs, new_run, paused_dag, pausing, runs_data, triggered_run}
+use Rattle.af_ops.specs.Effects.{Effect, added_run, differs, free_id, id_or, input_or, instance_of, instances_data, kept, listed_runs, new_run, paused_dag, pausing, runs_data, tasks_data, triggered_run}
 use Rattle.af_ops.specs.Laws.{ListingsGoById, ReadingsLeaveTheState, ChangesLeaveAnotherState, ChangesStayAtTheirDag, LeavesOthers}
 use Rattle.af_ops.specs.Listings.{read_rows}
-use Rattle.af_ops.specs.Replies.{dag_data, run_data}
+use Rattle.af_ops.specs.Replies.{dag_data, instance_data, run_data}
+use Rattle.af_ops.specs.Rows.{InstanceTold}
 use Rattle.af_ops.proofs.EditLemmas.{paused_apart, run_apart}
 
 none_some : {X : Type 0} {x : X} → None ≡ Some x → ⊥
@@ -59,6 +60,26 @@ run_kept None run effect is = cc
 run_kept (Some row) None effect is = cc
 run_kept (Some row) (Some run) effect is = kept_next (run_data run) effect is
 
+-- instances
+instances_kept : (dag : Option DagRow) (run : Option Run) (effect : Effect) → (ok_or dag NoSuchDag >>= (λ row. ok_or run NoSuchRun >>= (λ it. Ok (kept (instances_data row.dag.tasks it))))) ≡ Ok effect → effect.next ≡ None
+instances_kept None run effect is = cc
+instances_kept (Some row) None effect is = cc
+instances_kept (Some row) (Some run) effect is = kept_next (instances_data row.dag.tasks run) effect is
+
+told_kept : (told : Option InstanceTold) (effect : Effect) → (ok_or told NoSuchTask >>= (λ it. Ok (kept (instance_data it)))) ≡ Ok effect → effect.next ≡ None
+told_kept None effect is = cc
+told_kept (Some told) effect is = kept_next (instance_data told) effect is
+
+instance_kept : (dag : Option DagRow) (run : Option Run) (task_id : List ℕ) (effect : Effect) → (ok_or dag NoSuchDag >>= (λ row. ok_or run NoSuchRun >>= (λ it. ok_or (instance_of row.dag.tasks it task_id) NoSuchTask >>= (λ told. Ok (kept (instance_data told)))))) ≡ Ok effect → effect.next ≡ None
+instance_kept None run task_id effect is = cc
+instance_kept (Some row) None task_id effect is = cc
+instance_kept (Some row) (Some run) task_id effect is = told_kept (instance_of row.dag.tasks run task_id) effect is
+
+-- tasks
+tasks_kept : (dag : Option DagRow) (effect : Effect) → (ok_or dag NoSuchDag >>= (λ row. Ok (kept (tasks_data row.dag.tasks)))) ≡ Ok effect → effect.next ≡ None
+tasks_kept None effect is = cc
+tasks_kept (Some row) effect is = kept_next (tasks_data row.dag.tasks) effect is
+
 -- runs
 runs_kept : (dag : Option DagRow) (reply : Data) (effect : Effect) → (ok_or dag NoSuchDag >>= (λ row. Ok (kept reply))) ≡ Ok effect → effect.next ≡ None
 runs_kept None reply effect is = cc
@@ -73,9 +94,12 @@ readings_keep reads state op.Version now effect get is = cc
 readings_keep reads state op.ListDags now effect get is = cc
 readings_keep reads state (op.GetDag dag_id) now effect get is = got_kept (sched.dag_of state.dags dag_id) effect is
 readings_keep reads state (op.PauseDag dag_id input) now effect get is = cc
+readings_keep reads state (op.ListTasks dag_id) now effect get is = tasks_kept (sched.dag_of state.dags dag_id) effect is
 readings_keep reads state (op.ListRuns dag) now effect get is = listed_kept reads state dag effect is
 readings_keep reads state (op.TriggerRun dag_id input) now effect get is = cc
 readings_keep reads state (op.GetRun dag_id run_id) now effect get is = run_kept (sched.dag_of state.dags dag_id) (run_of state.runs dag_id run_id) effect is
+readings_keep reads state (op.ListInstances dag_id run_id) now effect get is = instances_kept (sched.dag_of state.dags dag_id) (run_of state.runs dag_id run_id) effect is
+readings_keep reads state (op.GetInstance dag_id run_id task_id) now effect get is = instance_kept (sched.dag_of state.dags dag_id) (run_of state.runs dag_id run_id) task_id effect is
 
 -- a DAG that is paused, or not: it was found and stood otherwise, and this is the next state
 pub record Pauses (state : StateRows) (dag_id : List ℕ) (next : StateRows) : Type 0 where
@@ -144,11 +168,14 @@ changes_differ reads state (op.GetDag dag_id) now effect next is changes same = 
 changes_differ reads state (op.PauseDag dag_id input) now effect next is changes same =
     let it = pauses state dag_id input effect next is changes in
     paused_apart dag_id it.is_paused state.dags it.row it.found it.differ (ap (λ (s : StateRows). s.dags) (sym it.next_is ∙ same))
+changes_differ reads state (op.ListTasks dag_id) now effect next is changes same = unchanged effect next (readings_keep reads state (op.ListTasks dag_id) now effect refl is) changes
 changes_differ reads state (op.ListRuns dag) now effect next is changes same = unchanged effect next (readings_keep reads state (op.ListRuns dag) now effect refl is) changes
 changes_differ reads state (op.TriggerRun dag_id input) now effect next is changes same =
     let it = triggers state dag_id input now effect is in
     run_apart state (new_run it.row dag_id it.run_id it.date) (some_same (sym it.next_is ∙ changes) ∙ same)
 changes_differ reads state (op.GetRun dag_id run_id) now effect next is changes same = unchanged effect next (readings_keep reads state (op.GetRun dag_id run_id) now effect refl is) changes
+changes_differ reads state (op.ListInstances dag_id run_id) now effect next is changes same = unchanged effect next (readings_keep reads state (op.ListInstances dag_id run_id) now effect refl is) changes
+changes_differ reads state (op.GetInstance dag_id run_id task_id) now effect next is changes same = unchanged effect next (readings_keep reads state (op.GetInstance dag_id run_id task_id) now effect refl is) changes
 
 -- the other rows are passed over
 kept_row : (is is_paused : Bool) (dag_id : List ℕ) (row : DagRow) (new old : List DagRow) → is_of_id dag_id row ≡ is → filter (λ r. not (is_of_id dag_id r)) new ≡ filter (λ r. not (is_of_id dag_id r)) old
@@ -188,7 +215,10 @@ changes_stay reads state op.ListDags now effect next at is changes names = uncha
 changes_stay reads state (op.GetDag dag_id) now effect next at is changes names = unchanged effect next (readings_keep reads state (op.GetDag dag_id) now effect refl is) changes
 changes_stay reads state (op.PauseDag dag_id input) now effect next at is changes names =
     subst (λ (id : List ℕ). LeavesOthers id state next) (some_same names) (pauses_stay state dag_id next (pauses state dag_id input effect next is changes))
+changes_stay reads state (op.ListTasks dag_id) now effect next at is changes names = unchanged effect next (readings_keep reads state (op.ListTasks dag_id) now effect refl is) changes
 changes_stay reads state (op.ListRuns dag) now effect next at is changes names = unchanged effect next (readings_keep reads state (op.ListRuns dag) now effect refl is) changes
 changes_stay reads state (op.TriggerRun dag_id input) now effect next at is changes names =
     subst (λ (id : List ℕ). LeavesOthers id state next) (some_same names) (triggers_stay state dag_id effect next (triggers state dag_id input now effect is) changes)
 changes_stay reads state (op.GetRun dag_id run_id) now effect next at is changes names = unchanged effect next (readings_keep reads state (op.GetRun dag_id run_id) now effect refl is) changes
+changes_stay reads state (op.ListInstances dag_id run_id) now effect next at is changes names = unchanged effect next (readings_keep reads state (op.ListInstances dag_id run_id) now effect refl is) changes
+changes_stay reads state (op.GetInstance dag_id run_id task_id) now effect next at is changes names = unchanged effect next (readings_keep reads state (op.GetInstance dag_id run_id task_id) now effect refl is) changes

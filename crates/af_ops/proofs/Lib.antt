@@ -5,5 +5,6 @@ mod LawLemmas
 mod PageLemmas
 mod RunLemmas
 mod TableLemmas
+mod TaskLemmas
 mod TellingLemmas
 mod TextLemmas

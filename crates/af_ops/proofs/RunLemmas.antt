@@ -65,8 +65,11 @@ numbers_rise reads state (op.GetDag dag_id) now effect next is changes = unchang
 numbers_rise reads state (op.PauseDag dag_id input) now effect next is changes =
     let it = pauses state dag_id input effect next is changes in
     subst (λ (s : StateRows). state.next_run ≤ s.next_run) (sym it.next_is) (omega arith)
+numbers_rise reads state (op.ListTasks dag_id) now effect next is changes = unchanged effect next (readings_keep reads state (op.ListTasks dag_id) now effect refl is) changes
 numbers_rise reads state (op.ListRuns dag) now effect next is changes = unchanged effect next (readings_keep reads state (op.ListRuns dag) now effect refl is) changes
 numbers_rise reads state (op.TriggerRun dag_id input) now effect next is changes =
     let it = triggers state dag_id input now effect is in
     subst (λ (s : StateRows). state.next_run ≤ s.next_run) (some_same (sym it.next_is ∙ changes)) (omega arith)
 numbers_rise reads state (op.GetRun dag_id run_id) now effect next is changes = unchanged effect next (readings_keep reads state (op.GetRun dag_id run_id) now effect refl is) changes
+numbers_rise reads state (op.ListInstances dag_id run_id) now effect next is changes = unchanged effect next (readings_keep reads state (op.ListInstances dag_id run_id) now effect refl is) changes
+numbers_rise reads state (op.GetInstance dag_id run_id task_id) now effect next is changes = unchanged effect next (readings_keep reads state (op.GetInstance dag_id run_id task_id) now effect refl is) changes

@@ -10,18 +10,18 @@ ghost use Rattle.af_ops.specs.declared.op.Op.TheVariants as op;
 ghost use Rattle.af_ops.specs.declared.place.Place.TheVariants as place;
 ghost use Rattle.af_ops.specs.declared.status.Status.TheVariants as status;
 ghost use Rattle.af_role.specs.declared.action.Action.TheVariants.{Create, Read, Edit};
-ghost use Rattle.af_role.specs.declared.resource.ResourceKind.TheVariants.{DagRuns};
+ghost use Rattle.af_role.specs.declared.resource.ResourceKind.TheVariants.{DagRuns, TaskInstances};
 ghost use Rattle.serde_json.specs.Written.{compact_text};
 ghost use Rattle.af_ops.specs.Bodies.{pause_in, trigger_in};
 ghost use Rattle.af_ops.specs.Endpoints.{are_names, op_of_row};
 ghost use Rattle.af_ops.specs.Fields.{listing_of};
 ghost use Rattle.af_ops.specs.Methods.{method_of};
-ghost use Rattle.af_ops.specs.Replies.{dag_data, fault_data, run_data, version_data};
+ghost use Rattle.af_ops.specs.Replies.{dag_data, fault_data, instance_data, run_data, version_data};
 ghost use Rattle.af_ops.specs.Served.{answer_of, fault_told, left_by};
 ghost use Rattle.af_ops.specs.Statuses.{code_of, is_fault_status};
 ghost use Rattle.af_ops.specs.Table.{at_dag, at_some_dag, endpoint_at, methods_at, on_all, segments_of, spelled};
 ghost use Rattle.af_ops.specs.Verdicts.{Open, Stranger, Lacks, Refuses, Tells, Changes, judged, verdict};
-ghost use Rattle.af_ops.specs.Worked.{asks, at_entries, dag, is_told, is_told_then, later, opening, policy, second, state_with, trigger};
+ghost use Rattle.af_ops.specs.Worked.{asks, at_entries, at_work, dag, first_told, is_told, is_told_then, later, opening, policy, second, second_told, state_with, trigger};
 
 /// Who asks for DAGs: a viewer is told all three, who may read one DAG that one, who has no permission the requirement that is
 /// lacked. Who may not read a DAG is told the same whether it is there or not; who may is told that it is not.
@@ -150,4 +150,42 @@ pub fn triggers_by_the_rule()
     ensures date { trigger_in (codes "{\"conf\":1,\"execution_date\":1,\"logical_date\":1}") ≡ Err (BadMember LogicalDate) }
     ensures older_date { trigger_in (codes "{\"conf\":1,\"execution_date\":1}") ≡ Err (BadMember ExecutionDate) }
     ensures conf { trigger_in (codes "{\"conf\":{\"a\":1}}") ≡ Err (BadMember Conf) }
+{}
+
+/// Paths of instances, and their parts: each is a name of its kind.
+pub fn instance_routes_by_the_rule()
+    ensures listed { op_of_row endpoint.ListInstances (codes "b" ∷ codes "r~1" ∷ []) (codes "{") ≡ Some (op.ListInstances (codes "b") (codes "r~1")) }
+    ensures shown { op_of_row endpoint.GetInstance (codes "b" ∷ codes "r~1" ∷ codes "t-1" ∷ []) [] ≡ Some (op.GetInstance (codes "b") (codes "r~1") (codes "t-1")) }
+    ensures no_task { op_of_row endpoint.GetInstance (codes "b" ∷ codes "r" ∷ codes "t~1" ∷ []) [] ≡ None }
+    ensures no_part { op_of_row endpoint.GetInstance (codes "b" ∷ codes "r" ∷ []) [] ≡ None }
+    ensures each_run { op_of_row endpoint.ListInstances (codes "b" ∷ codes "~" ∷ []) [] ≡ None }
+    ensures each_dag { op_of_row endpoint.ListInstances (codes "~" ∷ codes "r" ∷ []) [] ≡ None }
+    ensures names { are_names (Some Get) place.Instance (codes "b" ∷ codes "r" ∷ codes "t" ∷ []) ≡ true }
+    ensures no_names { are_names None place.Instance (codes "b" ∷ codes "r" ∷ codes "t~1" ∷ []) ≡ false }
+    ensures path { spelled (segments_of place.Instances) ≡ codes "/api/v1/dags/{dag_id}/dagRuns/{dag_run_id}/taskInstances" }
+    ensures one_path { spelled (segments_of place.Instance) ≡ codes "/api/v1/dags/{dag_id}/dagRuns/{dag_run_id}/taskInstances/{task_id}" }
+    ensures methods { methods_at place.Instance ≡ record { get = true; post = false; patch = false; delete = false } }
+{}
+
+/// Who asks for instances: a viewer is told those of a run in the order of its DAG's tasks. A denial comes before an absence; of DAG,
+/// run and task the first that is not there is told.
+pub fn instances_by_the_rule()
+    ensures listed { asks at_work (codes "vera") (op.ListInstances (codes "f") (codes "r")) ≡ Tells (compact_text (listing_of (codes "task_instances") (instance_data first_told ∷ instance_data second_told ∷ []) 2)) }
+    ensures shown { asks at_work (codes "vera") (op.GetInstance (codes "f") (codes "r") (codes "t")) ≡ Tells (compact_text (instance_data second_told)) }
+    ensures no_instances { asks later (codes "ron") (op.ListInstances (codes "b") (codes "r2")) ≡ Lacks (on_all Read TaskInstances) }
+    ensures no_runs { asks later (codes "bob") (op.GetInstance (codes "b") (codes "r2") (codes "t")) ≡ Lacks (on_all Read DagRuns) }
+    ensures hidden { asks later (codes "ron") (op.GetInstance (codes "nosuch") (codes "r2") (codes "t")) ≡ Lacks (at_dag Read) }
+    ensures no_dag { asks at_work (codes "vera") (op.GetInstance (codes "b") (codes "r2") (codes "x")) ≡ Refuses fault.NoSuchDag }
+    ensures no_run { asks at_work (codes "vera") (op.GetInstance (codes "f") (codes "r2") (codes "x")) ≡ Refuses fault.NoSuchRun }
+    ensures no_task { asks at_work (codes "vera") (op.GetInstance (codes "f") (codes "r") (codes "x")) ≡ Refuses fault.NoSuchTask }
+    ensures no_run_listed { asks at_work (codes "vera") (op.ListInstances (codes "f") (codes "r2")) ≡ Refuses fault.NoSuchRun }
+{}
+
+/// What is told of instances.
+pub fn instance_messages_by_the_rule()
+    ensures shown { is_told at_work (codes "vera") (op.GetInstance (codes "f") (codes "r") (codes "u")) ≡ Some (record { status = status.Ok; version = Some 0; seq = Some 3; body = Some (codes "{\"dag_id\":\"f\",\"dag_run_id\":\"r\",\"end_date\":null,\"pool\":\"slow \\\"lane\\\"\",\"pool_slots\":3,\"priority_weight\":-7,\"start_date\":\"1970-01-01T00:00:00.000005+00:00\",\"state\":\"running\",\"task_id\":\"u\",\"try_number\":2}") }) }
+    ensures listed { is_told at_work (codes "vera") (op.ListInstances (codes "f") (codes "r")) ≡ Some (record { status = status.Ok; version = Some 0; seq = Some 3; body = Some (codes "{\"task_instances\":[{\"dag_id\":\"f\",\"dag_run_id\":\"r\",\"end_date\":null,\"pool\":\"slow \\\"lane\\\"\",\"pool_slots\":3,\"priority_weight\":-7,\"start_date\":\"1970-01-01T00:00:00.000005+00:00\",\"state\":\"running\",\"task_id\":\"u\",\"try_number\":2},{\"dag_id\":\"f\",\"dag_run_id\":\"r\",\"end_date\":null,\"pool\":\"default_pool\",\"pool_slots\":1,\"priority_weight\":1,\"start_date\":null,\"state\":null,\"task_id\":\"t\",\"try_number\":0}],\"total_entries\":2}") }) }
+    ensures absent { is_told at_work (codes "vera") (op.GetInstance (codes "f") (codes "r") (codes "x")) ≡ Some (record { status = status.NotFound; version = Some 0; seq = Some 3; body = Some (codes "{\"detail\":\"no such task: x\",\"status\":404,\"title\":\"Not Found\",\"type\":\"about:blank\"}") }) }
+    ensures no_run { is_told at_work (codes "vera") (op.GetInstance (codes "f") (codes "r2") (codes "x")) ≡ Some (record { status = status.NotFound; version = Some 0; seq = Some 3; body = Some (codes "{\"detail\":\"no such run: r2\",\"status\":404,\"title\":\"Not Found\",\"type\":\"about:blank\"}") }) }
+    ensures denied { is_told later (codes "ron") (op.ListInstances (codes "b") (codes "r2")) ≡ Some (record { status = status.Forbidden; version = Some 0; seq = Some 2; body = Some (codes "{\"detail\":\"missing permission Task Instances.can_read\",\"status\":403,\"title\":\"Forbidden\",\"type\":\"about:blank\"}") }) }
 {}
