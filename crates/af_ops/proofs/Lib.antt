@@ -4,6 +4,7 @@ mod EditLemmas
 mod LawLemmas
 mod PageLemmas
 mod RunLemmas
+mod ShownLemmas
 mod TableLemmas
 mod TaskLemmas
 mod TellingLemmas

@@ -1,6 +1,6 @@
 -- A small policy and a small state, for worked values: a viewer, a user who may read one DAG, one who may read its runs too, one who
 -- may edit all, one without permissions, and three DAGs of one task, the first of them paused.
-use Rattle.std.specs.Prelude.{ℕ, pos, negsuc, List, [], ◌∷◌, ◌++◌, Bool, true, false, Option, Some, None, codes}
+use Rattle.std.specs.Prelude.{ℕ, ◌^◌, pos, negsuc, List, [], ◌∷◌, ◌++◌, Bool, true, false, Option, Some, None, codes}
 use Rattle.af_role.specs.declared.action.Action.TheVariants.{Read}
 use Rattle.af_role.specs.declared.resource.ResourceKind.TheVariants.{DagRuns}
 use Rattle.af_role.specs.Pairs.{on_dag, on_kind}
@@ -21,7 +21,7 @@ use Rattle.af_ops.specs.declared.shown_answer.Shown.{Shown}
 use Rattle.af_ops.specs.declared.trigger.Trigger.{Trigger}
 use Rattle.af_ops.specs.Edits.{with_run}
 use Rattle.af_ops.specs.Effects.{new_run}
-use Rattle.af_ops.specs.Rows.{InstanceTold}
+use Rattle.af_ops.specs.Rows.{InstanceTold, TaskTold}
 use Rattle.af_ops.specs.Served.{answer_of}
 use Rattle.af_ops.specs.Standings.{StandingRows}
 use Rattle.af_ops.specs.Verdicts.{Verdict, judged}
@@ -102,6 +102,14 @@ with_runs =
 abbrev pub later : StandingRows
 later = record { under = record { version = 0; seq = 2 }; state = with_runs }
 
+-- the same, where the history is full
+abbrev pub full_later : StandingRows
+full_later = record { under = record { version = 0; seq = 1_000_000 }; state = with_runs }
+
+-- no number is left for a run
+abbrev pub no_numbers : StandingRows
+no_numbers = record { under = record { version = 0; seq = 0 }; state = record (state_with false) { next_run = 2 ^ 64 } }
+
 -- the run of the DAG b
 abbrev pub second : Run
 second = queued_run 2 (new_run (dag (codes "b") false) (codes "b") (codes "r2") 2)
@@ -135,6 +143,13 @@ forked = record {
   is_paused = false;
   cursor = None;
 }
+
+-- its two tasks, as they are told
+abbrev pub waiting_told : TaskTold
+waiting_told = record { downstream = []; task = next_task }
+
+abbrev pub waited_told : TaskTold
+waited_told = record { downstream = codes "u" ∷ []; task = task }
 
 -- a run of it, r, and its first instance as it runs for the second time
 abbrev pub forked_run : Run

@@ -69,7 +69,8 @@ pub use trigger::Trigger;
 pub use worked::{
     bodies_by_the_rule, changes_by_the_rule, faults_by_the_rule, instance_messages_by_the_rule,
     instance_routes_by_the_rule, instances_by_the_rule, messages_by_the_rule, readings_by_the_rule,
-    routes_by_the_rule, run_messages_by_the_rule, runs_by_the_rule, triggers_by_the_rule,
+    routes_by_the_rule, run_messages_by_the_rule, runs_by_the_rule, tasks_by_the_rule,
+    triggers_by_the_rule,
 };
 
 #[cfg(test)]
