@@ -4,8 +4,8 @@
   python3 bench/differential.py                       2,000 cases of seed 1, after the examples and the limits
   python3 bench/differential.py --cases 20000 --seed 7
   python3 bench/differential.py --program 'PATH/PROGRAM'
-  python3 bench/differential.py --has landed,tasks    a program that also has the operations on tasks and instances
-  python3 bench/differential.py --baseline --has landed,tasks,changes
+  python3 bench/differential.py --has landed,changes  a program that also has the changes of runs, instances, pools and variables
+  python3 bench/differential.py --baseline --has landed,changes
                                                       the plain Rust program that bench.py measures beside afplane
   python3 bench/differential.py --write FOLDER --random-only --cases 300
                                                       the cases as files, for a program that is not proved yet

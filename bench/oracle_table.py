@@ -94,10 +94,9 @@ def table():
 OPERATIONS = table()
 
 # Names for sets of names: operations, members of the configuration that are read, and `pages`, the reading of `limit` and `offset`.
-LANDED = {"list_dags", "show_dag", "patch_dag", "list_runs", "trigger_run", "show_run"}
+LANDED = {"list_dags", "show_dag", "patch_dag", "list_runs", "trigger_run", "show_run", "list_tasks", "list_instances", "show_instance"}
 GROUPS = {
     "landed": LANDED,
-    "tasks": {"list_tasks", "list_instances", "show_instance"},
     "changes": {"mark_run", "delete_run", "clear_run", "clear_instances", "variables"}
     | {it.name for it in OPERATIONS if it.needs and it.needs[0][1] in (POOLS, VARIABLES)},
     "pages": {"pages", "list_entries", "history_limit"},

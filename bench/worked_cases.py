@@ -93,7 +93,7 @@ CONNECTIONS = [
         ("vera", f"GET {R2}", "", 200, on_day("b", 2), 5),
         ("vera", f"GET {RUNS}/r1", "", 404, "no such run: r1", 5),
     ]),
-    ("tasks and instances", "landed,tasks", NOW, {}, [
+    ("tasks and instances", "landed", NOW, {}, [
         *FIVE_RUNS,
         ("vera", f"GET {R2}/taskInstances/t", "", 200, instance_row(), 5),
         ("vera", f"GET {R2}/taskInstances", "", 200, listed("task_instances", 1, instance_row()), 5),
@@ -101,7 +101,7 @@ CONNECTIONS = [
         ("vera", "GET /dags/b/tasks", "", 200, listed("tasks", 1, TASK), 5),
         ("vera", f"GET {R2}/taskInstances/u", "", 404, "no such task: u", 5),
     ]),
-    ("pages of the runs of a reader of one DAG", "landed,tasks,pages", NOW, {}, [
+    ("pages of the runs of a reader of one DAG", "landed,pages", NOW, {}, [
         *FIVE_RUNS,
         ("ron", "GET /dags/~/dagRuns?limit=2&offset=1", "", 200, listed("dag_runs", 3, on_day("b", 3), on_day("b", 5)), 5),
         ("ron", "GET /dags/~/dagRuns?offset=9", "", 200, listed("dag_runs", 3), 5),
@@ -111,7 +111,7 @@ CONNECTIONS = [
         ("bob", "GET /dags/~/dagRuns?limit=-1", "", 403, "missing permission DAG Runs.can_read", 5),
         ("vera", "GET /dags/b/tasks?limit=x", "", 200, listed("tasks", 1, TASK), 5),
     ]),
-    ("marks and clears", "landed,tasks,changes", NOW, {}, [
+    ("marks and clears", "landed,changes", NOW, {}, [
         *FIVE_RUNS[:3],
         ("uma", f"PATCH {R2}", '{"state":"queued"}', 200, on_day("b", 2), 3),
         ("uma", f"PATCH {R2}", '{"state":"success"}', 200, run_row("b", "r2", "2024-01-02T00:00:00+00:00", "success", ENDED), 4),

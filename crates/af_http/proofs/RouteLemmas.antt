@@ -79,18 +79,17 @@ never (Part n ∷ ss) (u ∷ us) (b ∷ path) a f g =
 
 -- a place by its rank
 abbrev place_at : ℕ → Place
-place_at zero = place.Version
-place_at (suc zero) = place.Dags
-place_at (suc (suc zero)) = place.Dag
-place_at (suc (suc (suc zero))) = place.Runs
-place_at (suc (suc (suc (suc n)))) = place.Run
+place_at rank = get_or places rank place.Version
 
 ranked : (p : Place) → place_at (place_rank p) ≡ p
 ranked place.Version = refl
 ranked place.Dags = refl
 ranked place.Dag = refl
+ranked place.Tasks = refl
 ranked place.Runs = refl
 ranked place.Run = refl
+ranked place.Instances = refl
+ranked place.Instance = refl
 
 -- the place is in the list, and those before it are apart from it
 abbrev is_first : List Place → Place → Bool
@@ -101,8 +100,11 @@ first_place : (p : Place) → is_first places p ≡ true
 first_place place.Version = refl
 first_place place.Dags = refl
 first_place place.Dag = refl
+first_place place.Tasks = refl
 first_place place.Runs = refl
 first_place place.Run = refl
+first_place place.Instances = refl
+first_place place.Instance = refl
 
 abbrev Finds : List Place → List ℕ → Place → Type 0
 Finds ps path p = find (λ q. has_form (segments_of q) path) ps ≡ Some p

@@ -5,21 +5,24 @@ use Rattle.std.specs.Cmp.Lexicographic.{bytes_decides, nat_list_cmp_total}
 use Rattle.serde_json.specs.Data.{Data}
 use Rattle.af_base.specs.Readings.{◌>>=◌}
 use Rattle.af_names.proofs.OrderLemmas.{order-filter, order-take}
-use Rattle.af_runs.specs.Runs.{is_of, queued_run, run_of, runs_of}
+use Rattle.af_runs.specs.Runs.{add_fault, is_of, queued_run, run_of, runs_of}
+use Rattle.af_runs.specs.declared.run_fault.RunFault.{RunFault}
+use Rattle.af_runs.specs.declared.run_fault.RunFault.TheVariants as run_fault
 use Rattle.af_runs.specs.declared.run.Run.{Run}
 use Rattle.af_sched.specs.State.{StateRows, is_of_id, with_paused}
 use Rattle.af_sched.specs.State as sched
 use Rattle.af_sched.specs.declared.dag_row.DagRow.{DagRow}
 use Rattle.af_ops.specs.declared.answer.OpFault.{OpFault}
-use Rattle.af_ops.specs.declared.answer.OpFault.TheVariants.{NoSuchDag, NoSuchRun}
+use Rattle.af_ops.specs.declared.answer.OpFault.TheVariants.{NoSuchDag, NoSuchRun, NoSuchTask}
 use Rattle.af_ops.specs.declared.body_fault.BodyFault.{BodyFault}
 use Rattle.af_ops.specs.declared.op.Op.TheVariants as op
 use Rattle.af_ops.specs.declared.trigger.Trigger.{Trigger}
 use Rattle.af_ops.specs.Edits.{with_run}
-use Rattle.af_ops.specs.Effects.{Effect, added_run, differs, free_id, id_or, input_or, kept, listed_runs, new_run, paused_dag, pausing, runs_data, triggered_run}
+use Rattle.af_ops.specs.Effects.{Effect, added_run, differs, free_by, free_id, id_or, input_or, instance_of, instances_data, kept, listed_runs, new_run, paused_dag, pausing, runs_data, tasks_data, triggered_run}
 use Rattle.af_ops.specs.Laws.{ListingsGoById, ReadingsLeaveTheState, ChangesLeaveAnotherState, ChangesStayAtTheirDag, LeavesOthers}
 use Rattle.af_ops.specs.Listings.{read_rows}
-use Rattle.af_ops.specs.Replies.{dag_data, run_data}
+use Rattle.af_ops.specs.Replies.{dag_data, instance_data, run_data}
+use Rattle.af_ops.specs.Rows.{InstanceTold}
 use Rattle.af_ops.proofs.EditLemmas.{paused_apart, run_apart}
 
 none_some : {X : Type 0} {x : X} → None ≡ Some x → ⊥
@@ -59,6 +62,26 @@ run_kept None run effect is = cc
 run_kept (Some row) None effect is = cc
 run_kept (Some row) (Some run) effect is = kept_next (run_data run) effect is
 
+-- instances
+instances_kept : (dag : Option DagRow) (run : Option Run) (effect : Effect) → (ok_or dag NoSuchDag >>= (λ row. ok_or run NoSuchRun >>= (λ it. Ok (kept (instances_data row.dag.tasks it))))) ≡ Ok effect → effect.next ≡ None
+instances_kept None run effect is = cc
+instances_kept (Some row) None effect is = cc
+instances_kept (Some row) (Some run) effect is = kept_next (instances_data row.dag.tasks run) effect is
+
+told_kept : (told : Option InstanceTold) (effect : Effect) → (ok_or told NoSuchTask >>= (λ it. Ok (kept (instance_data it)))) ≡ Ok effect → effect.next ≡ None
+told_kept None effect is = cc
+told_kept (Some told) effect is = kept_next (instance_data told) effect is
+
+instance_kept : (dag : Option DagRow) (run : Option Run) (task_id : List ℕ) (effect : Effect) → (ok_or dag NoSuchDag >>= (λ row. ok_or run NoSuchRun >>= (λ it. ok_or (instance_of row.dag.tasks it task_id) NoSuchTask >>= (λ told. Ok (kept (instance_data told)))))) ≡ Ok effect → effect.next ≡ None
+instance_kept None run task_id effect is = cc
+instance_kept (Some row) None task_id effect is = cc
+instance_kept (Some row) (Some run) task_id effect is = told_kept (instance_of row.dag.tasks run task_id) effect is
+
+-- tasks
+tasks_kept : (dag : Option DagRow) (effect : Effect) → (ok_or dag NoSuchDag >>= (λ row. Ok (kept (tasks_data row.dag.tasks)))) ≡ Ok effect → effect.next ≡ None
+tasks_kept None effect is = cc
+tasks_kept (Some row) effect is = kept_next (tasks_data row.dag.tasks) effect is
+
 -- runs
 runs_kept : (dag : Option DagRow) (reply : Data) (effect : Effect) → (ok_or dag NoSuchDag >>= (λ row. Ok (kept reply))) ≡ Ok effect → effect.next ≡ None
 runs_kept None reply effect is = cc
@@ -73,9 +96,12 @@ readings_keep reads state op.Version now effect get is = cc
 readings_keep reads state op.ListDags now effect get is = cc
 readings_keep reads state (op.GetDag dag_id) now effect get is = got_kept (sched.dag_of state.dags dag_id) effect is
 readings_keep reads state (op.PauseDag dag_id input) now effect get is = cc
+readings_keep reads state (op.ListTasks dag_id) now effect get is = tasks_kept (sched.dag_of state.dags dag_id) effect is
 readings_keep reads state (op.ListRuns dag) now effect get is = listed_kept reads state dag effect is
 readings_keep reads state (op.TriggerRun dag_id input) now effect get is = cc
 readings_keep reads state (op.GetRun dag_id run_id) now effect get is = run_kept (sched.dag_of state.dags dag_id) (run_of state.runs dag_id run_id) effect is
+readings_keep reads state (op.ListInstances dag_id run_id) now effect get is = instances_kept (sched.dag_of state.dags dag_id) (run_of state.runs dag_id run_id) effect is
+readings_keep reads state (op.GetInstance dag_id run_id task_id) now effect get is = instance_kept (sched.dag_of state.dags dag_id) (run_of state.runs dag_id run_id) task_id effect is
 
 -- a DAG that is paused, or not: it was found and stood otherwise, and this is the next state
 pub record Pauses (state : StateRows) (dag_id : List ℕ) (next : StateRows) : Type 0 where
@@ -100,35 +126,55 @@ pauses_input (Err fault) state dag_id effect next is changes = cc
 pauses_input (Ok is_paused) state dag_id effect next is changes =
     pauses_found (sched.dag_of state.dags dag_id) state dag_id is_paused effect next refl is changes
 
--- a run that is triggered: its DAG was found, and this is the next state
-pub record Triggers (state : StateRows) (dag_id : List ℕ) (effect : Effect) : Type 0 where
+-- a run that is triggered: this was asked for, its DAG was found, and this is the next state
+pub record Triggers (state : StateRows) (dag_id : List ℕ) (input : Result Trigger BodyFault) (now : ℕ) (effect : Effect) : Type 0 where
+  pub asked : Trigger
   pub row : DagRow
-  pub run_id : List ℕ
   pub date : ℕ
+  pub run_id : List ℕ
+  pub read : input ≡ Ok asked
+  pub dated : date ≡ unwrap_or asked.logical_date now
+  pub named : run_id ≡ id_or asked.dag_run_id date
   pub found : sched.dag_of state.dags dag_id ≡ Some row
   pub next_is : effect.next ≡ Some (with_run state (new_run row dag_id run_id date))
 
-triggers_free : (free : Result (List ℕ) OpFault) (state : StateRows) (dag_id : List ℕ) (row : DagRow) (date : ℕ) (effect : Effect) → sched.dag_of state.dags dag_id ≡ Some row → (free >>= (λ run_id. Ok (added_run state (new_run row dag_id run_id date)))) ≡ Ok effect → Triggers state dag_id effect
+-- an id that is free is the one that was asked for
+free_same : (run_id found : List ℕ) (date : ℕ) (fault : Option RunFault) → free_by run_id date fault ≡ Ok found → found ≡ run_id
+free_same run_id found date None is = cc
+free_same run_id found date (Some run_fault.RunExists) is = cc
+free_same run_id found date (Some run_fault.DateTaken) is = cc
+free_same run_id found date (Some run_fault.Full) is = cc
+free_same run_id found date (Some run_fault.OutOfMemory) is = cc
+
+triggers_free : (free : Result (List ℕ) OpFault) (state : StateRows) (dag_id : List ℕ) (asked : Trigger) (now : ℕ) (row : DagRow) (effect : Effect)
+    → ((run_id : List ℕ) → free ≡ Ok run_id → run_id ≡ id_or asked.dag_run_id (unwrap_or asked.logical_date now)) → sched.dag_of state.dags dag_id ≡ Some row
+    → (free >>= (λ run_id. Ok (added_run state (new_run row dag_id run_id (unwrap_or asked.logical_date now))))) ≡ Ok effect → Triggers state dag_id (Ok asked) now effect
 unfolding next_in
-triggers_free (Err fault) state dag_id row date effect found is = cc
-triggers_free (Ok run_id) state dag_id row date effect found is =
-    record { row = row; run_id = run_id; date = date; found = found; next_is = ap (λ (r : Result Effect OpFault). next_in r) (sym is) }
+triggers_free (Err fault) state dag_id asked now row effect named found is = cc
+triggers_free (Ok run_id) state dag_id asked now row effect named found is = record {
+  asked = asked;
+  row = row;
+  date = unwrap_or asked.logical_date now;
+  run_id = run_id;
+  read = refl;
+  dated = refl;
+  named = named run_id refl;
+  found = found;
+  next_is = ap (λ (r : Result Effect OpFault). next_in r) (sym is);
+}
 
-triggers_found : (found : Option DagRow) (state : StateRows) (dag_id : List ℕ) (asked : Trigger) (date : ℕ) (effect : Effect) → sched.dag_of state.dags dag_id ≡ found
-    → (ok_or found NoSuchDag >>= (λ row. free_id state dag_id (id_or asked.dag_run_id date) date >>= (λ run_id. Ok (added_run state (new_run row dag_id run_id date))))) ≡ Ok effect → Triggers state dag_id effect
-triggers_found None state dag_id asked date effect found is = cc
-triggers_found (Some row) state dag_id asked date effect found is =
-    triggers_free (free_id state dag_id (id_or asked.dag_run_id date) date) state dag_id row date effect found is
+triggers_found : (found : Option DagRow) (state : StateRows) (dag_id : List ℕ) (asked : Trigger) (now : ℕ) (effect : Effect) → sched.dag_of state.dags dag_id ≡ found
+    → (ok_or found NoSuchDag >>= (λ row. free_id state dag_id (id_or asked.dag_run_id (unwrap_or asked.logical_date now)) (unwrap_or asked.logical_date now) >>= (λ run_id. Ok (added_run state (new_run row dag_id run_id (unwrap_or asked.logical_date now)))))) ≡ Ok effect
+    → Triggers state dag_id (Ok asked) now effect
+triggers_found None state dag_id asked now effect found is = cc
+triggers_found (Some row) state dag_id asked now effect found is =
+    let date = unwrap_or asked.logical_date now in
+    triggers_free (free_id state dag_id (id_or asked.dag_run_id date) date) state dag_id asked now row effect
+    (λ run_id free. free_same (id_or asked.dag_run_id date) run_id date (add_fault state.runs state.next_run dag_id (id_or asked.dag_run_id date) date) free) found is
 
-triggers_input : (input : Result Trigger OpFault) (state : StateRows) (dag_id : List ℕ) (now : ℕ) (effect : Effect)
-    → (input >>= (λ asked. ok_or (sched.dag_of state.dags dag_id) NoSuchDag >>= (λ row. free_id state dag_id (id_or asked.dag_run_id (unwrap_or asked.logical_date now)) (unwrap_or asked.logical_date now) >>= (λ run_id. Ok (added_run state (new_run row dag_id run_id (unwrap_or asked.logical_date now))))))) ≡ Ok effect
-    → Triggers state dag_id effect
-triggers_input (Err fault) state dag_id now effect is = cc
-triggers_input (Ok asked) state dag_id now effect is =
-    triggers_found (sched.dag_of state.dags dag_id) state dag_id asked (unwrap_or asked.logical_date now) effect refl is
-
-pub triggers : (state : StateRows) (dag_id : List ℕ) (input : Result Trigger BodyFault) (now : ℕ) (effect : Effect) → triggered_run state dag_id input now ≡ Ok effect → Triggers state dag_id effect
-triggers state dag_id input now effect is = triggers_input (input_or input) state dag_id now effect is
+pub triggers : (state : StateRows) (dag_id : List ℕ) (input : Result Trigger BodyFault) (now : ℕ) (effect : Effect) → triggered_run state dag_id input now ≡ Ok effect → Triggers state dag_id input now effect
+triggers state dag_id (Err why) now effect is = cc
+triggers state dag_id (Ok asked) now effect is = triggers_found (sched.dag_of state.dags dag_id) state dag_id asked now effect refl is
 
 pub pauses : (state : StateRows) (dag_id : List ℕ) (input : Result Bool BodyFault) (effect : Effect) (next : StateRows) → paused_dag state dag_id input ≡ Ok effect → effect.next ≡ Some next → Pauses state dag_id next
 pauses state dag_id input effect next is changes = pauses_input (input_or input) state dag_id effect next is changes
@@ -144,11 +190,14 @@ changes_differ reads state (op.GetDag dag_id) now effect next is changes same = 
 changes_differ reads state (op.PauseDag dag_id input) now effect next is changes same =
     let it = pauses state dag_id input effect next is changes in
     paused_apart dag_id it.is_paused state.dags it.row it.found it.differ (ap (λ (s : StateRows). s.dags) (sym it.next_is ∙ same))
+changes_differ reads state (op.ListTasks dag_id) now effect next is changes same = unchanged effect next (readings_keep reads state (op.ListTasks dag_id) now effect refl is) changes
 changes_differ reads state (op.ListRuns dag) now effect next is changes same = unchanged effect next (readings_keep reads state (op.ListRuns dag) now effect refl is) changes
 changes_differ reads state (op.TriggerRun dag_id input) now effect next is changes same =
     let it = triggers state dag_id input now effect is in
     run_apart state (new_run it.row dag_id it.run_id it.date) (some_same (sym it.next_is ∙ changes) ∙ same)
 changes_differ reads state (op.GetRun dag_id run_id) now effect next is changes same = unchanged effect next (readings_keep reads state (op.GetRun dag_id run_id) now effect refl is) changes
+changes_differ reads state (op.ListInstances dag_id run_id) now effect next is changes same = unchanged effect next (readings_keep reads state (op.ListInstances dag_id run_id) now effect refl is) changes
+changes_differ reads state (op.GetInstance dag_id run_id task_id) now effect next is changes same = unchanged effect next (readings_keep reads state (op.GetInstance dag_id run_id task_id) now effect refl is) changes
 
 -- the other rows are passed over
 kept_row : (is is_paused : Bool) (dag_id : List ℕ) (row : DagRow) (new old : List DagRow) → is_of_id dag_id row ≡ is → filter (λ r. not (is_of_id dag_id r)) new ≡ filter (λ r. not (is_of_id dag_id r)) old
@@ -174,8 +223,8 @@ filter_last : {X : Type 0} (p : X → Bool) (xs : List X) (x : X) → p x ≡ fa
 filter_last p [] x none = ap (λ (b : Bool). cond b (x ∷ []) []) none
 filter_last p (y ∷ xs) x none = ap (λ rest. cond (p y) (y ∷ rest) rest) (filter_last p xs x none)
 
-triggers_stay : (state : StateRows) (dag_id : List ℕ) (effect : Effect) (next : StateRows) → Triggers state dag_id effect → effect.next ≡ Some next → LeavesOthers dag_id state next
-triggers_stay state dag_id effect next it changes =
+triggers_stay : (state : StateRows) (dag_id : List ℕ) (input : Result Trigger BodyFault) (now : ℕ) (effect : Effect) (next : StateRows) → Triggers state dag_id input now effect → effect.next ≡ Some next → LeavesOthers dag_id state next
+triggers_stay state dag_id input now effect next it changes =
     subst (λ (s : StateRows). LeavesOthers dag_id state s) (some_same (sym it.next_is ∙ changes)) (record {
       dags = refl;
       runs = filter_last (λ run. not (is_of dag_id run)) state.runs (queued_run state.next_run (new_run it.row dag_id it.run_id it.date)) (ap not ((bytes_decides dag_id dag_id).1 refl));
@@ -188,7 +237,10 @@ changes_stay reads state op.ListDags now effect next at is changes names = uncha
 changes_stay reads state (op.GetDag dag_id) now effect next at is changes names = unchanged effect next (readings_keep reads state (op.GetDag dag_id) now effect refl is) changes
 changes_stay reads state (op.PauseDag dag_id input) now effect next at is changes names =
     subst (λ (id : List ℕ). LeavesOthers id state next) (some_same names) (pauses_stay state dag_id next (pauses state dag_id input effect next is changes))
+changes_stay reads state (op.ListTasks dag_id) now effect next at is changes names = unchanged effect next (readings_keep reads state (op.ListTasks dag_id) now effect refl is) changes
 changes_stay reads state (op.ListRuns dag) now effect next at is changes names = unchanged effect next (readings_keep reads state (op.ListRuns dag) now effect refl is) changes
 changes_stay reads state (op.TriggerRun dag_id input) now effect next at is changes names =
-    subst (λ (id : List ℕ). LeavesOthers id state next) (some_same names) (triggers_stay state dag_id effect next (triggers state dag_id input now effect is) changes)
+    subst (λ (id : List ℕ). LeavesOthers id state next) (some_same names) (triggers_stay state dag_id input now effect next (triggers state dag_id input now effect is) changes)
 changes_stay reads state (op.GetRun dag_id run_id) now effect next at is changes names = unchanged effect next (readings_keep reads state (op.GetRun dag_id run_id) now effect refl is) changes
+changes_stay reads state (op.ListInstances dag_id run_id) now effect next at is changes names = unchanged effect next (readings_keep reads state (op.ListInstances dag_id run_id) now effect refl is) changes
+changes_stay reads state (op.GetInstance dag_id run_id task_id) now effect next at is changes names = unchanged effect next (readings_keep reads state (op.GetInstance dag_id run_id task_id) now effect refl is) changes

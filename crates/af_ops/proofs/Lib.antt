@@ -4,6 +4,8 @@ mod EditLemmas
 mod LawLemmas
 mod PageLemmas
 mod RunLemmas
+mod ShownLemmas
 mod TableLemmas
+mod TaskLemmas
 mod TellingLemmas
 mod TextLemmas

@@ -32,3 +32,9 @@ listing_now name now f limit offset shown xs ys total page is count =
     ap₂ (λ (rows : List Data) (n : ℕ). compact_text (listing_of name rows n))
     (ap (map (λ x. object_of (f (now x)))) page ∙ page_now now (λ y. object_of (f y)) limit offset xs ys is)
     (count ∙ sym (length-map xs now) ∙ ap length is)
+
+-- a listing of all of some lent rows
+pub all_now : {X Y : Type 0} (name : List ℕ) (now : X → Y) (f : Y → List Field) (xs : List X) (ys : List Y) (total count : ℕ) → map now xs ≡ ys → total ≡ count
+    → compact_text (listing_of name (map (λ x. object_of (f (now x))) xs) total) ≡ compact_text (listing_of name (map (λ y. object_of (f y)) ys) count)
+all_now name now f xs ys total count is counts =
+    ap₂ (λ (rows : List Data) (n : ℕ). compact_text (listing_of name rows n)) (map_now now (λ y. object_of (f y)) xs ∙ ap (map (λ y. object_of (f y))) is) counts

@@ -12,7 +12,7 @@ use Rattle.af_sched.specs.State.{StateRows}
 use Rattle.af_sched.specs.declared.dag_row.DagRow.{DagRow}
 use Rattle.af_ops.specs.declared.op.Op.TheVariants as op
 use Rattle.af_ops.specs.Edits.{with_run}
-use Rattle.af_ops.specs.Effects.{new_run}
+use Rattle.af_ops.specs.Effects.{id_or, new_run}
 use Rattle.af_ops.specs.Laws.{RunNumbersRise, RunsListedAreThoseRead, TriggersAddARun}
 use Rattle.af_ops.proofs.LawLemmas.{pauses, readings_keep, some_same, triggers, unchanged}
 
@@ -40,21 +40,32 @@ pub adds_run : TriggersAddARun
 adds_run reads state dag_id input now effect kept is =
     let it = triggers state dag_id input now effect is in
     let new = new_run it.row dag_id it.run_id it.date in (
-      with_run state new,
-      it.next_is,
+      it.asked,
+      it.read,
       (
-        queued_run state.next_run new,
-        record {
-          last = refl;
-          of_dag = refl;
-          queued = refl;
-          whole = ap (option_map (λ (row : DagRow). length row.dag.tasks)) it.found ∙ ap Some (sym (length-map it.row.dag.tasks new_instance));
-          untried = All-map (λ (it : Instance). (it.state ≡ NoStatus) × (it.try_number ≡ 0)) new_instance it.row.dag.tasks (λ k d within. (refl, refl));
-          above = kept.numbered;
-          next = refl;
-          dags = refl;
-          pools = refl;
-        },
+        with_run state new,
+        it.next_is,
+        (
+          queued_run state.next_run new,
+          record {
+            last = refl;
+            of_dag = refl;
+            named = it.named ∙ ap (id_or it.asked.dag_run_id) it.dated;
+            dated = it.dated;
+            begins = it.dated;
+            ends = it.dated;
+            manual = refl;
+            queued = refl;
+            not_begun = refl;
+            not_ended = refl;
+            whole = ap (option_map (λ (row : DagRow). length row.dag.tasks)) it.found ∙ ap Some (sym (length-map it.row.dag.tasks new_instance));
+            untried = All-map (λ (it : Instance). (it.state ≡ NoStatus) × (it.try_number ≡ 0)) new_instance it.row.dag.tasks (λ k d within. (refl, refl));
+            above = kept.numbered;
+            next = refl;
+            dags = refl;
+            pools = refl;
+          },
+        ),
       ),
     )
 
@@ -65,8 +76,11 @@ numbers_rise reads state (op.GetDag dag_id) now effect next is changes = unchang
 numbers_rise reads state (op.PauseDag dag_id input) now effect next is changes =
     let it = pauses state dag_id input effect next is changes in
     subst (λ (s : StateRows). state.next_run ≤ s.next_run) (sym it.next_is) (omega arith)
+numbers_rise reads state (op.ListTasks dag_id) now effect next is changes = unchanged effect next (readings_keep reads state (op.ListTasks dag_id) now effect refl is) changes
 numbers_rise reads state (op.ListRuns dag) now effect next is changes = unchanged effect next (readings_keep reads state (op.ListRuns dag) now effect refl is) changes
 numbers_rise reads state (op.TriggerRun dag_id input) now effect next is changes =
     let it = triggers state dag_id input now effect is in
     subst (λ (s : StateRows). state.next_run ≤ s.next_run) (some_same (sym it.next_is ∙ changes)) (omega arith)
 numbers_rise reads state (op.GetRun dag_id run_id) now effect next is changes = unchanged effect next (readings_keep reads state (op.GetRun dag_id run_id) now effect refl is) changes
+numbers_rise reads state (op.ListInstances dag_id run_id) now effect next is changes = unchanged effect next (readings_keep reads state (op.ListInstances dag_id run_id) now effect refl is) changes
+numbers_rise reads state (op.GetInstance dag_id run_id task_id) now effect next is changes = unchanged effect next (readings_keep reads state (op.GetInstance dag_id run_id task_id) now effect refl is) changes

@@ -11,7 +11,7 @@ use Rattle.af_ops.specs.declared.method.Method.TheVariants.{Get, Post, Patch, De
 use Rattle.af_ops.specs.declared.op.Op.{Op}
 use Rattle.af_ops.specs.declared.op.Op.TheVariants as op
 use Rattle.af_ops.specs.Bodies.{pause_in, trigger_in}
-use Rattle.af_ops.specs.Endpoints.{both, dag_id_in, dag_of, endpoint_of, is_all, run_id_in}
+use Rattle.af_ops.specs.Endpoints.{both, dag_id_in, dag_of, endpoint_of, is_all, run_id_in, task_id_in}
 use Rattle.af_ops.specs.Laws.{EachIsFound, Matches, OneRowAtMost, OperationsAreOfTheirRow}
 use Rattle.af_ops.specs.Methods.{same_method}
 use Rattle.af_ops.specs.Table.{Segment, Text, Part, endpoints, route_of, segments_of}
@@ -76,9 +76,12 @@ rank endpoint.Version = 0
 rank endpoint.ListDags = 1
 rank endpoint.GetDag = 2
 rank endpoint.PauseDag = 3
-rank endpoint.ListRuns = 4
-rank endpoint.TriggerRun = 5
-rank endpoint.GetRun = 6
+rank endpoint.ListTasks = 4
+rank endpoint.ListRuns = 5
+rank endpoint.TriggerRun = 6
+rank endpoint.GetRun = 7
+rank endpoint.ListInstances = 8
+rank endpoint.GetInstance = 9
 
 stands : (it d : Endpoint) → get_or endpoints (rank it) d ≡ it
 unfolding rank
@@ -86,9 +89,12 @@ stands endpoint.Version d = refl
 stands endpoint.ListDags d = refl
 stands endpoint.GetDag d = refl
 stands endpoint.PauseDag d = refl
+stands endpoint.ListTasks d = refl
 stands endpoint.ListRuns d = refl
 stands endpoint.TriggerRun d = refl
 stands endpoint.GetRun d = refl
+stands endpoint.ListInstances d = refl
+stands endpoint.GetInstance d = refl
 
 inside : (it : Endpoint) → rank it < length endpoints
 unfolding rank
@@ -96,9 +102,12 @@ inside endpoint.Version = omega arith
 inside endpoint.ListDags = omega arith
 inside endpoint.GetDag = omega arith
 inside endpoint.PauseDag = omega arith
+inside endpoint.ListTasks = omega arith
 inside endpoint.ListRuns = omega arith
 inside endpoint.TriggerRun = omega arith
 inside endpoint.GetRun = omega arith
+inside endpoint.ListInstances = omega arith
+inside endpoint.GetInstance = omega arith
 
 same-refl : (method : Method) → same_method method method ≡ true
 same-refl Get = refl
@@ -123,9 +132,12 @@ each_found endpoint.Version = refl
 each_found endpoint.ListDags = refl
 each_found endpoint.GetDag = refl
 each_found endpoint.PauseDag = refl
+each_found endpoint.ListTasks = refl
 each_found endpoint.ListRuns = refl
 each_found endpoint.TriggerRun = refl
 each_found endpoint.GetRun = refl
+each_found endpoint.ListInstances = refl
+each_found endpoint.GetInstance = refl
 
 -- ---- what is read of a row
 
@@ -158,6 +170,12 @@ all_or_one true parts asked all is =
 all_or_one false parts asked all is =
     mapped (λ id. op.ListRuns (Some id)) endpoint.ListRuns (dag_id_in parts) asked (λ id. refl) (λ id. refl) is
 
+mapped_three : (dag run task : Option (List ℕ)) (asked : Op) → option_map (λ ids. op.GetInstance ids.0.0 ids.0.1 ids.1) (both (both dag run) task) ≡ Some asked → (endpoint_of asked ≡ endpoint.GetInstance) × (dag_of asked ≡ dag)
+mapped_three (Some id) (Some run_id) (Some task_id) asked is = (ap endpoint_of (sym (some_same is)), ap dag_of (sym (some_same is)))
+mapped_three (Some id) (Some run_id) None asked is = cc
+mapped_three (Some id) None task asked is = cc
+mapped_three None run task asked is = cc
+
 pub of_their_row : OperationsAreOfTheirRow
 of_their_row endpoint.Version parts body asked is = (ap endpoint_of (sym (some_same is)), ap dag_of (sym (some_same is)))
 of_their_row endpoint.ListDags parts body asked is = (ap endpoint_of (sym (some_same is)), ap dag_of (sym (some_same is)))
@@ -165,8 +183,13 @@ of_their_row endpoint.GetDag parts body asked is =
     mapped (λ id. op.GetDag id) endpoint.GetDag (dag_id_in parts) asked (λ id. refl) (λ id. refl) is
 of_their_row endpoint.PauseDag parts body asked is =
     mapped (λ id. op.PauseDag id (pause_in body)) endpoint.PauseDag (dag_id_in parts) asked (λ id. refl) (λ id. refl) is
+of_their_row endpoint.ListTasks parts body asked is =
+    mapped (λ id. op.ListTasks id) endpoint.ListTasks (dag_id_in parts) asked (λ id. refl) (λ id. refl) is
 of_their_row endpoint.ListRuns parts body asked is = all_or_one (is_all parts) parts asked refl is
 of_their_row endpoint.TriggerRun parts body asked is =
     mapped (λ id. op.TriggerRun id (trigger_in body)) endpoint.TriggerRun (dag_id_in parts) asked (λ id. refl) (λ id. refl) is
 of_their_row endpoint.GetRun parts body asked is =
     mapped_both (λ id run_id. op.GetRun id run_id) endpoint.GetRun (dag_id_in parts) (run_id_in parts) asked (λ id run_id. refl) (λ id run_id. refl) is
+of_their_row endpoint.ListInstances parts body asked is =
+    mapped_both (λ id run_id. op.ListInstances id run_id) endpoint.ListInstances (dag_id_in parts) (run_id_in parts) asked (λ id run_id. refl) (λ id run_id. refl) is
+of_their_row endpoint.GetInstance parts body asked is = mapped_three (dag_id_in parts) (run_id_in parts) (task_id_in parts) asked is

@@ -1,5 +1,5 @@
 -- A member's bytes are the text of the member, and a row's members with their braces the text of the row.
-use Rattle.std.proofs.Common.{ℤ, ◌<◌, inl, inr, pos, negsuc, ◌≡◌, ◌≤◌, ℕ, Bool, true, false, cond, List, [], ◌∷◌, ◌++◌, refl, sym, ◌∙◌, ap, append_assoc, length, nat_le, ◌||◌, ◌==◌}
+use Rattle.std.proofs.Common.{Bor, map, subst, ℤ, ◌<◌, inl, inr, pos, negsuc, ◌≡◌, ◌≤◌, ℕ, Bool, true, false, cond, List, [], ◌∷◌, ◌++◌, refl, sym, ◌∙◌, ap, append_assoc, length, nat_le, ◌||◌, ◌==◌}
 use Rattle.std.specs.List.{list_all}
 use Rattle.std.proofs.lemmas.Bool.{and_parts, or_parts, not-true, ne_eqb, le-ltb, false≢true, eqb-false, ltb-false, cases_lt, agree_below_at}
 use Rattle.std.proofs.lemmas.List.{append-nil}
@@ -8,11 +8,13 @@ use Rattle.af_names.specs.Names.{is_id_byte, is_run_byte}
 use Rattle.json.specs.Run.{is_plain}
 use Rattle.json.specs.Print.{escape, quoted}
 use Rattle.json.proofs.Printed.Strings.{escape_byte_plain}
-use Rattle.serde_json.specs.Data.{Data, string}
+use Rattle.serde_json.specs.Data.{Data, array, string}
+use Rattle.serde_json.specs.View.{items_of}
 use Rattle.serde_json.specs.Written.{comma_if, compact_text, members_text, number_text}
 use Rattle.serde_json.specs.Find.{of_integer}
 use Rattle.af_ops.specs.Fields.{Field, members_from, object_of}
 use Rattle.af_ops.specs.Texts.{Filling, Adds, front, is_name, member_text}
+use Rattle.af_ops.proofs.PageLemmas.{map_now}
 
 -- a text with no byte that wants an escape stands as it is
 pub plain_is : (s : List ℕ) → list_all is_plain s ≡ true → escape s ≡ s
@@ -121,3 +123,9 @@ adds_pieces later old new name head rest d named is items room =
 pub integer_is : (z : ℤ) → number_text (of_integer z) ≡ signed_decimal z
 integer_is (pos n) = refl
 integer_is (negsuc n) = refl
+
+-- a list of lent texts is the list of the texts
+pub texts_now : (old new : Filling) (name : List ℕ) (lent : List (Bor (List ℕ))) (texts : List (List ℕ)) → map (λ text. text.now) lent ≡ texts
+    → Adds false old new ((name, array (items_of (map (λ text. string text.now) lent))) ∷ []) → Adds false old new ((name, array (items_of (map (λ text. string text) texts))) ∷ [])
+texts_now old new name lent texts is adds =
+    subst (λ (items : List Data). Adds false old new ((name, array (items_of items)) ∷ [])) (map_now (λ (text : Bor (List ℕ)). text.now) (λ (text : List ℕ). string text) lent ∙ ap (map (λ (text : List ℕ). string text)) is) adds

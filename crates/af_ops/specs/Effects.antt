@@ -1,11 +1,16 @@
 -- What a permitted operation does: its reply and the state after it, or the first fault in the order of `OpFault`. Each next
 -- state is a map or a filter over the lists of the state, or one row more at their end.
-use Rattle.std.specs.Prelude.{ℕ, ◌++◌, List, Bool, not, map, length, Option, Some, None, ok_or, unwrap_or, Result, Ok, Err, codes, if◌then◌else◌}
+use Rattle.std.specs.Prelude.{ℕ, [], ◌++◌, List, Bool, not, map, length, zip, Option, Some, None, option_map, option_and_then, ok_or, unwrap_or, Result, Ok, Err, codes, if◌then◌else◌}
 use Rattle.serde_json.specs.Data.{Data}
 use Rattle.serde_json.specs.Written.{compact_text}
 use Rattle.af_names.specs.Isoformat.{isoformat}
+use Rattle.std.specs.List.{enumerate_from, slice_get}
+use Rattle.std.specs.Option.{option_map_or}
+use Rattle.af_graph.specs.Graph.{downstream_of, place_of}
+use Rattle.af_graph.specs.declared.task_spec.TaskSpec.{TaskSpec}
 use Rattle.af_runs.specs.Instances.{new_instances}
 use Rattle.af_runs.specs.Runs.{add_fault, queued_run, run_of, runs_of}
+use Rattle.af_runs.specs.declared.instance.Instance.{Instance}
 use Rattle.af_runs.specs.declared.new_run.NewRun.{NewRun}
 use Rattle.af_runs.specs.declared.run.Run.{Run}
 use Rattle.af_runs.specs.declared.run_fault.RunFault.{RunFault}
@@ -14,10 +19,12 @@ use Rattle.af_runs.specs.declared.run_type.RunType.TheVariants.{Manual}
 use Rattle.af_sched.specs.State.{StateRows, with_paused, dag_of}
 use Rattle.af_sched.specs.declared.dag_row.DagRow.{DagRow}
 use Rattle.af_ops.specs.Edits.{with_run}
+use Rattle.af_ops.specs.Endpoints.{both}
 use Rattle.af_ops.specs.Fields.{listing_of}
 use Rattle.af_ops.specs.Listings.{default_limit, page, read_rows}
 use Rattle.af_base.specs.Readings.{◌>>=◌}
-use Rattle.af_ops.specs.Replies.{dag_data, run_data, version_data}
+use Rattle.af_ops.specs.Replies.{dag_data, instance_data, run_data, task_data, version_data}
+use Rattle.af_ops.specs.Rows.{InstanceTold, TaskTold}
 use Rattle.af_ops.specs.declared.answer.OpFault.{OpFault}
 use Rattle.af_ops.specs.declared.answer.OpFault.TheVariants as fault
 use Rattle.af_ops.specs.declared.body_fault.BodyFault.{BodyFault}
@@ -86,6 +93,31 @@ paused_dag state dag_id input = do
   row ← dag_or state dag_id
   Ok (pausing state dag_id row is_paused)
 
+-- the id of the task at a place
+abbrev pub id_at : List TaskSpec → ℕ → List ℕ
+id_at tasks place = option_map_or (λ task. task.task_id) (slice_get tasks place) []
+
+-- the ids of the tasks directly downstream of the task at a place, in the order of the definition, each once
+abbrev pub downstream_ids : List TaskSpec → ℕ → List (List ℕ)
+downstream_ids tasks place = map (id_at tasks) (downstream_of tasks place)
+
+-- these tasks, which stand at the first places among all of a DAG
+abbrev pub first_told : List TaskSpec → List TaskSpec → List TaskTold
+first_told all tasks = map (λ at. record { downstream = downstream_ids all at.0; task = at.1 }) (enumerate_from 0 tasks)
+
+-- the tasks of a DAG, in the order of the definition
+abbrev pub tasks_told : List TaskSpec → List TaskTold
+tasks_told tasks = first_told tasks tasks
+
+-- all of them, for there are no pages of tasks
+abbrev pub tasks_data : List TaskSpec → Data
+tasks_data tasks = listing_of (codes "tasks") (map task_data (tasks_told tasks)) (length tasks)
+
+abbrev pub listed_tasks : StateRows → List ℕ → Result Effect OpFault
+listed_tasks state dag_id = do
+  row ← dag_or state dag_id
+  Ok (kept (tasks_data row.dag.tasks))
+
 -- the first page of these runs
 abbrev pub runs_data : List Run → Data
 runs_data runs = listing_of (codes "dag_runs") (map run_data (page default_limit 0 runs)) (length runs)
@@ -106,6 +138,41 @@ got_run state dag_id run_id = do
   row ← dag_or state dag_id
   run ← run_or state dag_id run_id
   Ok (kept (run_data run))
+
+-- instances of a run, each with its task
+abbrev pub each_told : Run → List TaskSpec → List Instance → List InstanceTold
+each_told run tasks instances = map (λ at. record { run = run; task = at.0; instance = at.1 }) (zip tasks instances)
+
+-- the instances of a run, in the order of the definition
+abbrev pub instances_told : List TaskSpec → Run → List InstanceTold
+instances_told tasks run = each_told run tasks run.instances
+
+-- the first page of them
+abbrev pub instances_data : List TaskSpec → Run → Data
+instances_data tasks run =
+    listing_of (codes "task_instances") (map instance_data (page default_limit 0 (instances_told tasks run)))
+    (length (instances_told tasks run))
+
+abbrev pub listed_instances : StateRows → List ℕ → List ℕ → Result Effect OpFault
+listed_instances state dag_id run_id = do
+  row ← dag_or state dag_id
+  run ← run_or state dag_id run_id
+  Ok (kept (instances_data row.dag.tasks run))
+
+-- the instance at a place, and that of a task's id
+abbrev pub instance_at : List TaskSpec → Run → ℕ → Option InstanceTold
+instance_at tasks run place =
+    option_map (λ at. record { run = run; task = at.0; instance = at.1 }) (both (slice_get tasks place) (slice_get run.instances place))
+
+abbrev pub instance_of : List TaskSpec → Run → List ℕ → Option InstanceTold
+instance_of tasks run task_id = option_and_then (instance_at tasks run) (place_of tasks task_id)
+
+abbrev pub got_instance : StateRows → List ℕ → List ℕ → List ℕ → Result Effect OpFault
+got_instance state dag_id run_id task_id = do
+  row ← dag_or state dag_id
+  run ← run_or state dag_id run_id
+  told ← ok_or (instance_of row.dag.tasks run task_id) fault.NoSuchTask
+  Ok (kept (instance_data told))
 
 -- the id that is made of a date: `manual__` and the date
 unfoldable pub made_id : ℕ → List ℕ
@@ -158,6 +225,9 @@ effect_of reads state op.Version now = Ok (kept version_data)
 effect_of reads state op.ListDags now = Ok (kept (dags_data reads state.dags))
 effect_of reads state (op.GetDag dag_id) now = got_dag state dag_id
 effect_of reads state (op.PauseDag dag_id input) now = paused_dag state dag_id input
+effect_of reads state (op.ListTasks dag_id) now = listed_tasks state dag_id
 effect_of reads state (op.ListRuns dag) now = listed_runs reads state dag
 effect_of reads state (op.TriggerRun dag_id input) now = triggered_run state dag_id input now
 effect_of reads state (op.GetRun dag_id run_id) now = got_run state dag_id run_id
+effect_of reads state (op.ListInstances dag_id run_id) now = listed_instances state dag_id run_id
+effect_of reads state (op.GetInstance dag_id run_id task_id) now = got_instance state dag_id run_id task_id

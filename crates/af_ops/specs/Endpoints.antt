@@ -20,9 +20,12 @@ endpoint_of op.Version = endpoint.Version
 endpoint_of op.ListDags = endpoint.ListDags
 endpoint_of (op.GetDag dag_id) = endpoint.GetDag
 endpoint_of (op.PauseDag dag_id input) = endpoint.PauseDag
+endpoint_of (op.ListTasks dag_id) = endpoint.ListTasks
 endpoint_of (op.ListRuns dag) = endpoint.ListRuns
 endpoint_of (op.TriggerRun dag_id input) = endpoint.TriggerRun
 endpoint_of (op.GetRun dag_id run_id) = endpoint.GetRun
+endpoint_of (op.ListInstances dag_id run_id) = endpoint.ListInstances
+endpoint_of (op.GetInstance dag_id run_id task_id) = endpoint.GetInstance
 
 -- the DAG that an operation names, or none
 abbrev pub dag_of : Op → Option (List ℕ)
@@ -30,9 +33,12 @@ dag_of op.Version = None
 dag_of op.ListDags = None
 dag_of (op.GetDag dag_id) = Some dag_id
 dag_of (op.PauseDag dag_id input) = Some dag_id
+dag_of (op.ListTasks dag_id) = Some dag_id
 dag_of (op.ListRuns dag) = dag
 dag_of (op.TriggerRun dag_id input) = Some dag_id
 dag_of (op.GetRun dag_id run_id) = Some dag_id
+dag_of (op.ListInstances dag_id run_id) = Some dag_id
+dag_of (op.GetInstance dag_id run_id task_id) = Some dag_id
 
 -- the run that an operation names, or none
 abbrev pub run_of : Op → Option (List ℕ)
@@ -40,9 +46,25 @@ run_of op.Version = None
 run_of op.ListDags = None
 run_of (op.GetDag dag_id) = None
 run_of (op.PauseDag dag_id input) = None
+run_of (op.ListTasks dag_id) = None
 run_of (op.ListRuns dag) = None
 run_of (op.TriggerRun dag_id input) = None
 run_of (op.GetRun dag_id run_id) = Some run_id
+run_of (op.ListInstances dag_id run_id) = Some run_id
+run_of (op.GetInstance dag_id run_id task_id) = Some run_id
+
+-- the task that an operation names, or none
+abbrev pub task_of : Op → Option (List ℕ)
+task_of op.Version = None
+task_of op.ListDags = None
+task_of (op.GetDag dag_id) = None
+task_of (op.PauseDag dag_id input) = None
+task_of (op.ListTasks dag_id) = None
+task_of (op.ListRuns dag) = None
+task_of (op.TriggerRun dag_id input) = None
+task_of (op.GetRun dag_id run_id) = None
+task_of (op.ListInstances dag_id run_id) = None
+task_of (op.GetInstance dag_id run_id task_id) = Some task_id
 
 abbrev pub given_in : Result Trigger BodyFault → Option (List ℕ)
 given_in (Ok asked) = asked.dag_run_id
@@ -54,9 +76,12 @@ given_id op.Version = None
 given_id op.ListDags = None
 given_id (op.GetDag dag_id) = None
 given_id (op.PauseDag dag_id input) = None
+given_id (op.ListTasks dag_id) = None
 given_id (op.ListRuns dag) = None
 given_id (op.TriggerRun dag_id input) = given_in input
 given_id (op.GetRun dag_id run_id) = None
+given_id (op.ListInstances dag_id run_id) = None
+given_id (op.GetInstance dag_id run_id task_id) = None
 
 -- the name of a kind that is the first of some parts
 abbrev pub first_in : Grammar → List (List ℕ) → Option (List ℕ)
@@ -74,6 +99,10 @@ dag_id_in parts = first_in id_grammar parts
 abbrev pub run_id_in : List (List ℕ) → Option (List ℕ)
 run_id_in parts = first_in run_id_grammar (after_first parts)
 
+-- the task's id that is the third part
+abbrev pub task_id_in : List (List ℕ) → Option (List ℕ)
+task_id_in parts = first_in id_grammar (after_first (after_first parts))
+
 -- two, where both are there
 abbrev pub both : {X Y : Type 0} → Option X → Option Y → Option (X × Y)
 both (Some x) (Some y) = Some (x, y)
@@ -82,6 +111,9 @@ both None y = None
 
 abbrev pub run_ids_in : List (List ℕ) → Option (List ℕ × List ℕ)
 run_ids_in parts = both (dag_id_in parts) (run_id_in parts)
+
+abbrev pub instance_ids_in : List (List ℕ) → Option ((List ℕ × List ℕ) × List ℕ)
+instance_ids_in parts = both (run_ids_in parts) (task_id_in parts)
 
 -- whether the first part is `~`, which stands for all DAGs
 abbrev pub is_all : List (List ℕ) → Bool
@@ -101,8 +133,11 @@ abbrev pub are_names : Option Method → Place → List (List ℕ) → Bool
 are_names method place.Version parts = true
 are_names method place.Dags parts = true
 are_names method place.Dag parts = is_some (dag_id_in parts)
+are_names method place.Tasks parts = is_some (dag_id_in parts)
 are_names method place.Runs parts = is_some (dag_id_in parts) || (is_get method && is_all parts)
 are_names method place.Run parts = is_some (dag_id_in parts) && is_some (run_id_in parts)
+are_names method place.Instances parts = is_some (dag_id_in parts) && is_some (run_id_in parts)
+are_names method place.Instance parts = is_some (dag_id_in parts) && (is_some (run_id_in parts) && is_some (task_id_in parts))
 
 -- The operation that a row of the table stands for, where the parts of the path, decoded, are these and the body has these
 -- bytes; none where a part is no name of its kind. Bodies of operations that read none are ignored.
@@ -111,9 +146,12 @@ op_of_row endpoint.Version parts body = Some op.Version
 op_of_row endpoint.ListDags parts body = Some op.ListDags
 op_of_row endpoint.GetDag parts body = option_map (λ dag_id. op.GetDag dag_id) (dag_id_in parts)
 op_of_row endpoint.PauseDag parts body = option_map (λ dag_id. op.PauseDag dag_id (pause_in body)) (dag_id_in parts)
+op_of_row endpoint.ListTasks parts body = option_map (λ dag_id. op.ListTasks dag_id) (dag_id_in parts)
 op_of_row endpoint.ListRuns parts body = if is_all parts then Some (op.ListRuns None) else option_map (λ dag_id. op.ListRuns (Some dag_id)) (dag_id_in parts)
 op_of_row endpoint.TriggerRun parts body = option_map (λ dag_id. op.TriggerRun dag_id (trigger_in body)) (dag_id_in parts)
 op_of_row endpoint.GetRun parts body = option_map (λ ids. op.GetRun ids.0 ids.1) (run_ids_in parts)
+op_of_row endpoint.ListInstances parts body = option_map (λ ids. op.ListInstances ids.0 ids.1) (run_ids_in parts)
+op_of_row endpoint.GetInstance parts body = option_map (λ ids. op.GetInstance ids.0.0 ids.0.1 ids.1) (instance_ids_in parts)
 
 -- the same operation, whose body was not read for want of memory
 abbrev pub unread : Op → Op
@@ -121,9 +159,12 @@ unread op.Version = op.Version
 unread op.ListDags = op.ListDags
 unread (op.GetDag dag_id) = op.GetDag dag_id
 unread (op.PauseDag dag_id input) = op.PauseDag dag_id (Err OutOfMemory)
+unread (op.ListTasks dag_id) = op.ListTasks dag_id
 unread (op.ListRuns dag) = op.ListRuns dag
 unread (op.TriggerRun dag_id input) = op.TriggerRun dag_id (Err OutOfMemory)
 unread (op.GetRun dag_id run_id) = op.GetRun dag_id run_id
+unread (op.ListInstances dag_id run_id) = op.ListInstances dag_id run_id
+unread (op.GetInstance dag_id run_id task_id) = op.GetInstance dag_id run_id task_id
 
 -- this operation was read, all of it or without its body
 abbrev pub IsRead : Option Op → Option Op → Type 0

@@ -10,7 +10,7 @@ use Rattle.af_ops.specs.declared.status.Status.{Status}
 use Rattle.af_ops.specs.declared.status.Status.TheVariants as status
 use Rattle.af_ops.specs.Bodies.{name_of}
 use Rattle.af_ops.specs.Effects.{id_or}
-use Rattle.af_ops.specs.Endpoints.{dag_of, given_id, run_of}
+use Rattle.af_ops.specs.Endpoints.{dag_of, given_id, run_of, task_of}
 use Rattle.af_ops.specs.Rows.{Problem}
 
 abbrev pub fault_of : Status → List ℕ → Option Problem
@@ -24,6 +24,7 @@ problem_of asked (why.Op fault.BadBody) = fault_of status.BadRequest (codes "bad
 problem_of asked (why.Op (fault.BadMember it)) = fault_of status.BadRequest (codes "bad member: " ++ name_of it)
 problem_of asked (why.Op fault.NoSuchDag) = fault_of status.NotFound (codes "no such dag: " ++ unwrap_or (dag_of asked) [])
 problem_of asked (why.Op fault.NoSuchRun) = fault_of status.NotFound (codes "no such run: " ++ unwrap_or (run_of asked) [])
+problem_of asked (why.Op fault.NoSuchTask) = fault_of status.NotFound (codes "no such task: " ++ unwrap_or (task_of asked) [])
 problem_of asked (why.Op (fault.RunExists date)) = fault_of status.Conflict (codes "run exists: " ++ id_or (given_id asked) date)
 problem_of asked (why.Op (fault.DateTaken date)) = fault_of status.Conflict (codes "date taken: " ++ isoformat date)
 problem_of asked (why.Op fault.TooMany) = fault_of status.Conflict (codes "too many")

@@ -1,10 +1,13 @@
 -- Laws about operations, in words of their own.
-use Rattle.std.specs.Prelude.{◌≡◌, ◌≢◌, ◌↔◌, ◌<◌, ◌≤◌, ◌+◌, ◌||◌, ℕ, List, [], ◌∷◌, ◌++◌, Bool, true, false, not, nat_eq, filter, length, All, Contains, Some, None, option_map, Result, Ok, ⊤, codes, if◌then◌else◌}
+use Rattle.std.specs.Prelude.{◌≡◌, ◌≢◌, ◌↔◌, ◌<◌, ◌≤◌, ◌+◌, ◌||◌, ℕ, List, [], ◌∷◌, ◌++◌, Bool, true, false, not, nat_eq, filter, map, length, All, Contains, Some, None, option_map, unwrap_or, Result, Ok, ⊤, codes, if◌then◌else◌}
 use Rattle.std.specs.Cmp.Lexicographic.{pointwise}
+use Rattle.std.specs.List.Sorted.{IsStrictlySortedBy}
+use Rattle.std.specs.Ordering.{nat_cmp}
 use Rattle.af_graph.specs.declared.task_state.TaskState.TheVariants.{NoStatus}
-use Rattle.af_runs.specs.Runs.{AreRuns, is_of}
+use Rattle.af_runs.specs.Runs.{AreRuns, is_of, run_of, runs_of}
 use Rattle.af_runs.specs.declared.run.Run.{Run}
 use Rattle.af_runs.specs.declared.run_state.RunState.TheVariants.{Queued}
+use Rattle.af_runs.specs.declared.run_type.RunType.TheVariants.{Manual}
 use Rattle.af_sched.specs.State.{AreInOrder, StateRows, is_of_id}
 use Rattle.af_sched.specs.State as sched
 use Rattle.af_ops.specs.declared.body_fault.BodyFault.{BodyFault}
@@ -13,7 +16,7 @@ use Rattle.af_ops.specs.declared.method.Method.TheVariants.{Get}
 use Rattle.af_ops.specs.declared.op.Op.{Op}
 use Rattle.af_ops.specs.declared.op.Op.TheVariants as op
 use Rattle.af_ops.specs.declared.trigger.Trigger.{Trigger}
-use Rattle.af_ops.specs.Effects.{Effect, effect_of}
+use Rattle.af_ops.specs.Effects.{Effect, effect_of, id_or}
 use Rattle.af_ops.specs.Endpoints.{dag_id_in, dag_of, endpoint_of, op_of_row}
 use Rattle.af_ops.specs.Listings.{default_limit, page, read_rows}
 use Rattle.af_ops.specs.Table.{Segment, Text, Part, endpoint_at, route_of, segments_of}
@@ -54,12 +57,33 @@ RunsListedAreThoseRead =
     (reads : List ℕ → Bool) (state : StateRows) (run : Run)
     → Contains (read_rows reads (λ it. it.dag_id) state.runs) run ↔ (Contains state.runs run × (reads run.dag_id ≡ true))
 
--- A run of this DAG was added last: it is queued, and has for each task of the DAG an instance in no state, never tried; its number
+-- the runs that are listed, those of one DAG and those whose DAG is read, stand in order of their numbers, and no run stands twice
+abbrev pub RunsListedGoByNumber : Type 0
+RunsListedGoByNumber =
+    (reads : List ℕ → Bool) (dag_id : List ℕ) (state : StateRows) → AreRuns state.runs state.next_run
+    → IsStrictlySortedBy nat_cmp (map (λ run. run.number) (page default_limit 0 (read_rows reads (λ run. run.dag_id) state.runs)))
+    × IsStrictlySortedBy nat_cmp (map (λ run. run.number) (page default_limit 0 (runs_of state.runs dag_id)))
+
+-- the run that is shown is the one of its DAG that has the id
+abbrev pub RunsAreShownByTheirIds : Type 0
+RunsAreShownByTheirIds =
+    (dag_id run_id : List ℕ) (state : StateRows) (run : Run) → AreRuns state.runs state.next_run
+    → (run_of state.runs dag_id run_id ≡ Some run) ↔ (Contains state.runs run × (run.dag_id ≡ dag_id) × (run.run_id ≡ run_id))
+
+-- A run of this DAG was added last, of this id and this date, at which its interval begins and ends: it was triggered by hand, is queued,
+-- and neither began nor ended; it has for each task of the DAG an instance in no state, never tried; its number
 -- is above those of all runs, and below the next one. All else is the same.
-pub record AddsRun (dag_id : List ℕ) (old new : StateRows) (run : Run) : Type 0 where
+pub record AddsRun (dag_id run_id : List ℕ) (date : ℕ) (old new : StateRows) (run : Run) : Type 0 where
   pub last : new.runs ≡ old.runs ++ run ∷ []
   pub of_dag : run.dag_id ≡ dag_id
+  pub named : run.run_id ≡ run_id
+  pub dated : run.logical_date ≡ date
+  pub begins : run.interval.start ≡ date
+  pub ends : run.interval.end ≡ date
+  pub manual : run.run_type ≡ Manual
   pub queued : run.state ≡ Queued
+  pub not_begun : run.start_date ≡ None
+  pub not_ended : run.end_date ≡ None
   pub whole : option_map (λ row. length row.dag.tasks) (sched.dag_of old.dags dag_id) ≡ Some (length run.instances)
   pub untried : All (λ it. (it.state ≡ NoStatus) × (it.try_number ≡ 0)) run.instances
   pub above : All (λ other. other.number < run.number) old.runs
@@ -67,12 +91,14 @@ pub record AddsRun (dag_id : List ℕ) (old new : StateRows) (run : Run) : Type 
   pub dags : new.dags ≡ old.dags
   pub pools : new.pools ≡ old.pools
 
--- what triggers a run adds one, and nothing else is changed
+-- what triggers a run adds one, at the date that is asked for, else at the moment, and of the id that is asked for, else of the one
+-- made of that date; nothing else is changed
 abbrev pub TriggersAddARun : Type 0
 TriggersAddARun =
     (reads : List ℕ → Bool) (state : StateRows) (dag_id : List ℕ) (input : Result Trigger BodyFault) (now : ℕ) (effect : Effect)
     → AreRuns state.runs state.next_run → effect_of reads state (op.TriggerRun dag_id input) now ≡ Ok effect
-    → (next : StateRows) × (effect.next ≡ Some next) × ((run : Run) × AddsRun dag_id state next run)
+    → (asked : Trigger) × (input ≡ Ok asked)
+    × ((next : StateRows) × (effect.next ≡ Some next) × ((run : Run) × AddsRun dag_id (id_or asked.dag_run_id (unwrap_or asked.logical_date now)) (unwrap_or asked.logical_date now) state next run))
 
 -- the number that the next run gets never falls
 abbrev pub RunNumbersRise : Type 0

@@ -1,11 +1,18 @@
 -- The rows that are told (Airflow 2, "Stable REST API"; RFC 9457: faults), each as its members in byte order of their names.
-use Rattle.std.specs.Prelude.{ℕ, List, [], ◌∷◌, Option, Some, codes}
+use Rattle.std.specs.Prelude.{ℕ, List, [], ◌∷◌, ◌++◌, map, Option, Some, codes}
 use Rattle.std.specs.Option.{option_map_or}
-use Rattle.serde_json.specs.Data.{Data, null, boolean, number, unsigned, string}
+use Rattle.serde_json.specs.Data.{Data, null, array, boolean, number, unsigned, string}
+use Rattle.serde_json.specs.View.{items_of}
 use Rattle.af_names.specs.Presets.{preset_text}
+use Rattle.af_graph.specs.Texts.{rule_text}
 use Rattle.af_graph.specs.declared.schedule.Schedule.{Schedule}
 use Rattle.af_graph.specs.declared.schedule.Points.{Points}
 use Rattle.af_graph.specs.declared.schedule.Points.TheVariants as points
+use Rattle.serde_json.specs.Find.{of_integer}
+use Rattle.af_graph.specs.declared.task_spec.TaskSpec.{TaskSpec}
+use Rattle.af_graph.specs.declared.task_state.TaskState.{TaskState}
+use Rattle.af_graph.specs.declared.task_state.TaskState.TheVariants.{NoStatus, Scheduled, Queued, Running, Success, Failed, Skipped, UpstreamFailed, UpForRetry}
+use Rattle.af_runs.specs.declared.instance.Instance.{Instance}
 use Rattle.af_runs.specs.declared.run.Run.{Run}
 use Rattle.af_runs.specs.declared.run_state.RunState.{RunState}
 use Rattle.af_runs.specs.declared.run_state.RunState.TheVariants as run_state
@@ -57,6 +64,61 @@ run_fields run =
     ∷ (codes "start_date", instant_data run.start_date)
     ∷ (codes "state", string (run_state_text run.state))
     ∷ []
+
+-- a task, with the ids of the tasks that wait for it
+pub record TaskTold : Type 0 where
+  pub downstream : List (List ℕ)
+  pub task : TaskSpec
+
+abbrev pub task_fields : TaskTold → List Field
+task_fields told =
+    (codes "downstream_task_ids", array (items_of (map (λ id. string id) told.downstream)))
+    ∷ (codes "pool", string told.task.pool)
+    ∷ (codes "pool_slots", number (unsigned told.task.pool_slots))
+    ∷ (codes "priority_weight", number (of_integer told.task.priority_weight))
+    ∷ (codes "retries", number (unsigned told.task.retries))
+    ∷ (codes "task_id", string told.task.task_id)
+    ∷ (codes "trigger_rule", string (rule_text told.task.trigger_rule))
+    ∷ []
+
+-- null for none
+abbrev pub state_data : TaskState → Data
+state_data NoStatus = null
+state_data Scheduled = string (codes "scheduled")
+state_data Queued = string (codes "queued")
+state_data Running = string (codes "running")
+state_data Success = string (codes "success")
+state_data Failed = string (codes "failed")
+state_data Skipped = string (codes "skipped")
+state_data UpstreamFailed = string (codes "upstream_failed")
+state_data UpForRetry = string (codes "up_for_retry")
+
+-- an instance, with its run and its task
+pub record InstanceTold : Type 0 where
+  pub run : Run
+  pub task : TaskSpec
+  pub instance : Instance
+
+abbrev pub instance_first : InstanceTold → List Field
+instance_first told =
+    (codes "dag_id", string told.run.dag_id)
+    ∷ (codes "dag_run_id", string told.run.run_id)
+    ∷ (codes "end_date", instant_data told.instance.end_date)
+    ∷ (codes "pool", string told.task.pool)
+    ∷ (codes "pool_slots", number (unsigned told.task.pool_slots))
+    ∷ []
+
+abbrev pub instance_last : InstanceTold → List Field
+instance_last told =
+    (codes "priority_weight", number (of_integer told.task.priority_weight))
+    ∷ (codes "start_date", instant_data told.instance.start_date)
+    ∷ (codes "state", state_data told.instance.state)
+    ∷ (codes "task_id", string told.task.task_id)
+    ∷ (codes "try_number", number (unsigned told.instance.try_number))
+    ∷ []
+
+abbrev pub instance_fields : InstanceTold → List Field
+instance_fields told = instance_first told ++ instance_last told
 
 -- what the server is
 abbrev pub version_fields : List Field

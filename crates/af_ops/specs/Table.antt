@@ -6,7 +6,7 @@ use Rattle.std.specs.Ordering.{on}
 use Rattle.af_role.specs.declared.action.Action.{Action}
 use Rattle.af_role.specs.declared.action.Action.TheVariants.{Create, Read, Edit}
 use Rattle.af_role.specs.declared.resource.ResourceKind.{ResourceKind}
-use Rattle.af_role.specs.declared.resource.ResourceKind.TheVariants.{Dags, DagRuns}
+use Rattle.af_role.specs.declared.resource.ResourceKind.TheVariants.{Dags, DagRuns, TaskInstances}
 use Rattle.af_role.specs.declared.need.Need.{Need}
 use Rattle.af_ops.specs.declared.method.Method.{Method}
 use Rattle.af_ops.specs.declared.method.Method.TheVariants.{Get, Post, Patch, Delete}
@@ -38,8 +38,11 @@ abbrev pub segments_of : Place → List Segment
 segments_of place.Version = api (Text (codes "version") ∷ [])
 segments_of place.Dags = api (Text (codes "dags") ∷ [])
 segments_of place.Dag = of_dag []
+segments_of place.Tasks = of_dag (Text (codes "tasks") ∷ [])
 segments_of place.Runs = of_dag (Text (codes "dagRuns") ∷ [])
 segments_of place.Run = of_run []
+segments_of place.Instances = of_run (Text (codes "taskInstances") ∷ [])
+segments_of place.Instance = of_run (Text (codes "taskInstances") ∷ Part (codes "task_id") ∷ [])
 
 -- how a path is spelled, with its parts in braces
 abbrev pub spelled : List Segment → List ℕ
@@ -48,14 +51,17 @@ spelled (Text text ∷ rest) = 47 ∷ (text ++ spelled rest)
 spelled (Part name ∷ rest) = 47 ∷ 123 ∷ (name ++ 125 ∷ spelled rest)
 
 abbrev pub places : List Place
-places = place.Version ∷ place.Dags ∷ place.Dag ∷ place.Runs ∷ place.Run ∷ []
+places = place.Version ∷ place.Dags ∷ place.Dag ∷ place.Tasks ∷ place.Runs ∷ place.Run ∷ place.Instances ∷ place.Instance ∷ []
 
 abbrev pub place_rank : Place → ℕ
 place_rank place.Version = 0
 place_rank place.Dags = 1
 place_rank place.Dag = 2
-place_rank place.Runs = 3
-place_rank place.Run = 4
+place_rank place.Tasks = 3
+place_rank place.Runs = 4
+place_rank place.Run = 5
+place_rank place.Instances = 6
+place_rank place.Instance = 7
 
 abbrev pub same_place : Place → Place → Bool
 same_place = on place_rank nat_eq
@@ -94,12 +100,15 @@ route_of endpoint.Version = opened Get place.Version
 route_of endpoint.ListDags = needing Get place.Dags (at_some_dag Read ∷ [])
 route_of endpoint.GetDag = needing Get place.Dag (at_dag Read ∷ [])
 route_of endpoint.PauseDag = needing Patch place.Dag (at_dag Edit ∷ [])
+route_of endpoint.ListTasks = needing Get place.Tasks (at_dag Read ∷ on_all Read TaskInstances ∷ [])
 route_of endpoint.ListRuns = needing Get place.Runs (at_dag Read ∷ on_all Read DagRuns ∷ [])
 route_of endpoint.TriggerRun = needing Post place.Runs (at_dag Edit ∷ on_all Create DagRuns ∷ [])
 route_of endpoint.GetRun = needing Get place.Run (at_dag Read ∷ on_all Read DagRuns ∷ [])
+route_of endpoint.ListInstances = needing Get place.Instances (at_dag Read ∷ on_all Read DagRuns ∷ on_all Read TaskInstances ∷ [])
+route_of endpoint.GetInstance = needing Get place.Instance (at_dag Read ∷ on_all Read DagRuns ∷ on_all Read TaskInstances ∷ [])
 
 abbrev pub endpoints : List Endpoint
-endpoints = endpoint.Version ∷ endpoint.ListDags ∷ endpoint.GetDag ∷ endpoint.PauseDag ∷ endpoint.ListRuns ∷ endpoint.TriggerRun ∷ endpoint.GetRun ∷ []
+endpoints = endpoint.Version ∷ endpoint.ListDags ∷ endpoint.GetDag ∷ endpoint.PauseDag ∷ endpoint.ListTasks ∷ endpoint.ListRuns ∷ endpoint.TriggerRun ∷ endpoint.GetRun ∷ endpoint.ListInstances ∷ endpoint.GetInstance ∷ []
 
 -- ---- what is read off it
 

@@ -1,15 +1,18 @@
 -- A small policy and a small state, for worked values: a viewer, a user who may read one DAG, one who may read its runs too, one who
 -- may edit all, one without permissions, and three DAGs of one task, the first of them paused.
-use Rattle.std.specs.Prelude.{ℕ, pos, List, [], ◌∷◌, ◌++◌, Bool, true, false, Option, Some, None, codes}
+use Rattle.std.specs.Prelude.{ℕ, ◌^◌, pos, negsuc, List, [], ◌∷◌, ◌++◌, Bool, true, false, Option, Some, None, codes}
 use Rattle.af_role.specs.declared.action.Action.TheVariants.{Read}
 use Rattle.af_role.specs.declared.resource.ResourceKind.TheVariants.{DagRuns}
 use Rattle.af_role.specs.Pairs.{on_dag, on_kind}
 use Rattle.af_role.specs.Roles.{RoleRow}
 use Rattle.af_role.specs.DefaultRoles.{viewer_adds, user_adds}
 use Rattle.af_policy.specs.Rows.{UserRow, PolicyRows}
-use Rattle.af_graph.specs.declared.rule.Rule.TheVariants.{AllSuccess}
+use Rattle.af_graph.specs.declared.rule.Rule.TheVariants.{AllSuccess, OneFailed}
 use Rattle.af_graph.specs.declared.task_spec.TaskSpec.{TaskSpec}
+use Rattle.af_graph.specs.declared.task_state.TaskState.TheVariants.{Running}
+use Rattle.af_runs.specs.Instances.{new_instance}
 use Rattle.af_runs.specs.Runs.{queued_run}
+use Rattle.af_runs.specs.declared.instance.Instance.{Instance}
 use Rattle.af_runs.specs.declared.run.Run.{Run}
 use Rattle.af_sched.specs.State.{StateRows}
 use Rattle.af_sched.specs.declared.dag_row.DagRow.{DagRow}
@@ -18,6 +21,7 @@ use Rattle.af_ops.specs.declared.shown_answer.Shown.{Shown}
 use Rattle.af_ops.specs.declared.trigger.Trigger.{Trigger}
 use Rattle.af_ops.specs.Edits.{with_run}
 use Rattle.af_ops.specs.Effects.{new_run}
+use Rattle.af_ops.specs.Rows.{InstanceTold, TaskTold}
 use Rattle.af_ops.specs.Served.{answer_of}
 use Rattle.af_ops.specs.Standings.{StandingRows}
 use Rattle.af_ops.specs.Verdicts.{Verdict, judged}
@@ -98,6 +102,14 @@ with_runs =
 abbrev pub later : StandingRows
 later = record { under = record { version = 0; seq = 2 }; state = with_runs }
 
+-- the same, where the history is full
+abbrev pub full_later : StandingRows
+full_later = record { under = record { version = 0; seq = 1_000_000 }; state = with_runs }
+
+-- no number is left for a run
+abbrev pub no_numbers : StandingRows
+no_numbers = record { under = record { version = 0; seq = 0 }; state = record (state_with false) { next_run = 2 ^ 64 } }
+
 -- the run of the DAG b
 abbrev pub second : Run
 second = queued_run 2 (new_run (dag (codes "b") false) (codes "b") (codes "r2") 2)
@@ -108,3 +120,57 @@ is_told_then standing who asked = answer_of asked standing.under (judged policy 
 
 abbrev pub trigger : Option (List ℕ) → Option ℕ → Trigger
 trigger run_id date = record { dag_run_id = run_id; logical_date = date }
+
+-- ---- tasks and instances
+
+-- a task that waits for another one, and tells its upstream task twice
+abbrev pub next_task : TaskSpec
+next_task = record {
+  task_id = codes "u";
+  upstream = codes "t" ∷ codes "t" ∷ [];
+  pool = codes "slow \"lane\"";
+  pool_slots = 3;
+  priority_weight = negsuc 6;
+  retries = 2;
+  retry_delay = 300;
+  trigger_rule = OneFailed;
+}
+
+-- the DAG f of the two, the later one defined first
+abbrev pub forked : DagRow
+forked = record {
+  dag = record { dag_id = codes "f"; tasks = next_task ∷ task ∷ []; schedule = None; catchup = true; max_active_runs = 16 };
+  is_paused = false;
+  cursor = None;
+}
+
+-- its two tasks, as they are told
+abbrev pub waiting_told : TaskTold
+waiting_told = record { downstream = []; task = next_task }
+
+abbrev pub waited_told : TaskTold
+waited_told = record { downstream = codes "u" ∷ []; task = task }
+
+-- a run of it, r, and its first instance as it runs for the second time
+abbrev pub forked_run : Run
+forked_run = queued_run 3 (new_run forked (codes "f") (codes "r") 3)
+
+abbrev pub tried : Instance
+tried = record (new_instance next_task) { state = Running; try_number = 2; start_date = Some 5 }
+
+abbrev pub half_run : Run
+half_run = record forked_run { instances = tried ∷ new_instance task ∷ [] }
+
+-- the state with that DAG and that run alone, and three entries
+abbrev pub at_work : StandingRows
+at_work = record {
+  under = record { version = 0; seq = 3 };
+  state = record { dags = forked ∷ []; runs = half_run ∷ []; next_run = 4; pools = [] };
+}
+
+-- its two instances, as they are told
+abbrev pub first_told : InstanceTold
+first_told = record { run = half_run; task = next_task; instance = tried }
+
+abbrev pub second_told : InstanceTold
+second_told = record { run = half_run; task = task; instance = new_instance task }

@@ -21,6 +21,8 @@ pub enum OpFault {
     NoSuchDag,
     /// The run that it names is not there.
     NoSuchRun,
+    /// The task that it names is not there.
+    NoSuchTask,
     /// The DAG has a run of the id that is given, else of the id that is made of this date.
     RunExists(Instant),
     /// The DAG has a run of this logical date.

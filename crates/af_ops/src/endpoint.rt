@@ -9,10 +9,16 @@ pub enum Endpoint {
     GetDag,
     /// `PATCH /dags/{dag_id}`
     PauseDag,
+    /// `GET /dags/{dag_id}/tasks`
+    ListTasks,
     /// `GET /dags/{dag_id}/dagRuns`, and with `~` in place of the id
     ListRuns,
     /// `POST /dags/{dag_id}/dagRuns`
     TriggerRun,
     /// `GET /dags/{dag_id}/dagRuns/{dag_run_id}`
     GetRun,
+    /// `GET /dags/{dag_id}/dagRuns/{dag_run_id}/taskInstances`
+    ListInstances,
+    /// `GET /dags/{dag_id}/dagRuns/{dag_run_id}/taskInstances/{task_id}`
+    GetInstance,
 }

@@ -1,4 +1,4 @@
-ghost use Rattle.af_ops.specs.Laws.{ListingsGoById, ReadingsLeaveTheState, ChangesLeaveAnotherState, ChangesStayAtTheirDag, OneRowAtMost, EachIsFound, OperationsAreOfTheirRow, RunNumbersRise, RunsListedAreThoseRead, TriggersAddARun};
+ghost use Rattle.af_ops.specs.Laws.{ListingsGoById, ReadingsLeaveTheState, ChangesLeaveAnotherState, ChangesStayAtTheirDag, OneRowAtMost, EachIsFound, OperationsAreOfTheirRow, RunNumbersRise, RunsAreShownByTheirIds, RunsListedAreThoseRead, RunsListedGoByNumber, TriggersAddARun};
 
 /// A method and a path name one operation of the table at most.
 pub fn one_row_at_most()
@@ -40,7 +40,18 @@ pub fn runs_listed_are_those_read()
     ensures { RunsListedAreThoseRead }
 {}
 
-/// What triggers a run adds it last, queued, with an instance in no state for each task, and changes nothing else.
+/// A listing of runs goes by their numbers, and tells no run twice.
+pub fn runs_listed_go_by_number()
+    ensures { RunsListedGoByNumber }
+{}
+
+/// The run that is shown is the one of its DAG that has the id; where there is one, it is found.
+pub fn runs_are_shown_by_their_ids()
+    ensures { RunsAreShownByTheirIds }
+{}
+
+/// What triggers a run adds it last, of the id and the date that are asked for or made, queued, with an instance in no state for each task,
+/// and changes nothing else.
 pub fn triggers_add_a_run()
     ensures { TriggersAddARun }
 {}

@@ -11,6 +11,7 @@ mod deciding;
 mod edit;
 mod endpoint;
 mod fields;
+mod instance_text;
 pub mod laws;
 mod member_name;
 mod method;
@@ -33,6 +34,7 @@ mod shown_answer;
 mod standing;
 mod status;
 mod table;
+mod task_text;
 mod telling;
 mod text;
 mod trigger;
@@ -65,8 +67,9 @@ pub use telling::shown_fault;
 pub use text::Text;
 pub use trigger::Trigger;
 pub use worked::{
-    bodies_by_the_rule, changes_by_the_rule, faults_by_the_rule, messages_by_the_rule,
-    readings_by_the_rule, routes_by_the_rule, run_messages_by_the_rule, runs_by_the_rule,
+    bodies_by_the_rule, changes_by_the_rule, faults_by_the_rule, instance_messages_by_the_rule,
+    instance_routes_by_the_rule, instances_by_the_rule, messages_by_the_rule, readings_by_the_rule,
+    routes_by_the_rule, run_messages_by_the_rule, runs_by_the_rule, tasks_by_the_rule,
     triggers_by_the_rule,
 };
 

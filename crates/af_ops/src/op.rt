@@ -1,11 +1,11 @@
 ghost use Rattle.std.specs.Prelude.{◌≡◌};
 ghost use Rattle.std.specs.Option.{option_copied};
-ghost use Rattle.af_ops.specs.Endpoints.{dag_of, endpoint_of, given_id, given_in, run_of};
+ghost use Rattle.af_ops.specs.Endpoints.{dag_of, endpoint_of, given_id, given_in, run_of, task_of};
 
 use crate::body_fault::BodyFault;
 use crate::endpoint::Endpoint;
 use crate::trigger::Trigger;
-use af_names::{DagId, RunId};
+use af_names::{DagId, RunId, TaskId};
 
 /// An operation that a request asks for: the names of its path, and what was read of its body, where it reads one.
 #[derive(Drop)]
@@ -18,12 +18,18 @@ pub enum Op {
     GetDag(DagId),
     /// A DAG is paused, or not.
     PauseDag(DagId, Result<bool, BodyFault>),
+    /// The tasks of a DAG.
+    ListTasks(DagId),
     /// The runs of one DAG, or those of all DAGs that the user reads.
     ListRuns(Option<DagId>),
     /// A run of a DAG is triggered.
     TriggerRun(DagId, Result<Trigger, BodyFault>),
     /// One run of a DAG.
     GetRun(DagId, RunId),
+    /// The instances of a run.
+    ListInstances(DagId, RunId),
+    /// One instance of a run.
+    GetInstance(DagId, RunId, TaskId),
 }
 
 impl Op {
@@ -36,9 +42,12 @@ impl Op {
             Op::ListDags => Endpoint::ListDags,
             Op::GetDag(_) => Endpoint::GetDag,
             Op::PauseDag(_, _) => Endpoint::PauseDag,
+            Op::ListTasks(_) => Endpoint::ListTasks,
             Op::ListRuns(_) => Endpoint::ListRuns,
             Op::TriggerRun(_, _) => Endpoint::TriggerRun,
             Op::GetRun(_, _) => Endpoint::GetRun,
+            Op::ListInstances(_, _) => Endpoint::ListInstances,
+            Op::GetInstance(_, _, _) => Endpoint::GetInstance,
         }
     }
 
@@ -49,8 +58,10 @@ impl Op {
         match self {
             Op::Version | Op::ListDags => None,
             Op::GetDag(dag_id) | Op::PauseDag(dag_id, _) => Some(dag_id),
+            Op::ListTasks(dag_id) => Some(dag_id),
             Op::ListRuns(dag) => dag.as_ref(),
             Op::TriggerRun(dag_id, _) | Op::GetRun(dag_id, _) => Some(dag_id),
+            Op::ListInstances(dag_id, _) | Op::GetInstance(dag_id, _, _) => Some(dag_id),
         }
     }
 
@@ -60,12 +71,32 @@ impl Op {
     {
         match self {
             Op::GetRun(_, run_id) => Some(run_id),
+            Op::ListInstances(_, run_id) | Op::GetInstance(_, run_id, _) => Some(run_id),
             Op::Version
             | Op::ListDags
             | Op::GetDag(_)
             | Op::PauseDag(_, _)
+            | Op::ListTasks(_)
             | Op::ListRuns(_)
             | Op::TriggerRun(_, _) => None,
+        }
+    }
+
+    /// The task that it names, or none.
+    pub fn task(&self) -> Option<&TaskId>
+        ensures { option_copied result ≡ task_of self.now }
+    {
+        match self {
+            Op::GetInstance(_, _, task_id) => Some(task_id),
+            Op::Version
+            | Op::ListDags
+            | Op::GetDag(_)
+            | Op::PauseDag(_, _)
+            | Op::ListTasks(_)
+            | Op::ListRuns(_)
+            | Op::TriggerRun(_, _)
+            | Op::GetRun(_, _)
+            | Op::ListInstances(_, _) => None,
         }
     }
 
@@ -79,8 +110,11 @@ impl Op {
             | Op::ListDags
             | Op::GetDag(_)
             | Op::PauseDag(_, _)
+            | Op::ListTasks(_)
             | Op::ListRuns(_)
-            | Op::GetRun(_, _) => None,
+            | Op::GetRun(_, _)
+            | Op::ListInstances(_, _)
+            | Op::GetInstance(_, _, _) => None,
         }
     }
 }

@@ -53,6 +53,29 @@ static DAG: [Segment; 4] = [
     },
 ];
 
+static TASKS: [Segment; 5] = [
+    Segment {
+        text: "api",
+        is_part: false,
+    },
+    Segment {
+        text: "v1",
+        is_part: false,
+    },
+    Segment {
+        text: "dags",
+        is_part: false,
+    },
+    Segment {
+        text: "dag_id",
+        is_part: true,
+    },
+    Segment {
+        text: "tasks",
+        is_part: false,
+    },
+];
+
 static RUNS: [Segment; 5] = [
     Segment {
         text: "api",
@@ -103,6 +126,72 @@ static RUN: [Segment; 6] = [
     },
 ];
 
+static INSTANCES: [Segment; 7] = [
+    Segment {
+        text: "api",
+        is_part: false,
+    },
+    Segment {
+        text: "v1",
+        is_part: false,
+    },
+    Segment {
+        text: "dags",
+        is_part: false,
+    },
+    Segment {
+        text: "dag_id",
+        is_part: true,
+    },
+    Segment {
+        text: "dagRuns",
+        is_part: false,
+    },
+    Segment {
+        text: "dag_run_id",
+        is_part: true,
+    },
+    Segment {
+        text: "taskInstances",
+        is_part: false,
+    },
+];
+
+static INSTANCE: [Segment; 8] = [
+    Segment {
+        text: "api",
+        is_part: false,
+    },
+    Segment {
+        text: "v1",
+        is_part: false,
+    },
+    Segment {
+        text: "dags",
+        is_part: false,
+    },
+    Segment {
+        text: "dag_id",
+        is_part: true,
+    },
+    Segment {
+        text: "dagRuns",
+        is_part: false,
+    },
+    Segment {
+        text: "dag_run_id",
+        is_part: true,
+    },
+    Segment {
+        text: "taskInstances",
+        is_part: false,
+    },
+    Segment {
+        text: "task_id",
+        is_part: true,
+    },
+];
+
 /// A path of the API. Operations of several methods may have one path.
 #[derive(Clone, Copy, Debug, PartialEq, Eq)]
 pub enum Place {
@@ -112,10 +201,16 @@ pub enum Place {
     Dags,
     /// `/api/v1/dags/{dag_id}`
     Dag,
+    /// `/api/v1/dags/{dag_id}/tasks`
+    Tasks,
     /// `/api/v1/dags/{dag_id}/dagRuns`
     Runs,
     /// `/api/v1/dags/{dag_id}/dagRuns/{dag_run_id}`
     Run,
+    /// `/api/v1/dags/{dag_id}/dagRuns/{dag_run_id}/taskInstances`
+    Instances,
+    /// `/api/v1/dags/{dag_id}/dagRuns/{dag_run_id}/taskInstances/{task_id}`
+    Instance,
 }
 
 impl Place {
@@ -127,8 +222,11 @@ impl Place {
             Place::Version => "/api/v1/version",
             Place::Dags => "/api/v1/dags",
             Place::Dag => "/api/v1/dags/{dag_id}",
+            Place::Tasks => "/api/v1/dags/{dag_id}/tasks",
             Place::Runs => "/api/v1/dags/{dag_id}/dagRuns",
             Place::Run => "/api/v1/dags/{dag_id}/dagRuns/{dag_run_id}",
+            Place::Instances => "/api/v1/dags/{dag_id}/dagRuns/{dag_run_id}/taskInstances",
+            Place::Instance => "/api/v1/dags/{dag_id}/dagRuns/{dag_run_id}/taskInstances/{task_id}",
         }
     }
 
@@ -140,8 +238,11 @@ impl Place {
             Place::Version => &VERSION,
             Place::Dags => &DAGS,
             Place::Dag => &DAG,
+            Place::Tasks => &TASKS,
             Place::Runs => &RUNS,
             Place::Run => &RUN,
+            Place::Instances => &INSTANCES,
+            Place::Instance => &INSTANCE,
         }
     }
 }

@@ -8,7 +8,9 @@ use crate::answer::OpFault;
 use crate::edit::Edit;
 use crate::op::Op;
 use crate::operations::dags::{dags_text, got_dag, paused_dag};
+use crate::operations::instances::{got_instance, listed_instances};
 use crate::operations::runs::{got_run, listed_runs};
+use crate::operations::tasks::listed_tasks;
 use crate::operations::triggering::triggered_run;
 use crate::prepared::Prepared;
 use crate::product::Product;
@@ -44,8 +46,13 @@ pub fn prepare<R: Reader>(
         }
         Op::GetDag(dag_id) => got_dag(alloc, state, dag_id),
         Op::PauseDag(dag_id, input) => paused_dag(alloc, state, dag_id, input),
+        Op::ListTasks(dag_id) => listed_tasks(alloc, state, dag_id),
         Op::ListRuns(dag) => listed_runs(alloc, state, dag.as_ref(), reader),
         Op::TriggerRun(dag_id, input) => triggered_run(alloc, state, dag_id, input, now),
         Op::GetRun(dag_id, run_id) => got_run(alloc, state, dag_id, run_id),
+        Op::ListInstances(dag_id, run_id) => listed_instances(alloc, state, dag_id, run_id),
+        Op::GetInstance(dag_id, run_id, task_id) => {
+            got_instance(alloc, state, dag_id, run_id, task_id)
+        }
     }
 }

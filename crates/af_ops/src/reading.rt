@@ -1,12 +1,12 @@
 ghost use Rattle.std.specs.Prelude.{◌≡◌, IfOk, IsErr, IsSome, is_some, map, string_bytes};
-ghost use Rattle.af_ops.specs.Endpoints.{IsRead, are_names, dag_id_in, is_all, is_get, op_of_row, run_id_in, run_ids_in};
+ghost use Rattle.af_ops.specs.Endpoints.{IsRead, are_names, dag_id_in, instance_ids_in, is_all, is_get, op_of_row, run_id_in, run_ids_in, task_id_in};
 
 use crate::bodies::{read_pause, read_trigger};
 use crate::endpoint::Endpoint;
 use crate::method::Method;
 use crate::op::Op;
 use crate::place::Place;
-use af_names::{DagId, NameError, RunId};
+use af_names::{DagId, NameError, RunId, TaskId};
 use std::alloc::{AllocError, Global};
 
 /// The operation that a row of the table stands for, where the parts of the path, decoded, are these; none where a part is no
@@ -37,6 +37,12 @@ pub fn read_row(
             };
             Ok(Some(Op::PauseDag(dag_id, read_pause(alloc, body))))
         }
+        Endpoint::ListTasks => {
+            let Some(dag_id) = dag_id_in(alloc, parts)? else {
+                return Ok(None);
+            };
+            Ok(Some(Op::ListTasks(dag_id)))
+        }
         Endpoint::ListRuns => {
             if is_all(parts) {
                 return Ok(Some(Op::ListRuns(None)));
@@ -58,6 +64,18 @@ pub fn read_row(
             };
             Ok(Some(Op::GetRun(dag_id, run_id)))
         }
+        Endpoint::ListInstances => {
+            let Some((dag_id, run_id)) = run_ids_in(alloc, parts)? else {
+                return Ok(None);
+            };
+            Ok(Some(Op::ListInstances(dag_id, run_id)))
+        }
+        Endpoint::GetInstance => {
+            let Some(((dag_id, run_id), task_id)) = instance_ids_in(alloc, parts)? else {
+                return Ok(None);
+            };
+            Ok(Some(Op::GetInstance(dag_id, run_id, task_id)))
+        }
     }
 }
 
@@ -68,9 +86,12 @@ pub fn are_names(alloc: Global, method: Option<Method>, place: Place, parts: &[S
 {
     match place {
         Place::Version | Place::Dags => true,
-        Place::Dag => is_dag_id(alloc, parts),
+        Place::Dag | Place::Tasks => is_dag_id(alloc, parts),
         Place::Runs => is_dag_id(alloc, parts) || is_get(method) && is_all(parts),
-        Place::Run => is_dag_id(alloc, parts) && is_run_id(alloc, parts),
+        Place::Run | Place::Instances => is_dag_id(alloc, parts) && is_run_id(alloc, parts),
+        Place::Instance => {
+            is_dag_id(alloc, parts) && (is_run_id(alloc, parts) && is_task_id(alloc, parts))
+        }
     }
 }
 
@@ -163,6 +184,57 @@ fn run_ids_in(alloc: Global, parts: &[String]) -> Result<Option<(DagId, RunId)>,
         },
         Ok(None) => Ok(None),
         Err(error) => match dag_id {
+            Ok(None) => Ok(None),
+            _ => Err(error),
+        },
+    }
+}
+
+/// Whether the third part of a path is the id of a task. Want of memory is told of a name alone.
+fn is_task_id(alloc: Global, parts: &[String]) -> bool
+    ensures { result ≡ is_some (task_id_in (map (λ part. string_bytes part) parts.now)) }
+{
+    match parts.get(2) {
+        Some(part) => matches!(
+            TaskId::parse(alloc, part.as_str()),
+            Ok(_) | Err(NameError::OutOfMemory)
+        ),
+        None => false,
+    }
+}
+
+/// The task's id that is the third part of a path.
+fn task_id_in(alloc: Global, parts: &[String]) -> Result<Option<TaskId>, AllocError>
+    ensures ok { IfOk result (λ task_id. task_id ≡ task_id_in (map (λ part. string_bytes part) parts.now)) }
+    ensures memory { IsErr result → IsSome (task_id_in (map (λ part. string_bytes part) parts.now)) }
+{
+    let Some(part) = parts.get(2) else {
+        return Ok(None);
+    };
+    match TaskId::parse(alloc, part.as_str()) {
+        Ok(task_id) => Ok(Some(task_id)),
+        Err(NameError::OutOfMemory) => Err(AllocError),
+        Err(_) => Ok(None),
+    }
+}
+
+/// The ids of an instance that are the parts of a path: of its DAG, its run and its task.
+fn instance_ids_in(
+    alloc: Global,
+    parts: &[String],
+) -> Result<Option<((DagId, RunId), TaskId)>, AllocError>
+    ensures ok { IfOk result (λ ids. ids ≡ instance_ids_in (map (λ part. string_bytes part) parts.now)) }
+    ensures memory { IsErr result → IsSome (instance_ids_in (map (λ part. string_bytes part) parts.now)) }
+{
+    let run_ids = run_ids_in(alloc, parts);
+    match task_id_in(alloc, parts) {
+        Ok(Some(task_id)) => match run_ids {
+            Ok(Some(run_ids)) => Ok(Some((run_ids, task_id))),
+            Ok(None) => Ok(None),
+            Err(error) => Err(error),
+        },
+        Ok(None) => Ok(None),
+        Err(error) => match run_ids {
             Ok(None) => Ok(None),
             _ => Err(error),
         },

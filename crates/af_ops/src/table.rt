@@ -11,23 +11,29 @@ use crate::route::Route;
 use af_role::{Action, Need, ResourceKind};
 
 /// All operations.
-pub const ENDPOINTS: [Endpoint; 7] = [
+pub const ENDPOINTS: [Endpoint; 10] = [
     Endpoint::Version,
     Endpoint::ListDags,
     Endpoint::GetDag,
     Endpoint::PauseDag,
+    Endpoint::ListTasks,
     Endpoint::ListRuns,
     Endpoint::TriggerRun,
     Endpoint::GetRun,
+    Endpoint::ListInstances,
+    Endpoint::GetInstance,
 ];
 
 /// All paths.
-pub const PLACES: [Place; 5] = [
+pub const PLACES: [Place; 8] = [
     Place::Version,
     Place::Dags,
     Place::Dag,
+    Place::Tasks,
     Place::Runs,
     Place::Run,
+    Place::Instances,
+    Place::Instance,
 ];
 
 /// The row of an operation.
@@ -39,9 +45,12 @@ pub fn route_of(endpoint: Endpoint) -> Route
         Endpoint::ListDags => needing(Method::Get, Place::Dags, &READ_SOME_DAG),
         Endpoint::GetDag => needing(Method::Get, Place::Dag, &READ_DAG),
         Endpoint::PauseDag => needing(Method::Patch, Place::Dag, &EDIT_DAG),
+        Endpoint::ListTasks => needing(Method::Get, Place::Tasks, &READ_TASK),
         Endpoint::ListRuns => needing(Method::Get, Place::Runs, &READ_RUN),
         Endpoint::TriggerRun => needing(Method::Post, Place::Runs, &CREATE_RUN),
         Endpoint::GetRun => needing(Method::Get, Place::Run, &READ_RUN),
+        Endpoint::ListInstances => needing(Method::Get, Place::Instances, &READ_INSTANCE),
+        Endpoint::GetInstance => needing(Method::Get, Place::Instance, &READ_INSTANCE),
     }
 }
 
@@ -90,6 +99,39 @@ static READ_RUN: [Need; 2] = [
     Need {
         action: Action::Read,
         kind: ResourceKind::DagRuns,
+        at_dag: false,
+    },
+];
+
+/// `can_read` on `DAGs` at the DAG that the path names, and on `Task Instances`.
+static READ_TASK: [Need; 2] = [
+    Need {
+        action: Action::Read,
+        kind: ResourceKind::Dags,
+        at_dag: true,
+    },
+    Need {
+        action: Action::Read,
+        kind: ResourceKind::TaskInstances,
+        at_dag: false,
+    },
+];
+
+/// `can_read` on `DAGs` at the DAG that the path names, on `DAG Runs` and on `Task Instances`.
+static READ_INSTANCE: [Need; 3] = [
+    Need {
+        action: Action::Read,
+        kind: ResourceKind::Dags,
+        at_dag: true,
+    },
+    Need {
+        action: Action::Read,
+        kind: ResourceKind::DagRuns,
+        at_dag: false,
+    },
+    Need {
+        action: Action::Read,
+        kind: ResourceKind::TaskInstances,
         at_dag: false,
     },
 ];
@@ -144,8 +186,11 @@ pub fn needs_for(op: &Op) -> &'static [Need]
         Op::ListDags => needs(Endpoint::ListDags),
         Op::GetDag(_) => needs(Endpoint::GetDag),
         Op::PauseDag(_, _) => needs(Endpoint::PauseDag),
+        Op::ListTasks(_) => needs(Endpoint::ListTasks),
         Op::TriggerRun(_, _) => needs(Endpoint::TriggerRun),
         Op::GetRun(_, _) => needs(Endpoint::GetRun),
+        Op::ListInstances(_, _) => needs(Endpoint::ListInstances),
+        Op::GetInstance(_, _, _) => needs(Endpoint::GetInstance),
     }
 }
 

@@ -15,7 +15,7 @@ use crate::problem::ProblemRow;
 use crate::row::row_text;
 use crate::shown_answer::Shown;
 use crate::status::Status;
-use af_names::{DagId, Instant, RunId};
+use af_names::{DagId, Instant, RunId, TaskId};
 use af_role::Need;
 use std::alloc::{AllocError, Global};
 
@@ -63,6 +63,10 @@ fn shown_op_fault(alloc: Global, op: &Op, fault: OpFault, under: Under) -> Resul
             let detail = joined(alloc, "no such run: ", run_id_text(op.run()))?;
             shown_problem(alloc, under, Status::NotFound, detail.as_str())
         }
+        OpFault::NoSuchTask => {
+            let detail = joined(alloc, "no such task: ", task_id_text(op.task()))?;
+            shown_problem(alloc, under, Status::NotFound, detail.as_str())
+        }
         OpFault::RunExists(date) => {
             let detail = taken_id(alloc, op.given_id(), date)?;
             shown_problem(alloc, under, Status::Conflict, detail.as_str())
@@ -103,6 +107,16 @@ fn taken_id(alloc: Global, given: Option<&RunId>, date: Instant) -> Result<Strin
     match given {
         Some(run_id) => joined(alloc, "run exists: ", run_id.as_str()),
         None => joined(alloc, "run exists: ", made_text(date).as_str()),
+    }
+}
+
+/// The text of a task's id, empty where there is none.
+fn task_id_text(task: Option<&TaskId>) -> &str
+    ensures { result.now ≡ unwrap_or (option_copied task.entry) [] }
+{
+    match task {
+        Some(task_id) => task_id.as_str(),
+        None => "",
     }
 }
 

@@ -10,18 +10,18 @@ ghost use Rattle.af_ops.specs.declared.op.Op.TheVariants as op;
 ghost use Rattle.af_ops.specs.declared.place.Place.TheVariants as place;
 ghost use Rattle.af_ops.specs.declared.status.Status.TheVariants as status;
 ghost use Rattle.af_role.specs.declared.action.Action.TheVariants.{Create, Read, Edit};
-ghost use Rattle.af_role.specs.declared.resource.ResourceKind.TheVariants.{DagRuns};
+ghost use Rattle.af_role.specs.declared.resource.ResourceKind.TheVariants.{DagRuns, TaskInstances};
 ghost use Rattle.serde_json.specs.Written.{compact_text};
 ghost use Rattle.af_ops.specs.Bodies.{pause_in, trigger_in};
 ghost use Rattle.af_ops.specs.Endpoints.{are_names, op_of_row};
 ghost use Rattle.af_ops.specs.Fields.{listing_of};
 ghost use Rattle.af_ops.specs.Methods.{method_of};
-ghost use Rattle.af_ops.specs.Replies.{dag_data, fault_data, run_data, version_data};
+ghost use Rattle.af_ops.specs.Replies.{dag_data, fault_data, instance_data, run_data, task_data, version_data};
 ghost use Rattle.af_ops.specs.Served.{answer_of, fault_told, left_by};
 ghost use Rattle.af_ops.specs.Statuses.{code_of, is_fault_status};
 ghost use Rattle.af_ops.specs.Table.{at_dag, at_some_dag, endpoint_at, methods_at, on_all, segments_of, spelled};
 ghost use Rattle.af_ops.specs.Verdicts.{Open, Stranger, Lacks, Refuses, Tells, Changes, judged, verdict};
-ghost use Rattle.af_ops.specs.Worked.{asks, at_entries, dag, is_told, is_told_then, later, opening, policy, second, state_with, trigger};
+ghost use Rattle.af_ops.specs.Worked.{asks, at_entries, at_work, dag, first_told, full_later, is_told, is_told_then, later, no_numbers, opening, policy, second, second_told, state_with, trigger, waited_told, waiting_told};
 
 /// Who asks for DAGs: a viewer is told all three, who may read one DAG that one, who has no permission the requirement that is
 /// lacked. Who may not read a DAG is told the same whether it is there or not; who may is told that it is not.
@@ -129,6 +129,9 @@ pub fn runs_by_the_rule()
     ensures no_dag { asks later (codes "uma") (op.TriggerRun (codes "nosuch") (Ok (trigger None None))) ≡ Refuses fault.NoSuchDag }
     ensures exists { asks later (codes "uma") (op.TriggerRun (codes "b") (Ok (trigger (Some (codes "r2")) (Some 2)))) ≡ Refuses (fault.RunExists 2) }
     ensures taken { asks later (codes "uma") (op.TriggerRun (codes "b") (Ok (trigger (Some (codes "r3")) (Some 2)))) ≡ Refuses (fault.DateTaken 2) }
+    ensures no_number { asks no_numbers (codes "uma") (op.TriggerRun (codes "b") (Ok (trigger None None))) ≡ Refuses fault.TooMany }
+    ensures full { asks (at_entries 1_000_000 false) (codes "uma") (op.TriggerRun (codes "b") (Ok (trigger None None))) ≡ Refuses fault.HistoryFull }
+    ensures full_taken { asks full_later (codes "uma") (op.TriggerRun (codes "b") (Ok (trigger (Some (codes "r2")) (Some 2)))) ≡ Refuses (fault.RunExists 2) }
 {}
 
 /// What is told of runs.
@@ -137,11 +140,14 @@ pub fn run_messages_by_the_rule()
     ensures exists { is_told later (codes "uma") (op.TriggerRun (codes "b") (Ok (trigger (Some (codes "r2")) None))) ≡ Some (record { status = status.Conflict; version = Some 0; seq = Some 2; body = Some (codes "{\"detail\":\"run exists: r2\",\"status\":409,\"title\":\"Conflict\",\"type\":\"about:blank\"}") }) }
     ensures taken { is_told later (codes "uma") (op.TriggerRun (codes "b") (Ok (trigger (Some (codes "x")) (Some 2)))) ≡ Some (record { status = status.Conflict; version = Some 0; seq = Some 2; body = Some (codes "{\"detail\":\"date taken: 1970-01-01T00:00:00.000002+00:00\",\"status\":409,\"title\":\"Conflict\",\"type\":\"about:blank\"}") }) }
     ensures listed { is_told later (codes "ron") (op.ListRuns None) ≡ Some (record { status = status.Ok; version = Some 0; seq = Some 2; body = Some (codes "{\"dag_runs\":[{\"dag_id\":\"b\",\"dag_run_id\":\"r2\",\"data_interval_end\":\"1970-01-01T00:00:00.000002+00:00\",\"data_interval_start\":\"1970-01-01T00:00:00.000002+00:00\",\"end_date\":null,\"logical_date\":\"1970-01-01T00:00:00.000002+00:00\",\"run_type\":\"manual\",\"start_date\":null,\"state\":\"queued\"}],\"total_entries\":1}") }) }
+    ensures too_many { is_told no_numbers (codes "uma") (op.TriggerRun (codes "b") (Ok (trigger None None))) ≡ Some (record { status = status.Conflict; version = Some 0; seq = Some 0; body = Some (codes "{\"detail\":\"too many\",\"status\":409,\"title\":\"Conflict\",\"type\":\"about:blank\"}") }) }
+    ensures full { is_told (at_entries 1_000_000 false) (codes "uma") (op.TriggerRun (codes "b") (Ok (trigger None None))) ≡ Some (record { status = status.InsufficientStorage; version = Some 0; seq = Some 1_000_000; body = Some (codes "{\"detail\":\"history full\",\"status\":507,\"title\":\"Insufficient Storage\",\"type\":\"about:blank\"}") }) }
     ensures absent { is_told later (codes "vera") (op.GetRun (codes "b") (codes "r1")) ≡ Some (record { status = status.NotFound; version = Some 0; seq = Some 2; body = Some (codes "{\"detail\":\"no such run: r1\",\"status\":404,\"title\":\"Not Found\",\"type\":\"about:blank\"}") }) }
     ensures denied { is_told later (codes "bob") (op.GetRun (codes "b") (codes "r2")) ≡ Some (record { status = status.Forbidden; version = Some 0; seq = Some 2; body = Some (codes "{\"detail\":\"missing permission DAG Runs.can_read\",\"status\":403,\"title\":\"Forbidden\",\"type\":\"about:blank\"}") }) }
 {}
 
-/// Bodies of a trigger: the first member of another kind or value is told, in the order of id, date and `conf`.
+/// Bodies of a trigger: the first member of another kind or value is told, in the order of id, date and `conf`; `execution_date` is
+/// looked at where `logical_date` is absent or null, and there alone.
 pub fn triggers_by_the_rule()
     ensures empty { trigger_in (codes "{}") ≡ Ok (trigger None None) }
     ensures given { trigger_in (codes "{\"conf\":{},\"dag_run_id\":\"x\",\"logical_date\":null}") ≡ Ok (trigger (Some (codes "x")) None) }
@@ -149,5 +155,59 @@ pub fn triggers_by_the_rule()
     ensures each { trigger_in (codes "{\"conf\":1,\"dag_run_id\":\"~\",\"logical_date\":1}") ≡ Err (BadMember DagRunId) }
     ensures date { trigger_in (codes "{\"conf\":1,\"execution_date\":1,\"logical_date\":1}") ≡ Err (BadMember LogicalDate) }
     ensures older_date { trigger_in (codes "{\"conf\":1,\"execution_date\":1}") ≡ Err (BadMember ExecutionDate) }
+    ensures older_dated { trigger_in (codes "{\"logical_date\":null,\"execution_date\":\"1970-01-01T00:00:00.000002Z\"}") ≡ trigger_in (codes "{\"execution_date\":\"1970-01-01T00:00:00.000002Z\"}") }
+    ensures newer_dated { trigger_in (codes "{\"logical_date\":\"1970-01-01T00:00:00.000002Z\",\"execution_date\":1}") ≡ trigger_in (codes "{\"logical_date\":\"1970-01-01T00:00:00.000002Z\"}") }
+    ensures null_date { trigger_in (codes "{\"logical_date\":null,\"execution_date\":1}") ≡ Err (BadMember ExecutionDate) }
     ensures conf { trigger_in (codes "{\"conf\":{\"a\":1}}") ≡ Err (BadMember Conf) }
+{}
+
+/// Who asks for the tasks of a DAG: a viewer is told them in the order of the definition, each with those that wait for it, once. A
+/// denial comes before an absence.
+pub fn tasks_by_the_rule()
+    ensures path { spelled (segments_of place.Tasks) ≡ codes "/api/v1/dags/{dag_id}/tasks" }
+    ensures row { op_of_row endpoint.ListTasks (codes "f" ∷ []) (codes "{") ≡ Some (op.ListTasks (codes "f")) }
+    ensures each_dag { op_of_row endpoint.ListTasks (codes "~" ∷ []) [] ≡ None }
+    ensures listed { asks at_work (codes "vera") (op.ListTasks (codes "f")) ≡ Tells (compact_text (listing_of (codes "tasks") (task_data waiting_told ∷ task_data waited_told ∷ []) 2)) }
+    ensures no_instances { asks opening (codes "bob") (op.ListTasks (codes "b")) ≡ Lacks (on_all Read TaskInstances) }
+    ensures hidden { asks opening (codes "bob") (op.ListTasks (codes "nosuch")) ≡ Lacks (at_dag Read) }
+    ensures absent { asks opening (codes "vera") (op.ListTasks (codes "nosuch")) ≡ Refuses fault.NoSuchDag }
+    ensures told { is_told at_work (codes "vera") (op.ListTasks (codes "f")) ≡ Some (record { status = status.Ok; version = Some 0; seq = Some 3; body = Some (codes "{\"tasks\":[{\"downstream_task_ids\":[],\"pool\":\"slow \\\"lane\\\"\",\"pool_slots\":3,\"priority_weight\":-7,\"retries\":2,\"task_id\":\"u\",\"trigger_rule\":\"one_failed\"},{\"downstream_task_ids\":[\"u\"],\"pool\":\"default_pool\",\"pool_slots\":1,\"priority_weight\":1,\"retries\":0,\"task_id\":\"t\",\"trigger_rule\":\"all_success\"}],\"total_entries\":2}") }) }
+{}
+
+/// Paths of instances, and their parts: each is a name of its kind.
+pub fn instance_routes_by_the_rule()
+    ensures listed { op_of_row endpoint.ListInstances (codes "b" ∷ codes "r~1" ∷ []) (codes "{") ≡ Some (op.ListInstances (codes "b") (codes "r~1")) }
+    ensures shown { op_of_row endpoint.GetInstance (codes "b" ∷ codes "r~1" ∷ codes "t-1" ∷ []) [] ≡ Some (op.GetInstance (codes "b") (codes "r~1") (codes "t-1")) }
+    ensures no_task { op_of_row endpoint.GetInstance (codes "b" ∷ codes "r" ∷ codes "t~1" ∷ []) [] ≡ None }
+    ensures no_part { op_of_row endpoint.GetInstance (codes "b" ∷ codes "r" ∷ []) [] ≡ None }
+    ensures each_run { op_of_row endpoint.ListInstances (codes "b" ∷ codes "~" ∷ []) [] ≡ None }
+    ensures each_dag { op_of_row endpoint.ListInstances (codes "~" ∷ codes "r" ∷ []) [] ≡ None }
+    ensures names { are_names (Some Get) place.Instance (codes "b" ∷ codes "r" ∷ codes "t" ∷ []) ≡ true }
+    ensures no_names { are_names None place.Instance (codes "b" ∷ codes "r" ∷ codes "t~1" ∷ []) ≡ false }
+    ensures path { spelled (segments_of place.Instances) ≡ codes "/api/v1/dags/{dag_id}/dagRuns/{dag_run_id}/taskInstances" }
+    ensures one_path { spelled (segments_of place.Instance) ≡ codes "/api/v1/dags/{dag_id}/dagRuns/{dag_run_id}/taskInstances/{task_id}" }
+    ensures methods { methods_at place.Instance ≡ record { get = true; post = false; patch = false; delete = false } }
+{}
+
+/// Who asks for instances: a viewer is told those of a run in the order of its DAG's tasks. A denial comes before an absence; of DAG,
+/// run and task the first that is not there is told.
+pub fn instances_by_the_rule()
+    ensures listed { asks at_work (codes "vera") (op.ListInstances (codes "f") (codes "r")) ≡ Tells (compact_text (listing_of (codes "task_instances") (instance_data first_told ∷ instance_data second_told ∷ []) 2)) }
+    ensures shown { asks at_work (codes "vera") (op.GetInstance (codes "f") (codes "r") (codes "t")) ≡ Tells (compact_text (instance_data second_told)) }
+    ensures no_instances { asks later (codes "ron") (op.ListInstances (codes "b") (codes "r2")) ≡ Lacks (on_all Read TaskInstances) }
+    ensures no_runs { asks later (codes "bob") (op.GetInstance (codes "b") (codes "r2") (codes "t")) ≡ Lacks (on_all Read DagRuns) }
+    ensures hidden { asks later (codes "ron") (op.GetInstance (codes "nosuch") (codes "r2") (codes "t")) ≡ Lacks (at_dag Read) }
+    ensures no_dag { asks at_work (codes "vera") (op.GetInstance (codes "b") (codes "r2") (codes "x")) ≡ Refuses fault.NoSuchDag }
+    ensures no_run { asks at_work (codes "vera") (op.GetInstance (codes "f") (codes "r2") (codes "x")) ≡ Refuses fault.NoSuchRun }
+    ensures no_task { asks at_work (codes "vera") (op.GetInstance (codes "f") (codes "r") (codes "x")) ≡ Refuses fault.NoSuchTask }
+    ensures no_run_listed { asks at_work (codes "vera") (op.ListInstances (codes "f") (codes "r2")) ≡ Refuses fault.NoSuchRun }
+{}
+
+/// What is told of instances.
+pub fn instance_messages_by_the_rule()
+    ensures shown { is_told at_work (codes "vera") (op.GetInstance (codes "f") (codes "r") (codes "u")) ≡ Some (record { status = status.Ok; version = Some 0; seq = Some 3; body = Some (codes "{\"dag_id\":\"f\",\"dag_run_id\":\"r\",\"end_date\":null,\"pool\":\"slow \\\"lane\\\"\",\"pool_slots\":3,\"priority_weight\":-7,\"start_date\":\"1970-01-01T00:00:00.000005+00:00\",\"state\":\"running\",\"task_id\":\"u\",\"try_number\":2}") }) }
+    ensures listed { is_told at_work (codes "vera") (op.ListInstances (codes "f") (codes "r")) ≡ Some (record { status = status.Ok; version = Some 0; seq = Some 3; body = Some (codes "{\"task_instances\":[{\"dag_id\":\"f\",\"dag_run_id\":\"r\",\"end_date\":null,\"pool\":\"slow \\\"lane\\\"\",\"pool_slots\":3,\"priority_weight\":-7,\"start_date\":\"1970-01-01T00:00:00.000005+00:00\",\"state\":\"running\",\"task_id\":\"u\",\"try_number\":2},{\"dag_id\":\"f\",\"dag_run_id\":\"r\",\"end_date\":null,\"pool\":\"default_pool\",\"pool_slots\":1,\"priority_weight\":1,\"start_date\":null,\"state\":null,\"task_id\":\"t\",\"try_number\":0}],\"total_entries\":2}") }) }
+    ensures absent { is_told at_work (codes "vera") (op.GetInstance (codes "f") (codes "r") (codes "x")) ≡ Some (record { status = status.NotFound; version = Some 0; seq = Some 3; body = Some (codes "{\"detail\":\"no such task: x\",\"status\":404,\"title\":\"Not Found\",\"type\":\"about:blank\"}") }) }
+    ensures no_run { is_told at_work (codes "vera") (op.GetInstance (codes "f") (codes "r2") (codes "x")) ≡ Some (record { status = status.NotFound; version = Some 0; seq = Some 3; body = Some (codes "{\"detail\":\"no such run: r2\",\"status\":404,\"title\":\"Not Found\",\"type\":\"about:blank\"}") }) }
+    ensures denied { is_told later (codes "ron") (op.ListInstances (codes "b") (codes "r2")) ≡ Some (record { status = status.Forbidden; version = Some 0; seq = Some 2; body = Some (codes "{\"detail\":\"missing permission Task Instances.can_read\",\"status\":403,\"title\":\"Forbidden\",\"type\":\"about:blank\"}") }) }
 {}

@@ -3,10 +3,10 @@ ghost use Rattle.std.specs.Prelude.{◌≡◌, IfOk, map};
 ghost use Rattle.std.specs.Option.{option_copied};
 ghost use Rattle.serde_json.specs.Written.{compact_text};
 ghost use Rattle.af_base.specs.Readings.{seen};
-ghost use Rattle.af_runs.specs.Runs.{is_of, runs_of};
+ghost use Rattle.af_runs.specs.Runs.{runs_of};
 ghost use Rattle.af_ops.specs.declared.answer.OpFault.TheVariants.{OutOfMemory};
 ghost use Rattle.af_ops.specs.Effects.{got_run, listed_runs, runs_data, runs_of_dag};
-ghost use Rattle.af_ops.specs.Listings.{read_rows};
+ghost use Rattle.af_ops.specs.Listings.{default_limit, page, read_rows};
 ghost use Rattle.af_ops.specs.Prepared.{CanDo, IsExact, MemoryLast, done_on};
 
 use crate::answer::OpFault;
@@ -46,7 +46,7 @@ fn runs_of_dag(alloc: Global, state: &State, dag_id: &DagId) -> Result<Prepared,
     ensures exact { IfOk result (λ prepared. IsExact state.now.rows prepared.edit) }
 {
     dag_or(state, dag_id)?;
-    let body = dag_runs_text(alloc, state.runs(), dag_id)?;
+    let body = dag_runs_text(alloc, state, dag_id)?;
     Ok(Prepared::of(body, Edit::Nothing))
 }
 
@@ -58,12 +58,25 @@ fn read_runs_text<R: Reader>(alloc: Global, runs: &[Run], reader: &R) -> Result<
     runs_text(alloc, listed.as_slice())
 }
 
-/// The text of the first page of the runs of a DAG.
-fn dag_runs_text(alloc: Global, runs: &[Run], dag_id: &DagId) -> Result<Vec<u8>, AllocError>
-    ensures { IfOk result (λ body. body.items ≡ compact_text (runs_data (runs_of runs.now dag_id.now))) }
+/// The text of the first page of the runs of a DAG. The runs of other DAGs are not looked at.
+fn dag_runs_text(alloc: Global, state: &State, dag_id: &DagId) -> Result<Vec<u8>, AllocError>
+    ensures { IfOk result (λ body. body.items ≡ compact_text (runs_data (runs_of state.now.rows.runs dag_id.now))) }
 {
-    let listed = runs_of(alloc, runs, dag_id)?;
-    runs_text(alloc, listed.as_slice())
+    let shown = first_runs(alloc, state, dag_id)?;
+    let total = state.count_of_dag(dag_id);
+    let body = listing_text(alloc, "dag_runs", shown.as_slice(), total)?;
+    Ok(body)
+}
+
+/// The first page of the runs of a DAG, lent. `AllocError` only where a growth was refused.
+fn first_runs<'a>(
+    alloc: Global,
+    state: &'a State,
+    dag_id: &DagId,
+) -> Result<Vec<&'a Run>, AllocError>
+    ensures { IfOk result (λ listed. map (λ run. run.now) listed.items ≡ page default_limit 0 (runs_of state.now.rows.runs dag_id.now)) }
+{
+    state.runs_of_dag(dag_id, 0).take(LIMIT).collect(alloc)
 }
 
 /// The text of the first page of these runs.
@@ -88,13 +101,6 @@ fn runs_read<'a, R: Reader>(
         .collect(alloc)
 }
 
-/// The runs of a DAG, lent, in their order. `AllocError` only where a growth was refused.
-fn runs_of<'a>(alloc: Global, runs: &'a [Run], dag_id: &DagId) -> Result<Vec<&'a Run>, AllocError>
-    ensures { IfOk result (λ listed. map (λ run. run.now) listed.items ≡ runs_of runs.now dag_id.now) }
-{
-    runs.iter().filter(|run| is_of(*run, dag_id)).collect(alloc)
-}
-
 pub(crate) fn got_run(
     alloc: Global,
     state: &State,
@@ -109,11 +115,4 @@ pub(crate) fn got_run(
     let run = run_or(state, dag_id, run_id)?;
     let body = row_text(alloc, run)?;
     Ok(Prepared::of(body, Edit::Nothing))
-}
-
-/// Whether it is a run of the DAG of this id.
-pub(crate) fn is_of(run: &Run, dag_id: &DagId) -> bool
-    ensures { result ≡ is_of dag_id.now run.now }
-{
-    run.dag_id == *dag_id
 }

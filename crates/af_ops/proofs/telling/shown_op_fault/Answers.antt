@@ -22,3 +22,9 @@ returns-in_ok-detail-in-NoSuchRun c =
     told_is c.args.op.now c.args.under (why.Op c.args.fault) _ c.shown_problem-in-NoSuchRun.result
     (rw (c.in-NoSuchRun.is, c.as_str-in-NoSuchRun.ensures.value, c.in_ok-detail-in-NoSuchRun.ensures, c.run_id_text.ensures, c.run.ensures) refl)
     c.shown_problem-in-NoSuchRun.ensures
+
+pub returns-in_ok-detail-in-NoSuchTask : goal.returns-in_ok-detail-in-NoSuchTask
+returns-in_ok-detail-in-NoSuchTask c =
+    told_is c.args.op.now c.args.under (why.Op c.args.fault) _ c.shown_problem-in-NoSuchTask.result
+    (rw (c.in-NoSuchTask.is, c.as_str-in-NoSuchTask.ensures.value, c.in_ok-detail-in-NoSuchTask.ensures, c.task_id_text.ensures, c.task.ensures) refl)
+    c.shown_problem-in-NoSuchTask.ensures

@@ -28,3 +28,11 @@ returns-clause-absent c = refl
 pub returns-clause-denied : goal.returns-clause-denied
 unfolding digits escape_byte civil_day made_id
 returns-clause-denied c = refl
+
+pub returns-clause-too_many : goal.returns-clause-too_many
+unfolding digits escape_byte civil_day made_id
+returns-clause-too_many c = refl
+
+pub returns-clause-full : goal.returns-clause-full
+unfolding digits escape_byte civil_day made_id
+returns-clause-full c = refl

@@ -30,3 +30,15 @@ returns-clause-older_date c = refl
 pub returns-clause-conf : goal.returns-clause-conf
 unfolding serde_json_on_literals is_utf8 chars
 returns-clause-conf c = refl
+
+pub returns-clause-older_dated : goal.returns-clause-older_dated
+unfolding serde_json_on_literals is_utf8 chars
+returns-clause-older_dated c = refl
+
+pub returns-clause-null_date : goal.returns-clause-null_date
+unfolding serde_json_on_literals is_utf8 chars
+returns-clause-null_date c = refl
+
+pub returns-clause-newer_dated : goal.returns-clause-newer_dated
+unfolding serde_json_on_literals is_utf8 chars
+returns-clause-newer_dated c = refl
