@@ -18,7 +18,7 @@ use Rattle.af_ops.specs.declared.op.Op.TheVariants as op
 use Rattle.af_ops.specs.declared.place.Place.{Place}
 use Rattle.af_ops.specs.declared.place.Place.TheVariants as place
 use Rattle.af_ops.specs.Bodies.{pause_in, trigger_in}
-use Rattle.af_ops.specs.Endpoints.{are_names, both, dag_id_in, is_all, is_get, op_of_row, run_id_in}
+use Rattle.af_ops.specs.Endpoints.{are_names, both, dag_id_in, is_all, is_get, op_of_row, run_id_in, task_id_in}
 use Rattle.af_ops.specs.Methods.{method_of}
 use Rattle.af_ops.specs.Table.{Segment, Text, Part, endpoint_at, methods_at, segments_of}
 use Rattle.af_http.specs.Limits.{name_limit, part_limit}
@@ -117,8 +117,11 @@ pub few_segments : (p : Place) → part_count (segments_of p) ≤ part_limit
 few_segments place.Version = omega arith
 few_segments place.Dags = omega arith
 few_segments place.Dag = omega arith
+few_segments place.Tasks = omega arith
 few_segments place.Runs = omega arith
 few_segments place.Run = omega arith
+few_segments place.Instances = omega arith
+few_segments place.Instance = omega arith
 
 no_name : (grammar : Grammar) (text : List ℕ) → nat_lt grammar.longest (length text) ≡ true → result_ok (name_in grammar text) ≡ None
 no_name grammar text long = by (not (is_spelled grammar text) || grammar.reserved text)
@@ -138,31 +141,77 @@ no_tilde [] long = cc
 no_tilde (a ∷ []) long = cc
 no_tilde (a ∷ b ∷ text) long = both_false (nat_eq a 126)
 
--- where a text is too long, the parts are no names
-no_names : (method : Option Method) (p : Place) (texts : List (List ℕ)) → length texts ≤ part_count (segments_of p) → list_any is_long texts ≡ true → are_names method p texts ≡ false
-no_names method place.Version [] few long = cc
-no_names method place.Version (t ∷ ts) few long = absurd (omega (arith, few))
-no_names method place.Dags [] few long = cc
-no_names method place.Dags (t ∷ ts) few long = absurd (omega (arith, few))
-no_names method place.Dag [] few long = cc
-no_names method place.Dag (t ∷ []) few long = no_dag t [] (either_false (is_long t) long)
-no_names method place.Dag (t ∷ u ∷ ts) few long = absurd (omega (arith, few))
-no_names method place.Runs [] few long = cc
-no_names method place.Runs (t ∷ []) few long =
-    ap (λ (b : Bool). b || (is_get method && is_tilde t)) (no_dag t [] (either_false (is_long t) long))
-    ∙ ap (λ (b : Bool). is_get method && b) (no_tilde t (either_false (is_long t) long))
-    ∙ both_false (is_get method)
-no_names method place.Runs (t ∷ u ∷ ts) few long = absurd (omega (arith, few))
-no_names method place.Run [] few long = cc
-no_names method place.Run (t ∷ []) few long = ap (λ (b : Bool). b && is_some (run_id_in (t ∷ []))) (no_dag t [] (either_false (is_long t) long))
-no_names method place.Run (t ∷ u ∷ []) few long = by (is_long t) refl long
+no_task : (first second text : List ℕ) (more : List (List ℕ)) → is_long text ≡ true → is_some (task_id_in (first ∷ second ∷ text ∷ more)) ≡ false
+no_task first second text more long = ap (λ (o : Option (List ℕ)). is_some o) (no_name id_grammar text long)
+
+-- a DAG and a run
+no_two : (texts : List (List ℕ)) → length texts ≤ 2 → list_any is_long texts ≡ true → (is_some (dag_id_in texts) && is_some (run_id_in texts)) ≡ false
+no_two [] few long = cc
+no_two (t ∷ []) few long = ap (λ (b : Bool). b && is_some (run_id_in (t ∷ []))) (no_dag t [] (either_false (is_long t) long))
+no_two (t ∷ u ∷ []) few long = by (is_long t) refl long
   where
     by : (b : Bool) → is_long t ≡ b → (b || (is_long u || false)) ≡ true → (is_some (dag_id_in (t ∷ u ∷ [])) && is_some (run_id_in (t ∷ u ∷ []))) ≡ false
     by true it or = ap (λ (b : Bool). b && is_some (run_id_in (t ∷ u ∷ []))) (no_dag t (u ∷ []) it)
     by false it or =
         ap (λ (b : Bool). is_some (dag_id_in (t ∷ u ∷ [])) && b) (no_run t u [] (either_false (is_long u) or))
         ∙ both_false (is_some (dag_id_in (t ∷ u ∷ [])))
-no_names method place.Run (t ∷ u ∷ v ∷ ts) few long = absurd (omega (arith, few))
+no_two (t ∷ u ∷ v ∷ ts) few long = absurd (omega (arith, few))
+
+-- a DAG, a run and a task
+abbrev are_three : List (List ℕ) → Bool
+are_three texts = is_some (dag_id_in texts) && (is_some (run_id_in texts) && is_some (task_id_in texts))
+
+no_first : (texts : List (List ℕ)) → is_some (dag_id_in texts) ≡ false → are_three texts ≡ false
+no_first texts none = ap (λ (b : Bool). b && (is_some (run_id_in texts) && is_some (task_id_in texts))) none
+
+no_second : (texts : List (List ℕ)) → is_some (run_id_in texts) ≡ false → are_three texts ≡ false
+no_second texts none =
+    ap (λ (b : Bool). is_some (dag_id_in texts) && (b && is_some (task_id_in texts))) none
+    ∙ both_false (is_some (dag_id_in texts))
+
+no_third : (texts : List (List ℕ)) → is_some (task_id_in texts) ≡ false → are_three texts ≡ false
+no_third texts none =
+    ap (λ (b : Bool). is_some (dag_id_in texts) && (is_some (run_id_in texts) && b)) none
+    ∙ ap (λ (b : Bool). is_some (dag_id_in texts) && b) (both_false (is_some (run_id_in texts)))
+    ∙ both_false (is_some (dag_id_in texts))
+
+no_three : (texts : List (List ℕ)) → length texts ≤ 3 → list_any is_long texts ≡ true → are_three texts ≡ false
+no_three [] few long = cc
+no_three (t ∷ []) few long = no_first (t ∷ []) (no_dag t [] (either_false (is_long t) long))
+no_three (t ∷ u ∷ []) few long = no_third (t ∷ u ∷ []) refl
+no_three (t ∷ u ∷ v ∷ []) few long = by (is_long t) (is_long u) refl refl long
+  where
+    by : (b d : Bool) → is_long t ≡ b → is_long u ≡ d → (b || (d || (is_long v || false))) ≡ true → are_three (t ∷ u ∷ v ∷ []) ≡ false
+    by true d first second or = no_first (t ∷ u ∷ v ∷ []) (no_dag t (u ∷ v ∷ []) first)
+    by false true first second or = no_second (t ∷ u ∷ v ∷ []) (no_run t u (v ∷ []) second)
+    by false false first second or = no_third (t ∷ u ∷ v ∷ []) (no_task t u v [] (either_false (is_long v) or))
+no_three (t ∷ u ∷ v ∷ w ∷ ts) few long = absurd (omega (arith, few))
+
+-- a DAG alone
+no_one : (texts : List (List ℕ)) → length texts ≤ 1 → list_any is_long texts ≡ true → is_some (dag_id_in texts) ≡ false
+no_one [] few long = cc
+no_one (t ∷ []) few long = no_dag t [] (either_false (is_long t) long)
+no_one (t ∷ u ∷ ts) few long = absurd (omega (arith, few))
+
+no_part : (texts : List (List ℕ)) → length texts ≤ 0 → list_any is_long texts ≡ true → ⊥
+no_part [] few long = cc
+no_part (t ∷ ts) few long = omega (arith, few)
+
+-- where a text is too long, the parts are no names
+no_names : (method : Option Method) (p : Place) (texts : List (List ℕ)) → length texts ≤ part_count (segments_of p) → list_any is_long texts ≡ true → are_names method p texts ≡ false
+no_names method place.Version texts few long = absurd (no_part texts few long)
+no_names method place.Dags texts few long = absurd (no_part texts few long)
+no_names method place.Dag texts few long = no_one texts few long
+no_names method place.Tasks texts few long = no_one texts few long
+no_names method place.Runs [] few long = cc
+no_names method place.Runs (t ∷ []) few long =
+    ap (λ (b : Bool). b || (is_get method && is_tilde t)) (no_dag t [] (either_false (is_long t) long))
+    ∙ ap (λ (b : Bool). is_get method && b) (no_tilde t (either_false (is_long t) long))
+    ∙ both_false (is_get method)
+no_names method place.Runs (t ∷ u ∷ ts) few long = absurd (omega (arith, few))
+no_names method place.Run texts few long = no_two texts few long
+no_names method place.Instances texts few long = no_two texts few long
+no_names method place.Instance texts few long = no_three texts few long
 
 -- so there is no such path
 pub unfit_path : (method body : List ℕ) (p : Place) (path : List ℕ) → IsUnfit (parts_in (segments_of p) path) → with_parts method body p (parts_in (segments_of p) path) ≡ Err fault.NoPath
@@ -187,6 +236,12 @@ some_both f None p = refl
 some_both f (Some x) None = refl
 some_both f (Some x) (Some y) = refl
 
+some_three : {X Y Z W : Type 0} (f : (X × Y) × Z → W) (o : Option X) (p : Option Y) (q : Option Z) → (is_some o && (is_some p && is_some q)) ≡ is_some (option_map f (both (both o p) q))
+some_three f None p q = refl
+some_three f (Some x) None q = refl
+some_three f (Some x) (Some y) None = refl
+some_three f (Some x) (Some y) (Some z) = refl
+
 some_if : {X Y : Type 0} (f : X → Y) (o : Option X) (b : Bool) (y : Y) → (is_some o || b) ≡ is_some (if b then Some y else option_map f o)
 some_if f None true y = refl
 some_if f None false y = refl
@@ -210,6 +265,10 @@ agrees Get place.Dag parts body = some_map (λ dag_id. op.GetDag dag_id) (dag_id
 agrees Post place.Dag parts body = tt
 agrees Patch place.Dag parts body = some_map (λ dag_id. op.PauseDag dag_id (pause_in body)) (dag_id_in parts)
 agrees Delete place.Dag parts body = tt
+agrees Get place.Tasks parts body = some_map (λ dag_id. op.ListTasks dag_id) (dag_id_in parts)
+agrees Post place.Tasks parts body = tt
+agrees Patch place.Tasks parts body = tt
+agrees Delete place.Tasks parts body = tt
 agrees Get place.Runs parts body = some_if (λ dag_id. op.ListRuns (Some dag_id)) (dag_id_in parts) (is_all parts) (op.ListRuns None)
 agrees Post place.Runs parts body = some_or_false (λ dag_id. op.TriggerRun dag_id (trigger_in body)) (dag_id_in parts)
 agrees Patch place.Runs parts body = tt
@@ -218,6 +277,14 @@ agrees Get place.Run parts body = some_both (λ ids. op.GetRun ids.0 ids.1) (dag
 agrees Post place.Run parts body = tt
 agrees Patch place.Run parts body = tt
 agrees Delete place.Run parts body = tt
+agrees Get place.Instances parts body = some_both (λ ids. op.ListInstances ids.0 ids.1) (dag_id_in parts) (run_id_in parts)
+agrees Post place.Instances parts body = tt
+agrees Patch place.Instances parts body = tt
+agrees Delete place.Instances parts body = tt
+agrees Get place.Instance parts body = some_three (λ ids. op.GetInstance ids.0.0 ids.0.1 ids.1) (dag_id_in parts) (run_id_in parts) (task_id_in parts)
+agrees Post place.Instance parts body = tt
+agrees Patch place.Instance parts body = tt
+agrees Delete place.Instance parts body = tt
 
 reads_if_named : (o : Option Op) (b : Bool) → b ≡ is_some o → (if b then ok_or o fault.NoPath else Err fault.NoPath) ≡ ok_or o fault.NoPath
 reads_if_named None true is = refl
