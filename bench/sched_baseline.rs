@@ -1,4 +1,4 @@
-//! What sched.py compares afplane's scheduler with: the same state and the same lines, as a Rust programmer would write them by
+//! What sched_bench.py compares afplane's scheduler with: the same state and the same lines, as a Rust programmer would write them by
 //! hand, with std alone: runs in a vector, hash maps by id and by date, and a list of the runs that are busy.
 //!
 //!   sched_baseline DAGS TASKS RUNS < lines > numbers

@@ -1,10 +1,10 @@
 #!/usr/bin/env python3
 """What ticks, claims and look-ups cost afplane's scheduler, beside a plain Rust program with hash maps (sched_baseline.rs).
 
-  python3 bench/sched.py                    processor time; some minutes
-  python3 bench/sched.py --count            instructions, counted by valgrind; other work on the machine doesn't touch them
-  python3 bench/sched.py --only tick        the loads with one of these words in their names
-  python3 bench/sched.py --build            proves and builds the program of bench/sched/ anew, and measures nothing
+  python3 bench/sched_bench.py                    processor time; some minutes
+  python3 bench/sched_bench.py --count            instructions, counted by valgrind; other work on the machine doesn't touch them
+  python3 bench/sched_bench.py --only tick        the loads with one of these words in their names
+  python3 bench/sched_bench.py --build            proves and builds the program of bench/sched/ anew, and measures nothing
 
 No request reaches the scheduler yet, so a program of its own plays the loads, bench/sched/, over the proved crates af_sched and
 af_runs. It takes lines from standard input, and answers each by a number, which depends on all that was done; so does the plain
@@ -34,7 +34,7 @@ NOON, FAR = START + DAY // 2, START + 2_000 * DAY
 
 
 def fail(text):
-    sys.exit(f"sched.py: {text}")
+    sys.exit(f"sched_bench.py: {text}")
 
 
 # ---- Loads -------------------------------------------------------------------------------------------------
