@@ -40,7 +40,7 @@ REPLY_LOST = (
 REFUSED = b"afplane: configuration refused: memory\n"
 MOST = 100_000
 INPUTS = [("base.json", "viewer.http"), ("team.json", "one-team.http"), ("team.json", "denied.http"), ("team.json", "wrong-token.http"), ("base.json", "pause.http"), ("team.json", "morning.http")]
-INPUTS += [("team.json", "everything.http"), ("team.json", "refusals.http")]
+INPUTS += [("team.json", "everything.http")]
 # Changes over base.json, of each kind one or more, after what has to stand before them; what they do is looked at, and they are asked for again.
 CHANGES = [
     ("patch_dag", "PATCH /dags/b", '{"is_paused":true}', "/dags/b"),
