@@ -513,7 +513,7 @@ fn policy(alloc: Global) -> Result<Policy, Fail> {
             User::new(UserName::parse(alloc, name)?, digest, roles),
         )?;
     }
-    Ok(draft.finish()?)
+    Ok(draft.finish(alloc)?)
 }
 
 fn state(alloc: Global) -> Result<State, Fail> {

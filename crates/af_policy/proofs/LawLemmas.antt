@@ -39,7 +39,7 @@ or-regroup true false c = refl
 or-regroup false true c = refl
 or-regroup false false c = refl
 
-or-none : (b : Bool) → (b || false) ≡ b
+pub or-none : (b : Bool) → (b || false) ≡ b
 or-none true = refl
 or-none false = refl
 
@@ -61,7 +61,7 @@ contains-with_pair k pair (x ∷ xs) = step (pair_cmp k x) refl (contains-with_p
         ∙ ap (λ y. same_pair y pair || (same_pair x pair || contains_pair xs pair)) (sym (tied k x is))
     step Greater is later = ap (λ b. same_pair x pair || b) later ∙ or-exchange (same_pair x pair) (same_pair k pair) (contains_pair xs pair)
 
-contains-with_pairs : (pair : PairRow) (pairs more : List PairRow) → contains_pair (with_pairs pairs more) pair ≡ (contains_pair more pair || contains_pair pairs pair)
+pub contains-with_pairs : (pair : PairRow) (pairs more : List PairRow) → contains_pair (with_pairs pairs more) pair ≡ (contains_pair more pair || contains_pair pairs pair)
 contains-with_pairs pair pairs [] = refl
 contains-with_pairs pair pairs (k ∷ ks) =
     contains-with_pairs pair (with_pair pairs k) ks

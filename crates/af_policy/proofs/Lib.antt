@@ -3,6 +3,7 @@ pub mod FoundLemmas
 pub mod ShapeLemmas
 pub mod NameLemmas
 pub mod UserLemmas
+pub mod EntryLemmas
 pub mod UseLemmas
 pub mod ViewLemmas
 pub mod DraftLemmas
@@ -13,4 +14,5 @@ pub mod GrantLemmas
 pub mod VersionLemmas
 pub mod ShownLemmas
 pub mod LawLemmas
+pub mod PermissionLemmas
 pub mod TouchLemmas

@@ -8,6 +8,7 @@ mod change_fault;
 mod change_kind;
 mod changing;
 mod draft;
+mod finish_fault;
 mod identity;
 mod laws;
 mod me;
@@ -29,8 +30,10 @@ mod shared;
 mod span;
 mod submit_fault;
 mod tables;
+mod tables_draft;
 mod told;
 mod user;
+mod user_draft;
 mod user_rows;
 mod user_shown;
 mod user_table;
@@ -44,11 +47,13 @@ pub use bad_input::{BadInput, Member, Parameter};
 pub use change::{Change, DagAccess, RoleInput, UserPatch};
 pub use change_fault::ChangeFault;
 pub use change_kind::ChangeKind;
-pub use draft::{NoAdmin, PolicyDraft};
+pub use draft::PolicyDraft;
+pub use finish_fault::FinishFault;
 pub use laws::{
-    default_roles_stay, grants_by_roles, lack_decides, nothing_is_doubled, one_role_is_touched,
-    one_user_is_touched, only_users_are_granted, removed_token_is_nobodys, some_admin_stays,
-    sync_keeps_the_rest, sync_lists_exactly, used_roles_stay,
+    default_roles_stay, grants_by_roles, lack_decides, me_shows_grants, nothing_is_doubled,
+    one_role_is_touched, one_user_is_touched, only_users_are_granted, removed_token_is_nobodys,
+    some_admin_stays, sync_adds_nothing_elsewhere, sync_is_exact, sync_keeps_the_rest,
+    sync_lists_exactly, used_roles_stay,
 };
 pub use me::Me;
 pub use me_fault::MeFault;

@@ -101,7 +101,7 @@ impl RoleTable {
     }
 
     /// The permissions of the role of a name.
-    fn get(&self, name: &RoleName) -> Option<&Permissions>
+    pub(crate) fn get(&self, name: &RoleName) -> Option<&Permissions>
         ensures value { option_copied result ≡ pairs_of self.now name.now }
         ensures ascend { NamesAscend (role_names self.now) }
     {

@@ -1,4 +1,5 @@
 //! Tables of rows that share what did not change.
+mod building;
 mod listing;
 pub(crate) mod node;
 mod row;

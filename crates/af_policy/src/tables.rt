@@ -2,7 +2,7 @@ ghost use Rattle.std.specs.Prelude.{◌≡◌, List, ℕ, [], true, false, not, 
 ghost use Rattle.af_role.specs.Access.{synced_role};
 ghost use Rattle.af_role.specs.Pairs.{PairRow};
 ghost use Rattle.af_policy.specs.Grants.{grants, reads, reads_dag};
-ghost use Rattle.af_policy.specs.Uses.{count_at, mentions};
+ghost use Rattle.af_policy.specs.Uses.{IsTables, count_at, mentions};
 ghost use Rattle.af_policy.specs.Views.{held};
 ghost use Rattle.af_policy.specs.Rows.{NamesAscend, digests_differ, found_user, has_admin, has_digest, has_roles, has_user, role_in_use, role_names, roles_exist, same_digest, user_names, with_role, with_user, without_role, without_user};
 
@@ -36,15 +36,12 @@ impl Model for Tables {
 }
 
 impl Tables {
-    /// These roles, and no user.
-    pub(crate) fn new(roles: RoleTable) -> Tables
-        ensures { result ≡ record { users = []; roles = roles } }
+    /// These users and roles, where those counts are the users'.
+    pub(crate) fn of_parts(users: UserTable, roles: RoleTable, uses: Uses) -> Tables
+        requires { IsTables users roles uses }
+        ensures { result ≡ record { users = users; roles = roles } }
     {
-        Tables {
-            users: UserTable::new(),
-            roles,
-            uses: Uses::new(),
-        }
+        Tables { users, roles, uses }
     }
 
     /// The tables once more, which share all rows.
@@ -137,13 +134,6 @@ impl Tables {
         ensures { result ≡ role_in_use self.now.users name.now }
     {
         self.uses.count(name) != 0
-    }
-
-    /// Whether some user has the role Admin.
-    pub(crate) fn has_admin(&self) -> bool
-        ensures { result ≡ has_admin self.now.users }
-    {
-        self.is_used("Admin")
     }
 
     /// Whether some user but that of a name, who is this one, has the role Admin.

@@ -2,9 +2,9 @@ ghost use Rattle.std.specs.Prelude.{◌≡◌, [], true, false, length, map, IfO
 ghost use Rattle.std.specs.Option.{option_copied};
 ghost use Rattle.af_policy.specs.Rows.{NamesAscend, digests_differ, found_user, has_digest, has_user, user_names, with_user, without_user};
 ghost use Rattle.af_policy.specs.Identity.{digest_user};
-ghost use Rattle.af_policy.specs.SharedRows.{seen};
+ghost use Rattle.af_policy.specs.SharedRows.{Ascend, seen};
 ghost use Rattle.af_policy.specs.Shown.{page_rows, shown_user};
-ghost use Rattle.af_policy.specs.Tables.{roles_of};
+ghost use Rattle.af_policy.specs.Tables.{IsUserTable, roles_of};
 
 use crate::shared::Table;
 use crate::user_rows::{ByDigest, ByName};
@@ -36,14 +36,20 @@ impl Model for UserTable {
 }
 
 impl UserTable {
-    /// No user.
-    pub(crate) fn new() -> UserTable
-        ensures { result ≡ [] }
+    /// The users of these rows, by name and by digest.
+    pub(crate) fn of_rows(
+        alloc: Global,
+        names: Vec<ByName>,
+        digests: Vec<ByDigest>,
+    ) -> Result<UserTable, AllocError>
+        requires names { Ascend (λ user. user.name) names.items }
+        requires digests { Ascend (λ user. user.digest) digests.items }
+        requires table { IsUserTable names.items digests.items }
+        ensures { IfOk result (λ table. table ≡ names.items) }
     {
-        UserTable {
-            by_name: Table::new(),
-            by_digest: Table::new(),
-        }
+        let by_name = Table::of_rows(alloc, names)?;
+        let by_digest = Table::of_rows(alloc, digests)?;
+        Ok(UserTable { by_name, by_digest })
     }
 
     /// The table once more, which shares all users.

@@ -41,7 +41,7 @@ pub(crate) fn copied<T: Row>(link: &Link<T>) -> Result<Link<T>, AllocError>
 }
 
 /// A node of its own.
-fn joined<T: Row>(
+pub(crate) fn joined<T: Row>(
     alloc: Global,
     row: T,
     left: Link<T>,

@@ -5,7 +5,7 @@ ghost use Rattle.af_policy.specs.SharedRows.{Ascend, found, seen, with_row, with
 
 use crate::shared::node::{self, Link};
 use crate::shared::some::some_row;
-use crate::shared::{Row, Test, listing};
+use crate::shared::{Row, Test, building, listing};
 use std::alloc::{AllocError, Global};
 use std::marker::Model;
 
@@ -35,6 +35,17 @@ impl<T: Row> Table<T> {
         ensures { result ≡ [] }
     {
         Table { root: None, len: 0 }
+    }
+
+    /// The table of these rows, whose keys ascend. Each row is looked at once.
+    pub fn of_rows(alloc: Global, rows: Vec<T>) -> Result<Table<T>, AllocError>
+        requires { Ascend T.key rows.items }
+        ensures { IfOk result (λ table. table ≡ rows.items) }
+    {
+        let mut rows = rows;
+        let len = rows.len();
+        let root = building::built(alloc, &mut rows, len)?;
+        Ok(Table { root, len })
     }
 
     /// How many rows there are.

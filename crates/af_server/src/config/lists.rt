@@ -14,7 +14,7 @@ use super::roles::read_role;
 use super::users::read_user;
 use crate::members::optional_list;
 use crate::reason::Reason;
-use af_policy::{Policy, PolicyDraft};
+use af_policy::{FinishFault, Policy, PolicyDraft};
 use serde_json::Value;
 use std::alloc::Global;
 
@@ -26,9 +26,10 @@ pub fn read_policy(alloc: Global, config: &Value) -> Result<Policy, Reason>
     let mut draft = PolicyDraft::new(alloc)?;
     add_roles(alloc, &mut draft, roles)?;
     add_users(alloc, &mut draft, optional_list(config, "users")?)?;
-    match draft.finish() {
+    match draft.finish(alloc) {
         Ok(policy) => Ok(policy),
-        Err(_) => Err(Reason::Admin),
+        Err(FinishFault::NoAdmin) => Err(Reason::Admin),
+        Err(FinishFault::OutOfMemory) => Err(Reason::Memory),
     }
 }
 
