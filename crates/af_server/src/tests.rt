@@ -3,6 +3,7 @@ mod calls;
 mod configurations;
 mod connections;
 mod dags;
+mod instances;
 mod many;
 
 use crate::once::once;
