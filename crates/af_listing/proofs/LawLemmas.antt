@@ -8,7 +8,7 @@ use Rattle.std.proofs.lemmas.Bool.{and_parts, ltb-false, ltb-true}
 use Rattle.std.proofs.lemmas.List.{drop_all, take_all}
 use Rattle.af_listing.specs.Windows.{Cut, last_number}
 use Rattle.af_listing.specs.Pages.{cut, shown_places}
-use Rattle.af_listing.specs.Laws.{HiddenRowsAreNotTold, HiddenRowsChangeNothing, NumbersMayBeCut, PagesMakeTheListing, PagesTellShownRows, TotalsCountShownRows, first_pages, is_told, rows_at}
+use Rattle.af_listing.specs.Laws.{HiddenRowsAreNotTold, HiddenRowsChangeNothing, NumbersMayBeCut, PagesMakeTheListing, PagesTellShownRows, TotalsCountShownRows, WholeListingsAreCut, first_pages, is_told, rows_at}
 use Rattle.af_listing.proofs.PageLemmas.{count_places}
 
 map_take : {X Y : Type 0} (f : X → Y) (n : ℕ) (xs : List X) → map f (take n xs) ≡ take n (map f xs)
@@ -112,6 +112,19 @@ module _ {X : Type 0} (shown : X → Bool) where
       let counted = count_places shown rows in
       ap (rows_at rows) (pages_so_far size count rows ∙ take_all (count * size) (shown_places shown rows) (omega (arith, enough, counted)))
       ∙ rows_shown rows
+
+module _ {X : Type 0} (shown : X → Bool) where
+  filter_all : (rows : List X) → list_all shown rows ≡ true → filter shown rows ≡ rows
+  filter_all [] all = refl
+  filter_all (row ∷ rows) all =
+      let parts = and_parts (shown row) (list_all shown rows) all in
+      ap (λ (t : Bool). cond t (row ∷ filter shown rows) (filter shown rows)) parts.0 ∙ ap (λ (some : List X). row ∷ some) (filter_all rows parts.1)
+
+  pub whole_listings_are_cut : WholeListingsAreCut shown
+  whole_listings_are_cut window rows all = (
+    pages_tell_shown_rows shown window rows ∙ ap (λ (some : List X). map Some (cut window some)) (filter_all rows all),
+    ap (λ (some : List X). length some) (filter_all rows all),
+  )
 
 pub numbers_may_be_cut : {X : Type 0} (rows : List X) → NumbersMayBeCut rows
 numbers_may_be_cut {X} rows limit offset few = by (nat_lt last_number offset) refl

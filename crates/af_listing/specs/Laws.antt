@@ -46,6 +46,12 @@ PagesMakeTheListing {X} shown =
     (size count : ℕ) (rows : List X) → length (filter shown rows) ≤ count * size
     → rows_at rows (first_pages shown size count rows) ≡ map Some (filter shown rows)
 
+-- where all rows are shown, the page is cut of the list itself, and the total is its length
+abbrev pub WholeListingsAreCut : {X : Type 0} → (X → Bool) → Type 0
+WholeListingsAreCut {X} shown =
+    (window : Cut) (rows : List X) → list_all shown rows ≡ true
+    → (rows_at rows (page_of shown window rows).places ≡ map Some (cut window rows)) × ((page_of shown window rows).total ≡ length rows)
+
 -- an offset that is no number of 64 bits passes over as much as the last of these: all
 abbrev pub NumbersMayBeCut : {X : Type 0} → List X → Type 0
 NumbersMayBeCut {X} rows =
