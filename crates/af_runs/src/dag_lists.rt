@@ -13,7 +13,7 @@ use std::alloc::{AllocError, Global};
 use std::collections::HashMap;
 
 /// The numbers of the runs of each DAG, in order, of the first rows of all. The rows after those are few: they were added
-/// where memory was reserved, and are listed when memory is reserved again.
+/// where memory was reserved, and are listed when the next tick is planned, or memory is reserved again.
 #[derive(Drop)]
 pub(crate) struct DagLists {
     alloc: Global,

@@ -28,6 +28,14 @@ impl Runs {
         Ok(())
     }
 
+    /// Lists by DAG the runs that were added since memory was last reserved, as far as there is memory for it. The runs are
+    /// the same to every caller, but those that are not listed are found by a walk.
+    pub fn list_appended(&mut self)
+        ensures { self.new ≡ self.old }
+    {
+        self.index.list_rest(self.rows.as_slice());
+    }
+
     /// Why a run of these ids and this logical date would not be added, memory aside: `RunExists` where the DAG has a
     /// run of that id; `DateTaken` where it has one of that logical date; `Full` where it has 65,536 runs or no number
     /// is left.

@@ -24,6 +24,7 @@ impl State {
         ensures spare_pools { self.new.spare_pools ≡ self.old.spare_pools }
         ensures err { OnErr result (self.new ≡ self.old) }
     {
+        self.runs.list_appended();
         let plan = self.planned(alloc, at)?;
         self.runs.reserve(plan.added.len())?;
         Ok(plan)
