@@ -1,8 +1,10 @@
 pub mod BusyLemmas
 pub mod ChainLemmas
+pub mod ChangeLemmas
 pub mod DagListLemmas
 pub mod FindLemmas
 pub mod IndexLemmas
+pub mod MarkLemmas
 pub mod NthLemmas
 pub mod OkLemmas
 pub mod PlaceLemmas

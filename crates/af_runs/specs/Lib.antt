@@ -1,10 +1,13 @@
 pub mod Additions
 pub mod Busy
 pub mod Chains
+pub mod Clears
 pub mod Codes
 pub mod DagLists
 pub mod Index
 pub mod Instances
+pub mod Laws
+pub mod Marks
 pub mod Places
 pub mod Runs
 pub mod Texts

@@ -6,6 +6,8 @@ use af_graph::Dag;
 use std::alloc::{AllocError, Global};
 use std::marker::Model;
 
+mod changing;
+
 /// The instances of a run, in the order of the definition. Contracts see them as a list.
 #[derive(Drop)]
 pub struct Instances {

@@ -11,6 +11,11 @@ use af_graph::TaskState;
 use af_names::{DagId, Instant, RunId};
 use std::alloc::{AllocError, Global};
 
+mod clearing;
+mod marking;
+
+pub(crate) use clearing::list_chosen;
+
 /// A run of a DAG, with its instances.
 #[derive(Drop)]
 pub struct Run {

@@ -10,7 +10,9 @@ use std::marker::Model;
 
 mod adding;
 mod changing;
+mod clearing;
 mod finding;
+mod marking;
 
 /// The most runs that a DAG has.
 pub(crate) const MOST_RUNS: usize = 65_536;

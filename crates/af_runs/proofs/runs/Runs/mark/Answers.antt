@@ -1,0 +1,43 @@
+use Rattle.std.proofs.Common.{◌≡◌, sym, ◌+◌, set, refl}
+use Rattle.af_runs.specs.Marks.{with_marked}
+use Rattle.af_runs.specs.Runs.{HasKeyOf}
+use Rattle.af_runs.proofs.ChangeLemmas.{with_marked-is_set, with_marked-same}
+use Rattle.af_runs.proofs.RunsLemmas.{busy_order, busy_room, changed, changed_index}
+use Rattle.af_runs.proofs.RunLemmas.{AreRuns-set}
+use Rattle.af_runs.proofs.runs.Runs.mark.Goals as goal
+
+pub invariant_of-self : goal.invariant_of-self
+invariant_of-self c =
+    let stands = rw (← c.self.view_is) at c.in-Some.ensures in
+    let is = c.self.invariant in
+    let key : HasKeyOf c.index_mut.result.now c.mark.new.self = rw c.mark.ensures (record { number = refl; dag_id = refl; run_id = refl; date = refl }) in
+    let same = changed c.self.inside.rows.items (c.self.inside.last + 1) is.0 c.self.inside.index is.1 c.in-Some.place _ c.index.result.now c.index_mut.result.now _ stands.within c.index.ensures key c.index_mut.ensures.value in
+    let kept = c.keep_busy.ensures.runs c.self.inside.rows.items c.in-Some.place is.1 stands.within same is.0.in_order in (
+      rw (c.mark.ensures, c.index_mut.ensures.value) (AreRuns-set _ _ _ _ _ refl refl refl refl stands.within is.0),
+      changed_index c.self.inside.rows.items (c.self.inside.last + 1) is.0 c.self.inside.index is.1 c.in-Some.place _ c.index.result.now _ c.keep_busy.new.self stands.within c.index.ensures kept,
+      c.keep_busy.ensures.room c.self.inside.spare is.2,
+      is.3,
+    )
+
+pub keep_busy-requires-clause-in_order : goal.keep_busy-requires-clause-in_order
+keep_busy-requires-clause-in_order c = let is = c.self.invariant in busy_order c.self.inside.rows.items (c.self.inside.last + 1) is.0 c.self.inside.index is.1
+
+pub keep_busy-requires-clause-room : goal.keep_busy-requires-clause-room
+keep_busy-requires-clause-room c =
+    let stands = rw (← c.self.view_is) at c.in-Some.ensures in
+    let is = c.self.invariant in
+    let key : HasKeyOf c.index_mut.result.now c.mark.new.self = rw c.mark.ensures (record { number = refl; dag_id = refl; run_id = refl; date = refl }) in
+    let same = changed c.self.inside.rows.items (c.self.inside.last + 1) is.0 c.self.inside.index is.1 c.in-Some.place _ c.index.result.now c.index_mut.result.now _ stands.within c.index.ensures key c.index_mut.ensures.value in
+    busy_room c.self.inside.rows.items (c.self.inside.last + 1) is.0 c.self.inside.index is.1 c.self.inside.spare c.in-Some.place c.index.result.now c.index.result.now is.2 stands.within (same c.index.result.now)
+
+pub returns-in-Some : goal.returns-in-Some
+returns-in-Some c =
+    let stands = rw (← c.self.view_is) at c.in-Some.ensures in
+    let rows : set c.self.inside.rows.items c.in-Some.place c.mark.new.self ≡ with_marked c.self.inside.rows.items c.args.number c.args.mark c.args.at =
+    rw (c.mark.ensures, c.index_mut.ensures.value) (sym (with_marked-is_set _ _ _ stands c.args.mark c.args.at _)) in
+    rw (← c.self.view_is) (λ i. record { rows = rows i; next = c.self.inside.last + 1; spare = c.self.inside.spare })
+
+pub returns-in_default : goal.returns-in_default
+returns-in_default c =
+    let rows = sym (with_marked-same _ _ c.in_default.ensures c.args.mark c.args.at) in
+    λ i. record { rows = rows i; next = c.args.self.now.next; spare = c.args.self.now.spare }

@@ -1,0 +1,125 @@
+ghost use Rattle.std.specs.Prelude.{◌≡◌, ◌↔◌, ◌<◌, ◌++◌, [], IfOk, OnOk, length, slice_index_or, slice_set, true, if◌then◌else◌};
+ghost use Rattle.af_runs.specs.Clears.{admits, chosen_in, chosen_of, run_after, with_cleared, with_cleared_run};
+
+use crate::chosen_instance::ChosenInstance;
+use crate::run::{Run, list_chosen};
+use crate::run_filter::RunFilter;
+use crate::runs::Runs;
+use crate::selection::Selection;
+use std::alloc::{AllocError, Global};
+
+impl Runs {
+    /// Clears the chosen instances of the run of this number, as `Run::clear` does. Where there is no such run nothing changes.
+    /// It takes no memory.
+    pub fn clear_run(&mut self, number: u64, selection: &Selection)
+        ensures { self.new ≡ record self.old { rows = with_cleared_run self.old.rows number selection.now } }
+    {
+        if let Some(row) = self.place_of(number) {
+            self.rows[row].clear(selection);
+            self.index.keep_busy(&self.rows[row]);
+        }
+    }
+
+    /// Clears the chosen instances of the runs that the filter admits, as `Run::clear` does. It takes no memory.
+    pub fn clear(&mut self, filter: &RunFilter, selection: &Selection)
+        ensures { self.new ≡ record self.old { rows = with_cleared self.old.rows filter.now selection.now } }
+    {
+        clear_all(self, filter, selection);
+    }
+
+    /// Whether clearing the chosen instances of the runs that the filter admits leaves all runs as they are.
+    pub fn are_left_by(&self, filter: &RunFilter, selection: &Selection) -> bool
+        ensures { (result ≡ true) ↔ (with_cleared self.now.rows filter.now selection.now ≡ self.now.rows) }
+    {
+        are_left(self.rows.as_slice(), filter, selection)
+    }
+
+    /// The chosen instances of the runs that the filter admits, in the order of run numbers, then of the definition.
+    /// `AllocError` only where a growth was refused.
+    pub fn chosen<'a>(
+        &'a self,
+        alloc: Global,
+        filter: &RunFilter,
+        selection: &Selection,
+    ) -> Result<Vec<ChosenInstance<'a>>, AllocError>
+        ensures { IfOk result (λ all. all.items ≡ chosen_in self.now.rows filter.now selection.now) }
+    {
+        chosen_in(alloc, self.rows.as_slice(), filter, selection)
+    }
+
+    /// Clears the chosen instances of the run at a place, where the filter admits it.
+    fn clear_at(&mut self, place: usize, filter: &RunFilter, selection: &Selection)
+        requires { place < length self.old.rows }
+        ensures { (d : Run) → self.new ≡ record self.old {
+          rows = slice_set self.old.rows place (run_after filter.now selection.now (slice_index_or self.old.rows place d));
+        } }
+    {
+        if filter.admits(&self.rows[place]) {
+            self.rows[place].clear(selection);
+            self.index.keep_busy(&self.rows[place]);
+        }
+    }
+}
+
+/// Clears the chosen instances of those of these runs that the filter admits.
+fn clear_all(runs: &mut Runs, filter: &RunFilter, selection: &Selection)
+    ensures { runs.new ≡ record runs.old { rows = with_cleared runs.old.rows filter.now selection.now } }
+{
+    let count = runs.rows().len();
+    for place in 0..count {
+        runs.clear_at(place, filter, selection);
+    }
+}
+
+/// Whether clearing the chosen instances of those of these runs that the filter admits leaves all as they are.
+fn are_left(runs: &[Run], filter: &RunFilter, selection: &Selection) -> bool
+    ensures { (result ≡ true) ↔ (with_cleared runs.now filter.now selection.now ≡ runs.now) }
+{
+    for place in 0..runs.len() {
+        if !leaves(filter, selection, &runs[place]) {
+            return false;
+        }
+    }
+    true
+}
+
+/// Whether clearing its chosen instances, where the filter admits it, leaves a run as it is.
+fn leaves(filter: &RunFilter, selection: &Selection, run: &Run) -> bool
+    ensures { (result ≡ true) ↔ (run_after filter.now selection.now run.now ≡ run.now) }
+{
+    if !filter.admits(run) {
+        return true;
+    }
+    run.is_left_by(selection)
+}
+
+/// The chosen instances of those of these runs that the filter admits. `AllocError` only where a growth was refused.
+fn chosen_in<'a>(
+    alloc: Global,
+    runs: &'a [Run],
+    filter: &RunFilter,
+    selection: &Selection,
+) -> Result<Vec<ChosenInstance<'a>>, AllocError>
+    ensures { IfOk result (λ all. all.items ≡ chosen_in runs.now filter.now selection.now) }
+{
+    let mut all = Vec::new(alloc);
+    for run in runs {
+        list_admitted(filter, run, selection, &mut all)?;
+    }
+    Ok(all)
+}
+
+/// Puts the chosen instances of a run after others, where the filter admits it. `AllocError` only where a growth was refused.
+fn list_admitted<'a>(
+    filter: &RunFilter,
+    run: &'a Run,
+    selection: &Selection,
+    all: &mut Vec<ChosenInstance<'a>>,
+) -> Result<(), AllocError>
+    ensures { OnOk result (all.new.items ≡ all.old.items ++ (if admits filter.now run.now then chosen_of selection.now run.now else [])) }
+{
+    if filter.admits(run) {
+        list_chosen(run, selection, all)?;
+    }
+    Ok(())
+}
