@@ -4,6 +4,7 @@ mod configurations;
 mod connections;
 mod dags;
 mod many;
+mod marks;
 
 use crate::once::once;
 use crate::reason::Reason;
