@@ -1,20 +1,19 @@
 -- The instances of the busy runs, among those of all: every one that may be claimed is there.
-use Rattle.std.proofs.Common.{◌≡◌, ◌∙◌, ℕ, List, [], ◌∷◌, ◌++◌, sym, refl, ap, subst, Bool, true, false, cond, ⊎_elim, append-nil}
+use Rattle.std.proofs.Common.{◌≡◌, ◌∙◌, List, [], ◌∷◌, sym, refl, ap, subst, Bool, true, false, cond, ⊎_elim, append-nil}
 use Rattle.std.specs.Prelude.{Some, None, Option, Contains, nat_lt, ◌&&◌}
 use Rattle.std.proofs.lemmas.Bool.{cases_Bool, true≢false}
 use Rattle.std.proofs.lemmas.List.Elements.{Contains-append_left, Contains-append_right, Contains-append_cases}
 use Rattle.af_graph.specs.States.{same_state}
 use Rattle.af_graph.specs.declared.task_state.TaskState.{TaskState}
 use Rattle.af_graph.specs.declared.task_state.TaskState.TheVariants as task_state
-use Rattle.af_runs.specs.Busy.{busy_of, is_busy, is_held, holds_any}
-use Rattle.af_runs.specs.Runs.{is_finished}
+use Rattle.af_runs.specs.Busy.{busy_of, is_busy, is_held}
 use Rattle.af_runs.specs.declared.run.Run.{Run}
 use Rattle.af_sched.specs.Claims.{is_claimable}
-use Rattle.af_sched.specs.Placed.{IsFirst, IsFirstOf, NonePasses, Placed, placed_in, placed_of}
+use Rattle.af_sched.specs.Placed.{IsFirstOf, Placed, placed_in, placed_of}
 use Rattle.af_sched.specs.State.{tasks_of}
 use Rattle.af_sched.specs.declared.dag_row.DagRow.{DagRow}
 use Rattle.af_sched.proofs.BusyLemmas.{fill_all, frame_idle, frame_of}
-use Rattle.af_sched.proofs.FillLemmas.{AllOf, AllOf-both, fill, idle_not_held}
+use Rattle.af_sched.proofs.FillLemmas.{AllOf-both, fill, idle_not_held}
 use Rattle.af_sched.proofs.FrameLemmas.{PlacedOf, placed_fill}
 use Rattle.af_sched.proofs.PlacedLemmas.{none_placed}
 

@@ -13,6 +13,7 @@ mod FrameLemmas
 mod IdleLemmas
 mod KeyLemmas
 mod LikeLemmas
+mod MarkedLemmas
 mod NamedLemmas
 mod PassingLemmas
 mod PlanLemmas

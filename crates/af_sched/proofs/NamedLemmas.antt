@@ -1,5 +1,5 @@
 -- The instance that a claim names is one of the run of the claim's number.
-use Rattle.std.proofs.Common.{arith, ◌≡◌, ◌∙◌, ◌++◌, ◌==◌, ◌&&◌, ℕ, List, [], ◌∷◌, refl, sym, ap, subst, Bool, true, false, cond}
+use Rattle.std.proofs.Common.{arith, ◌≡◌, ◌∙◌, ◌==◌, ◌&&◌, ℕ, List, [], ◌∷◌, refl, sym, ap, subst, Bool, true, false, cond}
 use Rattle.std.specs.Prelude.{Contains, Option, Some, None, find}
 use Rattle.std.specs.List.{AllByRecursion}
 use Rattle.std.specs.List.Sorted.{IsStrictlySortedBy}
@@ -8,7 +8,6 @@ use Rattle.std.specs.Ordering.{nat_cmp}
 use Rattle.std.proofs.lemmas.Bool.Decides.{nat_tests}
 use Rattle.std.proofs.lemmas.List.Folds.{find-append}
 use Rattle.af_graph.specs.Graph.{same_name}
-use Rattle.af_graph.specs.declared.task_spec.TaskSpec.{TaskSpec}
 use Rattle.af_runs.specs.Runs.{is_numbered, run_at}
 use Rattle.af_runs.specs.declared.run.Run.{Run}
 use Rattle.af_sched.specs.Placed.{Placed, placed_in, placed_of}
@@ -36,7 +35,7 @@ module _ (dags : List DagRow) (claim : Claim) where
   none_named : (run : Run) → is_numbered claim.run_number run ≡ false → named_in run ≡ None
   none_named run other = find-absent (is_claimed claim) (λ (r : Run). placed_of (tasks_of dags r.dag_id) r) (placed_of (tasks_of dags run.dag_id) run) (of_other run other)
 
-  none_after : (runs : List Run) → AllByRecursion (λ run. is_numbered claim.run_number run ≡ false) runs → find (is_claimed claim) (placed_in dags runs) ≡ None
+  pub none_after : (runs : List Run) → AllByRecursion (λ run. is_numbered claim.run_number run ≡ false) runs → find (is_claimed claim) (placed_in dags runs) ≡ None
   none_after [] others = refl
   none_after (run ∷ runs) others =
       find-append (is_claimed claim) (placed_of (tasks_of dags run.dag_id) run) (placed_in dags runs)

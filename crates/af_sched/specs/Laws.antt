@@ -3,7 +3,7 @@ use Rattle.std.specs.Prelude.{ℕ, ◌≡◌, ◌≤◌, ◌↔◌, ◌&&◌, Li
 use Rattle.af_graph.specs.Definition.{fault_of}
 use Rattle.af_graph.specs.declared.task_spec.TaskSpec.{TaskSpec}
 use Rattle.af_pool.specs.Pools.{slots_of}
-use Rattle.af_runs.specs.Runs.{AreRuns, is_finished}
+use Rattle.af_runs.specs.Runs.{AreRuns, is_finished, without_run}
 use Rattle.af_runs.specs.declared.instance.Instance.{Instance}
 use Rattle.af_runs.specs.declared.run.Run.{Run}
 use Rattle.af_sched.specs.Claims.{Claims, ClaimsNone}
@@ -12,11 +12,13 @@ use Rattle.af_sched.specs.Due.{moved_cursor, taken_points}
 use Rattle.af_sched.specs.Finish.{ends}
 use Rattle.af_sched.specs.Placed.{Placed, placed_in}
 use Rattle.af_sched.specs.Queue.{Queues, finds_room, may_queue, occupied}
+use Rattle.af_sched.specs.Reports.{report_fault}
 use Rattle.af_sched.specs.Settle.{SettlesInstances, Settles, is_live}
 use Rattle.af_sched.specs.Start.{starts}
 use Rattle.af_sched.specs.State.{StateRows, AreRows, tasks_of}
 use Rattle.af_sched.specs.Tick.{IsTick}
 use Rattle.af_sched.specs.declared.claim.Claim.{Claim}
+use Rattle.af_sched.specs.declared.report_fault.ReportFault.TheVariants.{NoSuchInstance}
 
 -- since a definition without a fault has no cycle, the rules leave one way in which a run's instances may be settled
 abbrev pub SettlingIsOne : Type 0
@@ -71,6 +73,11 @@ NothingChangesExactlyWhereNothingIsDue =
 -- what a claim at t leaves and tells, or that there is nothing to claim
 abbrev pub IsClaim : ℕ → StateRows → StateRows → Option Claim → Type 0
 IsClaim t old new told = MatchOption told (ClaimsNone old new) (Claims t old new)
+
+-- a report of an instance of a run that was taken out finds none
+abbrev pub ReportsOfRemovedRunsFindNone : Type 0
+ReportsOfRemovedRunsFindNone =
+    (state : StateRows) (claim : Claim) → report_fault (record state { runs = without_run state.runs claim.run_number }) claim ≡ Some NoSuchInstance
 
 -- a claim leaves one state, and tells one thing
 abbrev pub ClaimIsOne : Type 0

@@ -1,4 +1,4 @@
-ghost use Rattle.af_sched.specs.Laws.{ClaimIsOne, EndedRunsStay, NoPointIsTakenTwice, NothingChangesExactlyWhereNothingIsDue, QueuedStateIsOne, SettlingIsOne, SettledStateIsOne, SlotsAreKept, TickIsOne, TickKeepsRows};
+ghost use Rattle.af_sched.specs.Laws.{ClaimIsOne, EndedRunsStay, NoPointIsTakenTwice, NothingChangesExactlyWhereNothingIsDue, QueuedStateIsOne, ReportsOfRemovedRunsFindNone, SettlingIsOne, SettledStateIsOne, SlotsAreKept, TickIsOne, TickKeepsRows};
 
 /// The trigger rules decide in one way what becomes of a run's instances, since no definition has a cycle.
 pub fn settling_is_one()
@@ -48,4 +48,9 @@ pub fn nothing_changes_exactly_where_nothing_is_due()
 /// A claim leaves one state, and tells one thing.
 pub fn a_claim_is_one()
     ensures { ClaimIsOne }
+{}
+
+/// A report of an instance of a run that was taken out finds none.
+pub fn reports_of_removed_runs_find_none()
+    ensures { ReportsOfRemovedRunsFindNone }
 {}

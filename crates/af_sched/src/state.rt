@@ -13,6 +13,8 @@ use std::marker::Model;
 mod adding;
 mod changing;
 mod claiming;
+mod clearing;
+mod marking;
 mod reading;
 mod reporting;
 mod reserving;

@@ -1,4 +1,4 @@
-use Rattle.std.proofs.Common.{◌≡◌, ◌∙◌, sym, ap, List}
+use Rattle.std.proofs.Common.{◌∙◌, sym, ap, List}
 use Rattle.std.specs.Prelude.{Option, None, find}
 use Rattle.std.specs.Option.{option_map_or}
 use Rattle.af_graph.specs.declared.task_spec.TaskSpec.{TaskSpec}
