@@ -6,7 +6,7 @@ use Rattle.af_sched.specs.State.{StateRows, dag_of, is_of_id, with_paused}
 use Rattle.af_sched.specs.declared.dag_row.DagRow.{DagRow}
 use Rattle.af_ops.specs.declared.edit.Edit.{Edit}
 use Rattle.af_ops.specs.declared.edit.Edit.TheVariants as edit
-use Rattle.af_ops.specs.Edits.{edited, next_by, with_run}
+use Rattle.af_ops.specs.Edits.{next_by, with_mark, with_run}
 use Rattle.af_ops.specs.Effects.{differs}
 use Rattle.af_ops.specs.Prepared.{IsExact}
 
@@ -39,15 +39,17 @@ run_apart state new same = next_apart state.next_run (ap (λ (s : StateRows). s.
 pub add_exact : (state : StateRows) (new : NewRun) → IsExact state (edit.RunAdded new)
 add_exact state new = ((λ no. cc), (λ same. absurd (run_apart state new same)))
 
-exact_by : (b : Bool) (state : StateRows) (dag_id id : List ℕ) (is_paused paused : Bool) (row : DagRow) → differs row is_paused ≡ b → dag_of state.dags dag_id ≡ Some row → next_by (edit.DagPaused id paused) state ≡ (if b then Some (record state { dags = with_paused state.dags dag_id is_paused }) else None) → edited (edit.DagPaused id paused) state ≡ state → ⊥
-exact_by false state dag_id id is_paused paused row differ found next same = cc
-exact_by true state dag_id id is_paused paused row differ found next same =
-    let made : with_paused state.dags id paused ≡ with_paused state.dags dag_id is_paused = ap (λ (o : Option StateRows). (Rattle.std.specs.Prelude.unwrap_or o state).dags) next in
-    paused_apart dag_id is_paused state.dags row found differ (sym made ∙ ap (λ (s : StateRows). s.dags) same)
+exact_by : (b : Bool) (state : StateRows) (dag_id : List ℕ) (is_paused : Bool) (row : DagRow) (made : StateRows) → differs row is_paused ≡ b → dag_of state.dags dag_id ≡ Some row → Some made ≡ (if b then Some (record state { dags = with_paused state.dags dag_id is_paused }) else None) → made ≡ state → ⊥
+exact_by false state dag_id is_paused row made differ found next same = cc
+exact_by true state dag_id is_paused row made differ found next same =
+    let is : made ≡ record state { dags = with_paused state.dags dag_id is_paused } = cc in
+    paused_apart dag_id is_paused state.dags row found differ (ap (λ (s : StateRows). s.dags) (sym is ∙ same))
 
 -- the edit of a DAG that is paused, or not
 pub pause_exact : (state : StateRows) (dag_id : List ℕ) (is_paused : Bool) (row : DagRow) (it : Edit) → dag_of state.dags dag_id ≡ Some row → next_by it state ≡ (if differs row is_paused then Some (record state { dags = with_paused state.dags dag_id is_paused }) else None) → IsExact state it
 pause_exact state dag_id is_paused row edit.Nothing found next = ((λ no. refl), (λ same. refl))
 pause_exact state dag_id is_paused row (edit.DagPaused id paused) found next =
-    ((λ no. cc), (λ same. absurd (exact_by (differs row is_paused) state dag_id id is_paused paused row refl found next same)))
+    ((λ no. cc), (λ same. absurd (exact_by (differs row is_paused) state dag_id is_paused row (record state { dags = with_paused state.dags id paused }) refl found next same)))
 pause_exact state dag_id is_paused row (edit.RunAdded new) found next = add_exact state new
+pause_exact state dag_id is_paused row (edit.RunMarked number mark at) found next =
+    ((λ no. cc), (λ same. absurd (exact_by (differs row is_paused) state dag_id is_paused row (with_mark state number mark at) refl found next same)))

@@ -1,11 +1,15 @@
 -- Listings, and what operations leave.
 use Rattle.std.proofs.Common.{◌≡◌, ◌∙◌, ◌++◌, ℕ, Bool, true, false, cond, not, List, [], ◌∷◌, refl, sym, ap, subst}
-use Rattle.std.specs.Prelude.{Option, Some, None, Result, Ok, Err, filter, ok_or, unwrap_or, if◌then◌else◌}
+use Rattle.std.specs.Prelude.{Option, Some, None, Result, Ok, Err, filter, map, ok_or, unwrap_or, if◌then◌else◌}
+use Rattle.std.proofs.lemmas.Bool.{and_parts}
+use Rattle.af_graph.specs.Graph.{same_name}
 use Rattle.std.specs.Cmp.Lexicographic.{bytes_decides, nat_list_cmp_total}
 use Rattle.serde_json.specs.Data.{Data}
 use Rattle.af_base.specs.Readings.{◌>>=◌}
 use Rattle.af_names.proofs.OrderLemmas.{order-filter, order-take}
-use Rattle.af_runs.specs.Runs.{add_fault, is_of, queued_run, run_of, runs_of}
+use Rattle.af_runs.specs.Marks.{is_marked, marked_run}
+use Rattle.af_runs.specs.Runs.{add_fault, is_of, is_run, queued_run, run_of, runs_of}
+use Rattle.af_runs.specs.declared.mark.Mark.{Mark}
 use Rattle.af_runs.specs.declared.run_fault.RunFault.{RunFault}
 use Rattle.af_runs.specs.declared.run_fault.RunFault.TheVariants as run_fault
 use Rattle.af_runs.specs.declared.run.Run.{Run}
@@ -18,12 +22,13 @@ use Rattle.af_ops.specs.declared.body_fault.BodyFault.{BodyFault}
 use Rattle.af_ops.specs.declared.op.Op.TheVariants as op
 use Rattle.af_ops.specs.declared.trigger.Trigger.{Trigger}
 use Rattle.af_ops.specs.Edits.{with_run}
-use Rattle.af_ops.specs.Effects.{Effect, added_run, differs, free_by, free_id, id_or, input_or, instance_of, instances_data, kept, listed_runs, new_run, paused_dag, pausing, runs_data, tasks_data, triggered_run}
+use Rattle.af_ops.specs.Effects.{Effect, added_run, differs, free_by, free_id, id_or, input_or, instance_of, instances_data, kept, listed_runs, marking, new_run, paused_dag, pausing, run_marked, runs_data, tasks_data, triggered_run, with_marked_run}
 use Rattle.af_ops.specs.Laws.{ListingsGoById, ReadingsLeaveTheState, ChangesLeaveAnotherState, ChangesStayAtTheirDag, LeavesOthers}
 use Rattle.af_ops.specs.Listings.{read_rows}
 use Rattle.af_ops.specs.Replies.{dag_data, instance_data, run_data}
 use Rattle.af_ops.specs.Rows.{InstanceTold}
 use Rattle.af_ops.proofs.EditLemmas.{paused_apart, run_apart}
+use Rattle.af_ops.proofs.MarkingLemmas.{marked_apart}
 
 none_some : {X : Type 0} {x : X} → None ≡ Some x → ⊥
 none_some same = cc
@@ -100,6 +105,7 @@ readings_keep reads state (op.ListTasks dag_id) now effect get is = tasks_kept (
 readings_keep reads state (op.ListRuns dag) now effect get is = listed_kept reads state dag effect is
 readings_keep reads state (op.TriggerRun dag_id input) now effect get is = cc
 readings_keep reads state (op.GetRun dag_id run_id) now effect get is = run_kept (sched.dag_of state.dags dag_id) (run_of state.runs dag_id run_id) effect is
+readings_keep reads state (op.MarkRun dag_id run_id input) now effect get is = cc
 readings_keep reads state (op.ListInstances dag_id run_id) now effect get is = instances_kept (sched.dag_of state.dags dag_id) (run_of state.runs dag_id run_id) effect is
 readings_keep reads state (op.GetInstance dag_id run_id task_id) now effect get is = instance_kept (sched.dag_of state.dags dag_id) (run_of state.runs dag_id run_id) task_id effect is
 
@@ -176,8 +182,32 @@ pub triggers : (state : StateRows) (dag_id : List ℕ) (input : Result Trigger B
 triggers state dag_id (Err why) now effect is = cc
 triggers state dag_id (Ok asked) now effect is = triggers_found (sched.dag_of state.dags dag_id) state dag_id asked now effect refl is
 
+-- a run that is marked: it was found and stood otherwise, and this is the next state
+pub record Marks (state : StateRows) (dag_id run_id : List ℕ) (now : ℕ) (next : StateRows) : Type 0 where
+  pub mark : Mark
+  pub run : Run
+  pub found : run_of state.runs dag_id run_id ≡ Some run
+  pub differ : is_marked mark run ≡ false
+  pub next_is : next ≡ with_marked_run state dag_id run_id mark now
+
+marking_next : (b : Bool) (state : StateRows) (dag_id run_id : List ℕ) (run : Run) (mark : Mark) (now : ℕ) (next : StateRows) → run_of state.runs dag_id run_id ≡ Some run → is_marked mark run ≡ b → (if b then None else Some (with_marked_run state dag_id run_id mark now)) ≡ Some next → Marks state dag_id run_id now next
+marking_next true state dag_id run_id run mark now next found differ is = cc
+marking_next false state dag_id run_id run mark now next found differ is = record { mark = mark; run = run; found = found; differ = differ; next_is = cc }
+
+marks_found : (dag : Option DagRow) (found : Option Run) (state : StateRows) (dag_id run_id : List ℕ) (mark : Mark) (now : ℕ) (effect : Effect) (next : StateRows) → run_of state.runs dag_id run_id ≡ found → (ok_or dag NoSuchDag >>= (λ row. ok_or found NoSuchRun >>= (λ run. Ok (marking state dag_id run_id run mark now)))) ≡ Ok effect → effect.next ≡ Some next → Marks state dag_id run_id now next
+marks_found None found state dag_id run_id mark now effect next at is changes = cc
+marks_found (Some row) None state dag_id run_id mark now effect next at is changes = cc
+marks_found (Some row) (Some run) state dag_id run_id mark now effect next at is changes =
+    marking_next (is_marked mark run) state dag_id run_id run mark now next at refl
+    (let same : marking state dag_id run_id run mark now ≡ effect = cc in ap (λ (e : Effect). e.next) same ∙ changes)
+
 pub pauses : (state : StateRows) (dag_id : List ℕ) (input : Result Bool BodyFault) (effect : Effect) (next : StateRows) → paused_dag state dag_id input ≡ Ok effect → effect.next ≡ Some next → Pauses state dag_id next
 pauses state dag_id input effect next is changes = pauses_input (input_or input) state dag_id effect next is changes
+
+pub marks : (state : StateRows) (dag_id run_id : List ℕ) (input : Result Mark BodyFault) (now : ℕ) (effect : Effect) (next : StateRows) → run_marked state dag_id run_id input now ≡ Ok effect → effect.next ≡ Some next → Marks state dag_id run_id now next
+marks state dag_id run_id (Err why) now effect next is changes = cc
+marks state dag_id run_id (Ok mark) now effect next is changes =
+    marks_found (sched.dag_of state.dags dag_id) (run_of state.runs dag_id run_id) state dag_id run_id mark now effect next refl is changes
 
 -- what is read is no change
 pub unchanged : {X : Type 0} (effect : Effect) (next : StateRows) → effect.next ≡ None → effect.next ≡ Some next → X
@@ -196,8 +226,31 @@ changes_differ reads state (op.TriggerRun dag_id input) now effect next is chang
     let it = triggers state dag_id input now effect is in
     run_apart state (new_run it.row dag_id it.run_id it.date) (some_same (sym it.next_is ∙ changes) ∙ same)
 changes_differ reads state (op.GetRun dag_id run_id) now effect next is changes same = unchanged effect next (readings_keep reads state (op.GetRun dag_id run_id) now effect refl is) changes
+changes_differ reads state (op.MarkRun dag_id run_id input) now effect next is changes same =
+    let it = marks state dag_id run_id input now effect next is changes in
+    marked_apart state dag_id run_id it.run it.mark now it.found it.differ (sym it.next_is ∙ same)
 changes_differ reads state (op.ListInstances dag_id run_id) now effect next is changes same = unchanged effect next (readings_keep reads state (op.ListInstances dag_id run_id) now effect refl is) changes
 changes_differ reads state (op.GetInstance dag_id run_id task_id) now effect next is changes same = unchanged effect next (readings_keep reads state (op.GetInstance dag_id run_id task_id) now effect refl is) changes
+
+-- a run that is marked is passed over, where its DAG's runs are
+kept_run : (is : Bool) (dag_id run_id : List ℕ) (mark : Mark) (now : ℕ) (run : Run) (new old : List Run) → is_run dag_id run_id run ≡ is → filter (λ r. not (is_of dag_id r)) new ≡ filter (λ r. not (is_of dag_id r)) old
+    → filter (λ r. not (is_of dag_id r)) (cond is (marked_run mark now run) run ∷ new) ≡ filter (λ r. not (is_of dag_id r)) (run ∷ old)
+kept_run true dag_id run_id mark now run new old same rest =
+    rw (and_parts (same_name run.dag_id dag_id) (same_name run.run_id run_id) same).0 rest
+kept_run false dag_id run_id mark now run new old same rest = ap (λ rows. cond (not (is_of dag_id run)) (run ∷ rows) rows) rest
+
+other_runs_stay : (dag_id run_id : List ℕ) (mark : Mark) (now : ℕ) (runs : List Run) → filter (λ run. not (is_of dag_id run)) (map (λ run. if is_run dag_id run_id run then marked_run mark now run else run) runs) ≡ filter (λ run. not (is_of dag_id run)) runs
+other_runs_stay dag_id run_id mark now [] = refl
+other_runs_stay dag_id run_id mark now (run ∷ runs) =
+    kept_run (is_run dag_id run_id run) dag_id run_id mark now run (map (λ r. if is_run dag_id run_id r then marked_run mark now r else r) runs) runs refl (other_runs_stay dag_id run_id mark now runs)
+
+marks_stay : (state : StateRows) (dag_id run_id : List ℕ) (now : ℕ) (next : StateRows) → Marks state dag_id run_id now next → LeavesOthers dag_id state next
+marks_stay state dag_id run_id now next marks =
+    rw (marks.next_is) (record {
+      dags = refl;
+      runs = other_runs_stay dag_id run_id marks.mark now state.runs;
+      pools = refl;
+    })
 
 -- the other rows are passed over
 kept_row : (is is_paused : Bool) (dag_id : List ℕ) (row : DagRow) (new old : List DagRow) → is_of_id dag_id row ≡ is → filter (λ r. not (is_of_id dag_id r)) new ≡ filter (λ r. not (is_of_id dag_id r)) old
@@ -242,5 +295,7 @@ changes_stay reads state (op.ListRuns dag) now effect next at is changes names =
 changes_stay reads state (op.TriggerRun dag_id input) now effect next at is changes names =
     subst (λ (id : List ℕ). LeavesOthers id state next) (some_same names) (triggers_stay state dag_id input now effect next (triggers state dag_id input now effect is) changes)
 changes_stay reads state (op.GetRun dag_id run_id) now effect next at is changes names = unchanged effect next (readings_keep reads state (op.GetRun dag_id run_id) now effect refl is) changes
+changes_stay reads state (op.MarkRun dag_id run_id input) now effect next at is changes names =
+    subst (λ (id : List ℕ). LeavesOthers id state next) (some_same names) (marks_stay state dag_id run_id now next (marks state dag_id run_id input now effect next is changes))
 changes_stay reads state (op.ListInstances dag_id run_id) now effect next at is changes names = unchanged effect next (readings_keep reads state (op.ListInstances dag_id run_id) now effect refl is) changes
 changes_stay reads state (op.GetInstance dag_id run_id task_id) now effect next at is changes names = unchanged effect next (readings_keep reads state (op.GetInstance dag_id run_id task_id) now effect refl is) changes

@@ -2,6 +2,7 @@ mod BodyLemmas
 mod DecisionLemmas
 mod EditLemmas
 mod LawLemmas
+mod MarkingLemmas
 mod PageLemmas
 mod RunLemmas
 mod ShownLemmas

@@ -10,7 +10,7 @@ use Rattle.af_ops.specs.declared.method.Method.{Method}
 use Rattle.af_ops.specs.declared.method.Method.TheVariants.{Get, Post, Patch, Delete}
 use Rattle.af_ops.specs.declared.op.Op.{Op}
 use Rattle.af_ops.specs.declared.op.Op.TheVariants as op
-use Rattle.af_ops.specs.Bodies.{pause_in, trigger_in}
+use Rattle.af_ops.specs.Bodies.{mark_in, pause_in, trigger_in}
 use Rattle.af_ops.specs.Endpoints.{both, dag_id_in, dag_of, endpoint_of, is_all, run_id_in, task_id_in}
 use Rattle.af_ops.specs.Laws.{EachIsFound, Matches, OneRowAtMost, OperationsAreOfTheirRow}
 use Rattle.af_ops.specs.Methods.{same_method}
@@ -80,8 +80,9 @@ rank endpoint.ListTasks = 4
 rank endpoint.ListRuns = 5
 rank endpoint.TriggerRun = 6
 rank endpoint.GetRun = 7
-rank endpoint.ListInstances = 8
-rank endpoint.GetInstance = 9
+rank endpoint.MarkRun = 8
+rank endpoint.ListInstances = 9
+rank endpoint.GetInstance = 10
 
 stands : (it d : Endpoint) → get_or endpoints (rank it) d ≡ it
 unfolding rank
@@ -93,6 +94,7 @@ stands endpoint.ListTasks d = refl
 stands endpoint.ListRuns d = refl
 stands endpoint.TriggerRun d = refl
 stands endpoint.GetRun d = refl
+stands endpoint.MarkRun d = refl
 stands endpoint.ListInstances d = refl
 stands endpoint.GetInstance d = refl
 
@@ -106,6 +108,7 @@ inside endpoint.ListTasks = omega arith
 inside endpoint.ListRuns = omega arith
 inside endpoint.TriggerRun = omega arith
 inside endpoint.GetRun = omega arith
+inside endpoint.MarkRun = omega arith
 inside endpoint.ListInstances = omega arith
 inside endpoint.GetInstance = omega arith
 
@@ -136,6 +139,7 @@ each_found endpoint.ListTasks = refl
 each_found endpoint.ListRuns = refl
 each_found endpoint.TriggerRun = refl
 each_found endpoint.GetRun = refl
+each_found endpoint.MarkRun = refl
 each_found endpoint.ListInstances = refl
 each_found endpoint.GetInstance = refl
 
@@ -190,6 +194,8 @@ of_their_row endpoint.TriggerRun parts body asked is =
     mapped (λ id. op.TriggerRun id (trigger_in body)) endpoint.TriggerRun (dag_id_in parts) asked (λ id. refl) (λ id. refl) is
 of_their_row endpoint.GetRun parts body asked is =
     mapped_both (λ id run_id. op.GetRun id run_id) endpoint.GetRun (dag_id_in parts) (run_id_in parts) asked (λ id run_id. refl) (λ id run_id. refl) is
+of_their_row endpoint.MarkRun parts body asked is =
+    mapped_both (λ id run_id. op.MarkRun id run_id (mark_in body)) endpoint.MarkRun (dag_id_in parts) (run_id_in parts) asked (λ id run_id. refl) (λ id run_id. refl) is
 of_their_row endpoint.ListInstances parts body asked is =
     mapped_both (λ id run_id. op.ListInstances id run_id) endpoint.ListInstances (dag_id_in parts) (run_id_in parts) asked (λ id run_id. refl) (λ id run_id. refl) is
 of_their_row endpoint.GetInstance parts body asked is = mapped_three (dag_id_in parts) (run_id_in parts) (task_id_in parts) asked is

@@ -9,8 +9,11 @@ use Rattle.af_base.specs.Parsed.{json_of}
 use Rattle.af_base.specs.Readings.{◌>>=◌, member_of, optional, required}
 use Rattle.af_names.specs.Instants.{instant_of}
 use Rattle.af_names.specs.Names.{named, run_id_grammar}
+use Rattle.af_runs.specs.Marks.{mark_of}
+use Rattle.af_runs.specs.Texts.{state_of}
+use Rattle.af_runs.specs.declared.mark.Mark.{Mark}
 use Rattle.af_ops.specs.declared.body_fault.Member.{Member}
-use Rattle.af_ops.specs.declared.body_fault.Member.TheVariants.{IsPaused, DagRunId, LogicalDate, ExecutionDate, Conf}
+use Rattle.af_ops.specs.declared.body_fault.Member.TheVariants.{IsPaused, DagRunId, LogicalDate, ExecutionDate, Conf, State}
 use Rattle.af_ops.specs.declared.body_fault.BodyFault.{BodyFault}
 use Rattle.af_ops.specs.declared.body_fault.BodyFault.TheVariants.{BadBody, BadMember}
 use Rattle.af_ops.specs.declared.trigger.Trigger.{Trigger}
@@ -21,6 +24,7 @@ name_of DagRunId = codes "dag_run_id"
 name_of LogicalDate = codes "logical_date"
 name_of ExecutionDate = codes "execution_date"
 name_of Conf = codes "conf"
+name_of State = codes "state"
 
 abbrev pub object_or : Data → Result Data BodyFault
 object_or value = if is_some (as_object value) then Ok value else Err BadBody
@@ -43,6 +47,10 @@ run_id_of value = option_and_then (λ text. result_ok (named run_id_grammar text
 
 abbrev pub instant_in : Data → Option ℕ
 instant_in value = option_and_then (λ text. result_ok (instant_of text)) (as_str value)
+
+-- the mark that puts a run into the state of this text; a run is not marked running
+abbrev pub mark_value : Data → Option Mark
+mark_value value = option_and_then (λ text. option_and_then mark_of (state_of text)) (as_str value)
 
 abbrev pub has_none : Members → Bool
 has_none no_members = true
@@ -76,3 +84,9 @@ trigger_in bytes = do
   date ← date_in body
   conf ← optional_in empty_object Conf body
   Ok (record { dag_run_id = run_id; logical_date = date })
+
+-- what a run is marked: success, failed or queued
+abbrev pub mark_in : List ℕ → Result Mark BodyFault
+mark_in bytes = do
+  body ← body_in bytes
+  required_in mark_value State body

@@ -9,8 +9,10 @@ use Rattle.std.specs.Option.{option_map_or}
 use Rattle.af_graph.specs.Graph.{downstream_of, place_of}
 use Rattle.af_graph.specs.declared.task_spec.TaskSpec.{TaskSpec}
 use Rattle.af_runs.specs.Instances.{new_instances}
-use Rattle.af_runs.specs.Runs.{add_fault, queued_run, run_of, runs_of}
+use Rattle.af_runs.specs.Marks.{is_marked, marked_run}
+use Rattle.af_runs.specs.Runs.{add_fault, is_run, queued_run, run_of, runs_of}
 use Rattle.af_runs.specs.declared.instance.Instance.{Instance}
+use Rattle.af_runs.specs.declared.mark.Mark.{Mark}
 use Rattle.af_runs.specs.declared.new_run.NewRun.{NewRun}
 use Rattle.af_runs.specs.declared.run.Run.{Run}
 use Rattle.af_runs.specs.declared.run_fault.RunFault.{RunFault}
@@ -219,6 +221,26 @@ triggered_run state dag_id input now = do
   run_id ← free_id state dag_id (id_or asked.dag_run_id (unwrap_or asked.logical_date now)) (unwrap_or asked.logical_date now)
   Ok (added_run state (new_run row dag_id run_id (unwrap_or asked.logical_date now)))
 
+-- the state, the run of these ids marked so at a moment
+abbrev pub with_marked_run : StateRows → List ℕ → List ℕ → Mark → ℕ → StateRows
+with_marked_run state dag_id run_id mark now =
+    record state { runs = map (λ run. if is_run dag_id run_id run then marked_run mark now run else run) state.runs }
+
+-- a run marked so, and told as it then stands; where it and all its instances stand so already, nothing changes
+abbrev pub marking : StateRows → List ℕ → List ℕ → Run → Mark → ℕ → Effect
+marking state dag_id run_id run mark now = record {
+  reply = compact_text (run_data (marked_run mark now run));
+  next = if is_marked mark run then None else Some (with_marked_run state dag_id run_id mark now);
+}
+
+-- a run marked success, failed or queued
+abbrev pub run_marked : StateRows → List ℕ → List ℕ → Result Mark BodyFault → ℕ → Result Effect OpFault
+run_marked state dag_id run_id input now = do
+  mark ← input_or input
+  row ← dag_or state dag_id
+  run ← run_or state dag_id run_id
+  Ok (marking state dag_id run_id run mark now)
+
 -- what a permitted operation does for a reader of these DAGs, at a moment
 abbrev pub effect_of : (List ℕ → Bool) → StateRows → Op → ℕ → Result Effect OpFault
 effect_of reads state op.Version now = Ok (kept version_data)
@@ -229,5 +251,6 @@ effect_of reads state (op.ListTasks dag_id) now = listed_tasks state dag_id
 effect_of reads state (op.ListRuns dag) now = listed_runs reads state dag
 effect_of reads state (op.TriggerRun dag_id input) now = triggered_run state dag_id input now
 effect_of reads state (op.GetRun dag_id run_id) now = got_run state dag_id run_id
+effect_of reads state (op.MarkRun dag_id run_id input) now = run_marked state dag_id run_id input now
 effect_of reads state (op.ListInstances dag_id run_id) now = listed_instances state dag_id run_id
 effect_of reads state (op.GetInstance dag_id run_id task_id) now = got_instance state dag_id run_id task_id

@@ -13,7 +13,7 @@ use Rattle.af_ops.specs.declared.op.Op.TheVariants as op
 use Rattle.af_ops.specs.declared.place.Place.{Place}
 use Rattle.af_ops.specs.declared.place.Place.TheVariants as place
 use Rattle.af_ops.specs.declared.trigger.Trigger.{Trigger}
-use Rattle.af_ops.specs.Bodies.{pause_in, trigger_in}
+use Rattle.af_ops.specs.Bodies.{mark_in, pause_in, trigger_in}
 
 abbrev pub endpoint_of : Op → Endpoint
 endpoint_of op.Version = endpoint.Version
@@ -24,6 +24,7 @@ endpoint_of (op.ListTasks dag_id) = endpoint.ListTasks
 endpoint_of (op.ListRuns dag) = endpoint.ListRuns
 endpoint_of (op.TriggerRun dag_id input) = endpoint.TriggerRun
 endpoint_of (op.GetRun dag_id run_id) = endpoint.GetRun
+endpoint_of (op.MarkRun dag_id run_id input) = endpoint.MarkRun
 endpoint_of (op.ListInstances dag_id run_id) = endpoint.ListInstances
 endpoint_of (op.GetInstance dag_id run_id task_id) = endpoint.GetInstance
 
@@ -37,6 +38,7 @@ dag_of (op.ListTasks dag_id) = Some dag_id
 dag_of (op.ListRuns dag) = dag
 dag_of (op.TriggerRun dag_id input) = Some dag_id
 dag_of (op.GetRun dag_id run_id) = Some dag_id
+dag_of (op.MarkRun dag_id run_id input) = Some dag_id
 dag_of (op.ListInstances dag_id run_id) = Some dag_id
 dag_of (op.GetInstance dag_id run_id task_id) = Some dag_id
 
@@ -50,6 +52,7 @@ run_of (op.ListTasks dag_id) = None
 run_of (op.ListRuns dag) = None
 run_of (op.TriggerRun dag_id input) = None
 run_of (op.GetRun dag_id run_id) = Some run_id
+run_of (op.MarkRun dag_id run_id input) = Some run_id
 run_of (op.ListInstances dag_id run_id) = Some run_id
 run_of (op.GetInstance dag_id run_id task_id) = Some run_id
 
@@ -63,6 +66,7 @@ task_of (op.ListTasks dag_id) = None
 task_of (op.ListRuns dag) = None
 task_of (op.TriggerRun dag_id input) = None
 task_of (op.GetRun dag_id run_id) = None
+task_of (op.MarkRun dag_id run_id input) = None
 task_of (op.ListInstances dag_id run_id) = None
 task_of (op.GetInstance dag_id run_id task_id) = Some task_id
 
@@ -80,6 +84,7 @@ given_id (op.ListTasks dag_id) = None
 given_id (op.ListRuns dag) = None
 given_id (op.TriggerRun dag_id input) = given_in input
 given_id (op.GetRun dag_id run_id) = None
+given_id (op.MarkRun dag_id run_id input) = None
 given_id (op.ListInstances dag_id run_id) = None
 given_id (op.GetInstance dag_id run_id task_id) = None
 
@@ -150,6 +155,7 @@ op_of_row endpoint.ListTasks parts body = option_map (λ dag_id. op.ListTasks da
 op_of_row endpoint.ListRuns parts body = if is_all parts then Some (op.ListRuns None) else option_map (λ dag_id. op.ListRuns (Some dag_id)) (dag_id_in parts)
 op_of_row endpoint.TriggerRun parts body = option_map (λ dag_id. op.TriggerRun dag_id (trigger_in body)) (dag_id_in parts)
 op_of_row endpoint.GetRun parts body = option_map (λ ids. op.GetRun ids.0 ids.1) (run_ids_in parts)
+op_of_row endpoint.MarkRun parts body = option_map (λ ids. op.MarkRun ids.0 ids.1 (mark_in body)) (run_ids_in parts)
 op_of_row endpoint.ListInstances parts body = option_map (λ ids. op.ListInstances ids.0 ids.1) (run_ids_in parts)
 op_of_row endpoint.GetInstance parts body = option_map (λ ids. op.GetInstance ids.0.0 ids.0.1 ids.1) (instance_ids_in parts)
 
@@ -163,6 +169,7 @@ unread (op.ListTasks dag_id) = op.ListTasks dag_id
 unread (op.ListRuns dag) = op.ListRuns dag
 unread (op.TriggerRun dag_id input) = op.TriggerRun dag_id (Err OutOfMemory)
 unread (op.GetRun dag_id run_id) = op.GetRun dag_id run_id
+unread (op.MarkRun dag_id run_id input) = op.MarkRun dag_id run_id (Err OutOfMemory)
 unread (op.ListInstances dag_id run_id) = op.ListInstances dag_id run_id
 unread (op.GetInstance dag_id run_id task_id) = op.GetInstance dag_id run_id task_id
 

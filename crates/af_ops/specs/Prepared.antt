@@ -29,6 +29,7 @@ abbrev pub CanDo : StateWithRoom → Edit → Type 0
 CanDo state edit.Nothing = ⊤
 CanDo state (edit.DagPaused dag_id is_paused) = ⊤
 CanDo state (edit.RunAdded new) = CanAddRun state new
+CanDo state (edit.RunMarked number mark at) = ⊤
 
 -- the edit changes the state exactly where there is one
 abbrev pub IsExact : StateRows → Edit → Type 0

@@ -104,11 +104,12 @@ route_of endpoint.ListTasks = needing Get place.Tasks (at_dag Read ∷ on_all Re
 route_of endpoint.ListRuns = needing Get place.Runs (at_dag Read ∷ on_all Read DagRuns ∷ [])
 route_of endpoint.TriggerRun = needing Post place.Runs (at_dag Edit ∷ on_all Create DagRuns ∷ [])
 route_of endpoint.GetRun = needing Get place.Run (at_dag Read ∷ on_all Read DagRuns ∷ [])
+route_of endpoint.MarkRun = needing Patch place.Run (at_dag Edit ∷ on_all Edit DagRuns ∷ [])
 route_of endpoint.ListInstances = needing Get place.Instances (at_dag Read ∷ on_all Read DagRuns ∷ on_all Read TaskInstances ∷ [])
 route_of endpoint.GetInstance = needing Get place.Instance (at_dag Read ∷ on_all Read DagRuns ∷ on_all Read TaskInstances ∷ [])
 
 abbrev pub endpoints : List Endpoint
-endpoints = endpoint.Version ∷ endpoint.ListDags ∷ endpoint.GetDag ∷ endpoint.PauseDag ∷ endpoint.ListTasks ∷ endpoint.ListRuns ∷ endpoint.TriggerRun ∷ endpoint.GetRun ∷ endpoint.ListInstances ∷ endpoint.GetInstance ∷ []
+endpoints = endpoint.Version ∷ endpoint.ListDags ∷ endpoint.GetDag ∷ endpoint.PauseDag ∷ endpoint.ListTasks ∷ endpoint.ListRuns ∷ endpoint.TriggerRun ∷ endpoint.GetRun ∷ endpoint.MarkRun ∷ endpoint.ListInstances ∷ endpoint.GetInstance ∷ []
 
 -- ---- what is read off it
 

@@ -9,11 +9,12 @@ use Rattle.af_role.specs.DefaultRoles.{viewer_adds, user_adds}
 use Rattle.af_policy.specs.Rows.{UserRow, PolicyRows}
 use Rattle.af_graph.specs.declared.rule.Rule.TheVariants.{AllSuccess, OneFailed}
 use Rattle.af_graph.specs.declared.task_spec.TaskSpec.{TaskSpec}
-use Rattle.af_graph.specs.declared.task_state.TaskState.TheVariants.{Running}
+use Rattle.af_graph.specs.declared.task_state.TaskState.TheVariants.{Running, Success}
 use Rattle.af_runs.specs.Instances.{new_instance}
 use Rattle.af_runs.specs.Runs.{queued_run}
 use Rattle.af_runs.specs.declared.instance.Instance.{Instance}
 use Rattle.af_runs.specs.declared.run.Run.{Run}
+use Rattle.af_runs.specs.declared.run_state.RunState.TheVariants as run_state
 use Rattle.af_sched.specs.State.{StateRows}
 use Rattle.af_sched.specs.declared.dag_row.DagRow.{DagRow}
 use Rattle.af_ops.specs.declared.op.Op.{Op}
@@ -174,3 +175,22 @@ first_told = record { run = half_run; task = next_task; instance = tried }
 
 abbrev pub second_told : InstanceTold
 second_told = record { run = half_run; task = task; instance = new_instance task }
+
+-- ---- runs that are marked
+
+-- the run of the DAG b once it is marked success at the beginning of 1970, and the state with it
+abbrev pub ended : Run
+ended = record second {
+  state = run_state.Success;
+  end_date = Some 0;
+  instances = record (new_instance task) { state = Success; end_date = Some 0 } ∷ [];
+}
+
+abbrev pub with_ended : StateRows
+with_ended = record with_runs {
+  runs = queued_run 1 (new_run (dag (codes "a") true) (codes "a") (codes "r1") 1) ∷ ended ∷ [];
+}
+
+-- after that third entry
+abbrev pub ended_later : StandingRows
+ended_later = record { under = record { version = 0; seq = 3 }; state = with_ended }

@@ -2,13 +2,14 @@
 ghost use Rattle.std.specs.Prelude.{◌≡◌, ⊤, Err, Ok};
 ghost use Rattle.serde_json.specs.View.{view};
 ghost use Rattle.af_base.specs.Readings.{OrMemory, seen};
-ghost use Rattle.af_ops.specs.Bodies.{body_in, date_in, empty_object, instant_in, is_empty, optional_in, pause_in, run_id_of, trigger_in};
+ghost use Rattle.af_ops.specs.Bodies.{body_in, date_in, empty_object, instant_in, is_empty, mark_in, mark_value, optional_in, pause_in, required_in, run_id_of, trigger_in};
 
 use crate::body_fault::{BodyFault, Member};
 use crate::member_name::name_of;
 use crate::trigger::Trigger;
 use af_base::{json_in, member, required_truth};
 use af_names::{Instant, NameError, RunId};
+use af_runs::{Mark, RunState};
 use serde_json::Value;
 use std::alloc::Global;
 
@@ -36,6 +37,15 @@ pub fn read_trigger(alloc: Global, bytes: &[u8]) -> Result<Trigger, BodyFault>
         dag_run_id,
         logical_date,
     })
+}
+
+/// Reads what a run is marked. The first fault decides: `BadBody` where the bytes are no JSON object, `BadMember` where `state`
+/// is none of `success`, `failed` and `queued`; `OutOfMemory` only where a growth was refused.
+pub fn read_mark(alloc: Global, bytes: &[u8]) -> Result<Mark, BodyFault>
+    ensures { OrMemory BodyFault.OutOfMemory (mark_in bytes.now) result }
+{
+    let body = body_in(alloc, bytes)?;
+    required_mark(&body, Member::State)
 }
 
 /// The object that a body is.
@@ -110,4 +120,22 @@ fn is_empty_object(value: &Value) -> bool
         Some(members) => members.is_empty(),
         None => false,
     }
+}
+
+fn required_mark(body: &Value, it: Member) -> Result<Mark, BodyFault>
+    ensures { result ≡ required_in mark_value it (view body.now) }
+{
+    match member(body, name_of(it)) {
+        Some(value) => mark_value(value).ok_or(BodyFault::BadMember(it)),
+        None => Err(BodyFault::BadMember(it)),
+    }
+}
+
+/// The mark that puts a run into the state of a text.
+fn mark_value(value: &Value) -> Option<Mark>
+    ensures { result ≡ mark_value (view value.now) }
+{
+    let text = value.as_str()?;
+    let state = RunState::read(text)?;
+    Mark::of(state)
 }

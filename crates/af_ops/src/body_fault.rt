@@ -13,6 +13,8 @@ pub enum Member {
     ExecutionDate,
     /// `conf`
     Conf,
+    /// `state`
+    State,
 }
 
 /// Why a body is refused.

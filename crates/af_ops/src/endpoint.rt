@@ -17,6 +17,8 @@ pub enum Endpoint {
     TriggerRun,
     /// `GET /dags/{dag_id}/dagRuns/{dag_run_id}`
     GetRun,
+    /// `PATCH /dags/{dag_id}/dagRuns/{dag_run_id}`
+    MarkRun,
     /// `GET /dags/{dag_id}/dagRuns/{dag_run_id}/taskInstances`
     ListInstances,
     /// `GET /dags/{dag_id}/dagRuns/{dag_run_id}/taskInstances/{task_id}`

@@ -13,5 +13,6 @@ pub fn name_of(member: Member) -> &'static str
         Member::LogicalDate => "logical_date",
         Member::ExecutionDate => "execution_date",
         Member::Conf => "conf",
+        Member::State => "state",
     }
 }

@@ -6,6 +6,7 @@ use crate::body_fault::BodyFault;
 use crate::endpoint::Endpoint;
 use crate::trigger::Trigger;
 use af_names::{DagId, RunId, TaskId};
+use af_runs::Mark;
 
 /// An operation that a request asks for: the names of its path, and what was read of its body, where it reads one.
 #[derive(Drop)]
@@ -26,6 +27,8 @@ pub enum Op {
     TriggerRun(DagId, Result<Trigger, BodyFault>),
     /// One run of a DAG.
     GetRun(DagId, RunId),
+    /// A run of a DAG is marked success, failed or queued.
+    MarkRun(DagId, RunId, Result<Mark, BodyFault>),
     /// The instances of a run.
     ListInstances(DagId, RunId),
     /// One instance of a run.
@@ -46,6 +49,7 @@ impl Op {
             Op::ListRuns(_) => Endpoint::ListRuns,
             Op::TriggerRun(_, _) => Endpoint::TriggerRun,
             Op::GetRun(_, _) => Endpoint::GetRun,
+            Op::MarkRun(_, _, _) => Endpoint::MarkRun,
             Op::ListInstances(_, _) => Endpoint::ListInstances,
             Op::GetInstance(_, _, _) => Endpoint::GetInstance,
         }
@@ -61,6 +65,7 @@ impl Op {
             Op::ListTasks(dag_id) => Some(dag_id),
             Op::ListRuns(dag) => dag.as_ref(),
             Op::TriggerRun(dag_id, _) | Op::GetRun(dag_id, _) => Some(dag_id),
+            Op::MarkRun(dag_id, _, _) => Some(dag_id),
             Op::ListInstances(dag_id, _) | Op::GetInstance(dag_id, _, _) => Some(dag_id),
         }
     }
@@ -70,7 +75,7 @@ impl Op {
         ensures { option_copied result ≡ run_of self.now }
     {
         match self {
-            Op::GetRun(_, run_id) => Some(run_id),
+            Op::GetRun(_, run_id) | Op::MarkRun(_, run_id, _) => Some(run_id),
             Op::ListInstances(_, run_id) | Op::GetInstance(_, run_id, _) => Some(run_id),
             Op::Version
             | Op::ListDags
@@ -96,6 +101,7 @@ impl Op {
             | Op::ListRuns(_)
             | Op::TriggerRun(_, _)
             | Op::GetRun(_, _)
+            | Op::MarkRun(_, _, _)
             | Op::ListInstances(_, _) => None,
         }
     }
@@ -113,6 +119,7 @@ impl Op {
             | Op::ListTasks(_)
             | Op::ListRuns(_)
             | Op::GetRun(_, _)
+            | Op::MarkRun(_, _, _)
             | Op::ListInstances(_, _)
             | Op::GetInstance(_, _, _) => None,
         }

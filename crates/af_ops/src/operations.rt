@@ -1,6 +1,7 @@
 // Each operation: what it answers and what it edits. All memory is taken here.
 pub(crate) mod dags;
 pub(crate) mod instances;
+pub(crate) mod marking;
 pub(crate) mod runs;
 pub(crate) mod shared;
 pub(crate) mod tasks;

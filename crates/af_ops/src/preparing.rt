@@ -9,6 +9,7 @@ use crate::edit::Edit;
 use crate::op::Op;
 use crate::operations::dags::{dags_text, got_dag, paused_dag};
 use crate::operations::instances::{got_instance, listed_instances};
+use crate::operations::marking::run_marked;
 use crate::operations::runs::{got_run, listed_runs};
 use crate::operations::tasks::listed_tasks;
 use crate::operations::triggering::triggered_run;
@@ -50,6 +51,7 @@ pub fn prepare<R: Reader>(
         Op::ListRuns(dag) => listed_runs(alloc, state, dag.as_ref(), reader),
         Op::TriggerRun(dag_id, input) => triggered_run(alloc, state, dag_id, input, now),
         Op::GetRun(dag_id, run_id) => got_run(alloc, state, dag_id, run_id),
+        Op::MarkRun(dag_id, run_id, input) => run_marked(alloc, state, dag_id, run_id, input, now),
         Op::ListInstances(dag_id, run_id) => listed_instances(alloc, state, dag_id, run_id),
         Op::GetInstance(dag_id, run_id, task_id) => {
             got_instance(alloc, state, dag_id, run_id, task_id)

@@ -1,7 +1,7 @@
 ghost use Rattle.std.specs.Prelude.{◌≡◌, IfOk, IsErr, IsSome, is_some, map, string_bytes};
 ghost use Rattle.af_ops.specs.Endpoints.{IsRead, are_names, dag_id_in, instance_ids_in, is_all, is_get, op_of_row, run_id_in, run_ids_in, task_id_in};
 
-use crate::bodies::{read_pause, read_trigger};
+use crate::bodies::{read_mark, read_pause, read_trigger};
 use crate::endpoint::Endpoint;
 use crate::method::Method;
 use crate::op::Op;
@@ -63,6 +63,12 @@ pub fn read_row(
                 return Ok(None);
             };
             Ok(Some(Op::GetRun(dag_id, run_id)))
+        }
+        Endpoint::MarkRun => {
+            let Some((dag_id, run_id)) = run_ids_in(alloc, parts)? else {
+                return Ok(None);
+            };
+            Ok(Some(Op::MarkRun(dag_id, run_id, read_mark(alloc, body))))
         }
         Endpoint::ListInstances => {
             let Some((dag_id, run_id)) = run_ids_in(alloc, parts)? else {

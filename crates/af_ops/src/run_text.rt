@@ -1,33 +1,112 @@
 // A run's row as it is told.
-ghost use Rattle.std.specs.Prelude.{◌≡◌};
+ghost use Rattle.std.specs.Prelude.{◌≡◌, OnOk, false, if◌then◌else◌};
+ghost use Rattle.af_runs.specs.Marks.{is_in_state, marked_end, marked_run, marked_start};
 ghost use Rattle.af_runs.specs.Runs.{queued_run};
 ghost use Rattle.af_ops.specs.Rows.{run_fields, run_state_text, run_type_text};
+ghost use Rattle.af_ops.specs.Texts.{Adds};
 
 use crate::row::Row;
 use crate::text::Text;
-use af_runs::{NewRun, Run, RunState, RunType};
+use af_names::Instant;
+use af_runs::{Mark, NewRun, Run, RunState, RunType};
 use std::alloc::{AllocError, Global};
+use std::marker::Model;
 
 impl Row for Run {
     ghost fields = { run_fields };
 
     fn put_fields(&self, alloc: Global, out: &mut Text) -> Result<(), AllocError> {
-        out.dag_id(false, "dag_id", &self.dag_id)?;
-        out.run_id(true, "dag_run_id", &self.run_id)?;
-        out.instant(alloc, true, "data_interval_end", Some(self.interval.end))?;
-        out.instant(
-            alloc,
-            true,
-            "data_interval_start",
-            Some(self.interval.start),
-        )?;
-        out.instant(alloc, true, "end_date", self.end_date)?;
-        out.instant(alloc, true, "logical_date", Some(self.logical_date))?;
-        out.text(alloc, true, "run_type", run_type_text(self.run_type))?;
-        out.instant(alloc, true, "start_date", self.start_date)?;
-        out.text(alloc, true, "state", run_state_text(self.state))?;
-        Ok(())
+        put_run(alloc, out, self, self.state, self.start_date, self.end_date)
     }
+}
+
+/// A run's row as it stands once the run is marked at a moment.
+#[derive(Drop)]
+pub(crate) struct MarkedRow<'a> {
+    pub run: &'a Run,
+    pub mark: Mark,
+    pub at: Instant,
+}
+
+impl<'a> Model for MarkedRow<'a> {
+    ghost use Rattle.af_runs.specs.Marks.{marked_run};
+    ghost use Rattle.af_runs.specs.declared.run.Run.{Run};
+
+    ghost Value = { Run };
+
+    ghost view = { λ row. marked_run row.mark row.at row.run.now };
+}
+
+impl<'a> Row for MarkedRow<'a> {
+    ghost fields = { run_fields };
+
+    fn put_fields(&self, alloc: Global, out: &mut Text) -> Result<(), AllocError> {
+        put_marked(alloc, out, self.run, self.mark, self.at)
+    }
+}
+
+/// The members of a run's row, as it stands once the run is marked at a moment: where it is in the state already, its dates stay.
+fn put_marked(
+    alloc: Global,
+    out: &mut Text,
+    run: &Run,
+    mark: Mark,
+    at: Instant,
+) -> Result<(), AllocError>
+    ensures { OnOk result (Adds false out.old out.new (run_fields (marked_run mark at run.now))) }
+{
+    let start_date = start_of(run, mark);
+    let end_date = end_of(run, mark, at);
+    put_run(alloc, out, run, mark.state(), start_date, end_date)
+}
+
+/// The start of a run once it is marked: one that is queued again has none.
+fn start_of(run: &Run, mark: Mark) -> Option<Instant>
+    ensures { result ≡ (if is_in_state mark run.now then run.now.start_date else marked_start mark run.now.start_date) }
+{
+    if run.state == mark.state() {
+        return run.start_date;
+    }
+    match mark {
+        Mark::Success | Mark::Failed => run.start_date,
+        Mark::Queued => None,
+    }
+}
+
+/// The end of a run once it is marked at a moment: one that is queued again has none.
+fn end_of(run: &Run, mark: Mark, at: Instant) -> Option<Instant>
+    ensures { result ≡ (if is_in_state mark run.now then run.now.end_date else marked_end mark at) }
+{
+    if run.state == mark.state() {
+        return run.end_date;
+    }
+    match mark {
+        Mark::Success | Mark::Failed => Some(at),
+        Mark::Queued => None,
+    }
+}
+
+/// The members of a run's row, in this state and with these dates of its start and end.
+fn put_run(
+    alloc: Global,
+    out: &mut Text,
+    run: &Run,
+    state: RunState,
+    start_date: Option<Instant>,
+    end_date: Option<Instant>,
+) -> Result<(), AllocError>
+    ensures { OnOk result (Adds false out.old out.new (run_fields (record run.now { state = state; start_date = start_date; end_date = end_date }))) }
+{
+    out.dag_id(false, "dag_id", &run.dag_id)?;
+    out.run_id(true, "dag_run_id", &run.run_id)?;
+    out.instant(alloc, true, "data_interval_end", Some(run.interval.end))?;
+    out.instant(alloc, true, "data_interval_start", Some(run.interval.start))?;
+    out.instant(alloc, true, "end_date", end_date)?;
+    out.instant(alloc, true, "logical_date", Some(run.logical_date))?;
+    out.text(alloc, true, "run_type", run_type_text(run.run_type))?;
+    out.instant(alloc, true, "start_date", start_date)?;
+    out.text(alloc, true, "state", run_state_text(state))?;
+    Ok(())
 }
 
 /// A run as it stands once it is added: queued, without start and end.

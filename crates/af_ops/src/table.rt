@@ -11,7 +11,7 @@ use crate::route::Route;
 use af_role::{Action, Need, ResourceKind};
 
 /// All operations.
-pub const ENDPOINTS: [Endpoint; 10] = [
+pub const ENDPOINTS: [Endpoint; 11] = [
     Endpoint::Version,
     Endpoint::ListDags,
     Endpoint::GetDag,
@@ -20,6 +20,7 @@ pub const ENDPOINTS: [Endpoint; 10] = [
     Endpoint::ListRuns,
     Endpoint::TriggerRun,
     Endpoint::GetRun,
+    Endpoint::MarkRun,
     Endpoint::ListInstances,
     Endpoint::GetInstance,
 ];
@@ -49,6 +50,7 @@ pub fn route_of(endpoint: Endpoint) -> Route
         Endpoint::ListRuns => needing(Method::Get, Place::Runs, &READ_RUN),
         Endpoint::TriggerRun => needing(Method::Post, Place::Runs, &CREATE_RUN),
         Endpoint::GetRun => needing(Method::Get, Place::Run, &READ_RUN),
+        Endpoint::MarkRun => needing(Method::Patch, Place::Run, &EDIT_RUN),
         Endpoint::ListInstances => needing(Method::Get, Place::Instances, &READ_INSTANCE),
         Endpoint::GetInstance => needing(Method::Get, Place::Instance, &READ_INSTANCE),
     }
@@ -84,6 +86,20 @@ static CREATE_RUN: [Need; 2] = [
     },
     Need {
         action: Action::Create,
+        kind: ResourceKind::DagRuns,
+        at_dag: false,
+    },
+];
+
+/// `can_edit` on `DAGs` at the DAG that the path names, and on `DAG Runs`.
+static EDIT_RUN: [Need; 2] = [
+    Need {
+        action: Action::Edit,
+        kind: ResourceKind::Dags,
+        at_dag: true,
+    },
+    Need {
+        action: Action::Edit,
         kind: ResourceKind::DagRuns,
         at_dag: false,
     },
@@ -189,6 +205,7 @@ pub fn needs_for(op: &Op) -> &'static [Need]
         Op::ListTasks(_) => needs(Endpoint::ListTasks),
         Op::TriggerRun(_, _) => needs(Endpoint::TriggerRun),
         Op::GetRun(_, _) => needs(Endpoint::GetRun),
+        Op::MarkRun(_, _, _) => needs(Endpoint::MarkRun),
         Op::ListInstances(_, _) => needs(Endpoint::ListInstances),
         Op::GetInstance(_, _, _) => needs(Endpoint::GetInstance),
     }

@@ -3,7 +3,7 @@ ghost use Rattle.std.specs.Prelude.{◌≡◌, [], ◌∷◌, codes, map, Err, O
 ghost use Rattle.af_ops.specs.declared.answer.CallFault.TheVariants as why;
 ghost use Rattle.af_ops.specs.declared.answer.OpFault.TheVariants as fault;
 ghost use Rattle.af_ops.specs.declared.body_fault.BodyFault.TheVariants.{BadBody, BadMember, OutOfMemory};
-ghost use Rattle.af_ops.specs.declared.body_fault.Member.TheVariants.{Conf, DagRunId, ExecutionDate, IsPaused, LogicalDate};
+ghost use Rattle.af_ops.specs.declared.body_fault.Member.TheVariants.{Conf, DagRunId, ExecutionDate, IsPaused, LogicalDate, State};
 ghost use Rattle.af_ops.specs.declared.endpoint.Endpoint.TheVariants as endpoint;
 ghost use Rattle.af_ops.specs.declared.method.Method.TheVariants.{Get, Post, Patch};
 ghost use Rattle.af_ops.specs.declared.op.Op.TheVariants as op;
@@ -11,8 +11,9 @@ ghost use Rattle.af_ops.specs.declared.place.Place.TheVariants as place;
 ghost use Rattle.af_ops.specs.declared.status.Status.TheVariants as status;
 ghost use Rattle.af_role.specs.declared.action.Action.TheVariants.{Create, Read, Edit};
 ghost use Rattle.af_role.specs.declared.resource.ResourceKind.TheVariants.{DagRuns, TaskInstances};
+ghost use Rattle.af_runs.specs.declared.mark.Mark.TheVariants as mark;
 ghost use Rattle.serde_json.specs.Written.{compact_text};
-ghost use Rattle.af_ops.specs.Bodies.{pause_in, trigger_in};
+ghost use Rattle.af_ops.specs.Bodies.{mark_in, pause_in, trigger_in};
 ghost use Rattle.af_ops.specs.Endpoints.{are_names, op_of_row};
 ghost use Rattle.af_ops.specs.Fields.{listing_of};
 ghost use Rattle.af_ops.specs.Methods.{method_of};
@@ -21,7 +22,7 @@ ghost use Rattle.af_ops.specs.Served.{answer_of, fault_told, left_by};
 ghost use Rattle.af_ops.specs.Statuses.{code_of, is_fault_status};
 ghost use Rattle.af_ops.specs.Table.{at_dag, at_some_dag, endpoint_at, methods_at, on_all, segments_of, spelled};
 ghost use Rattle.af_ops.specs.Verdicts.{Open, Stranger, Lacks, Refuses, Tells, Changes, judged, verdict};
-ghost use Rattle.af_ops.specs.Worked.{asks, at_entries, at_work, dag, first_told, full_later, is_told, is_told_then, later, no_numbers, opening, policy, second, second_told, state_with, trigger, waited_told, waiting_told};
+ghost use Rattle.af_ops.specs.Worked.{asks, at_entries, at_work, dag, ended, ended_later, first_told, full_later, is_told, is_told_then, later, no_numbers, opening, policy, second, second_told, state_with, trigger, waited_told, waiting_told, with_ended};
 
 /// Who asks for DAGs: a viewer is told all three, who may read one DAG that one, who has no permission the requirement that is
 /// lacked. Who may not read a DAG is told the same whether it is there or not; who may is told that it is not.
@@ -210,4 +211,35 @@ pub fn instance_messages_by_the_rule()
     ensures absent { is_told at_work (codes "vera") (op.GetInstance (codes "f") (codes "r") (codes "x")) ≡ Some (record { status = status.NotFound; version = Some 0; seq = Some 3; body = Some (codes "{\"detail\":\"no such task: x\",\"status\":404,\"title\":\"Not Found\",\"type\":\"about:blank\"}") }) }
     ensures no_run { is_told at_work (codes "vera") (op.GetInstance (codes "f") (codes "r2") (codes "x")) ≡ Some (record { status = status.NotFound; version = Some 0; seq = Some 3; body = Some (codes "{\"detail\":\"no such run: r2\",\"status\":404,\"title\":\"Not Found\",\"type\":\"about:blank\"}") }) }
     ensures denied { is_told later (codes "ron") (op.ListInstances (codes "b") (codes "r2")) ≡ Some (record { status = status.Forbidden; version = Some 0; seq = Some 2; body = Some (codes "{\"detail\":\"missing permission Task Instances.can_read\",\"status\":403,\"title\":\"Forbidden\",\"type\":\"about:blank\"}") }) }
+{}
+
+/// Who marks a run: one who may edit its DAG and runs. The first time is a change, and marking what stands is none; a denial comes
+/// before a bad body, that before an absence, and all before a history that is full.
+pub fn marks_by_the_rule()
+    ensures success { asks later (codes "uma") (op.MarkRun (codes "b") (codes "r2") (Ok mark.Success)) ≡ Changes (compact_text (run_data ended)) with_ended }
+    ensures again { asks ended_later (codes "uma") (op.MarkRun (codes "b") (codes "r2") (Ok mark.Success)) ≡ Tells (compact_text (run_data ended)) }
+    ensures queued { asks later (codes "uma") (op.MarkRun (codes "b") (codes "r2") (Ok mark.Queued)) ≡ Tells (compact_text (run_data second)) }
+    ensures denied { asks later (codes "vera") (op.MarkRun (codes "nosuch") (codes "r2") (Err BadBody)) ≡ Lacks (at_dag Edit) }
+    ensures bad_body { asks later (codes "uma") (op.MarkRun (codes "nosuch") (codes "r2") (Err BadBody)) ≡ Refuses fault.BadBody }
+    ensures bad_member { asks later (codes "uma") (op.MarkRun (codes "nosuch") (codes "r2") (Err (BadMember State))) ≡ Refuses (fault.BadMember State) }
+    ensures no_dag { asks later (codes "uma") (op.MarkRun (codes "nosuch") (codes "r2") (Ok mark.Failed)) ≡ Refuses fault.NoSuchDag }
+    ensures no_run { asks later (codes "uma") (op.MarkRun (codes "b") (codes "r1") (Ok mark.Failed)) ≡ Refuses fault.NoSuchRun }
+    ensures full { asks full_later (codes "uma") (op.MarkRun (codes "b") (codes "r2") (Ok mark.Success)) ≡ Refuses fault.HistoryFull }
+    ensures full_stands { asks full_later (codes "uma") (op.MarkRun (codes "b") (codes "r2") (Ok mark.Queued)) ≡ Tells (compact_text (run_data second)) }
+    ensures row { op_of_row endpoint.MarkRun (codes "b" ∷ codes "r~1" ∷ []) (codes "{") ≡ Some (op.MarkRun (codes "b") (codes "r~1") (Err BadBody)) }
+    ensures no_name { op_of_row endpoint.MarkRun (codes "~" ∷ codes "r" ∷ []) [] ≡ None }
+    ensures methods { methods_at place.Run ≡ record { get = true; post = false; patch = true; delete = false } }
+{}
+
+/// What is told of marks, and their bodies: a state that a run is put into, which `running` is not.
+pub fn mark_messages_by_the_rule()
+    ensures told { is_told later (codes "uma") (op.MarkRun (codes "b") (codes "r2") (Ok mark.Success)) ≡ Some (record { status = status.Ok; version = Some 0; seq = Some 3; body = Some (codes "{\"dag_id\":\"b\",\"dag_run_id\":\"r2\",\"data_interval_end\":\"1970-01-01T00:00:00.000002+00:00\",\"data_interval_start\":\"1970-01-01T00:00:00.000002+00:00\",\"end_date\":\"1970-01-01T00:00:00+00:00\",\"logical_date\":\"1970-01-01T00:00:00.000002+00:00\",\"run_type\":\"manual\",\"start_date\":null,\"state\":\"success\"}") }) }
+    ensures denied { is_told later (codes "bob") (op.MarkRun (codes "b") (codes "r2") (Ok mark.Success)) ≡ Some (record { status = status.Forbidden; version = Some 0; seq = Some 2; body = Some (codes "{\"detail\":\"missing permission DAG:b.can_edit\",\"status\":403,\"title\":\"Forbidden\",\"type\":\"about:blank\"}") }) }
+    ensures bad_member { is_told later (codes "uma") (op.MarkRun (codes "b") (codes "r2") (Err (BadMember State))) ≡ Some (record { status = status.BadRequest; version = Some 0; seq = Some 2; body = Some (codes "{\"detail\":\"bad member: state\",\"status\":400,\"title\":\"Bad Request\",\"type\":\"about:blank\"}") }) }
+    ensures absent { is_told later (codes "uma") (op.MarkRun (codes "b") (codes "r1") (Ok mark.Success)) ≡ Some (record { status = status.NotFound; version = Some 0; seq = Some 2; body = Some (codes "{\"detail\":\"no such run: r1\",\"status\":404,\"title\":\"Not Found\",\"type\":\"about:blank\"}") }) }
+    ensures failed { mark_in (codes "{\"state\":\"queued\",\"state\":\"failed\"}") ≡ Ok mark.Failed }
+    ensures running { mark_in (codes "{\"state\":\"running\"}") ≡ Err (BadMember State) }
+    ensures no_state { mark_in (codes "{\"state\":null}") ≡ Err (BadMember State) }
+    ensures truth { mark_in (codes "{\"state\":true}") ≡ Err (BadMember State) }
+    ensures list { mark_in (codes "[\"failed\"]") ≡ Err BadBody }
 {}

@@ -5,6 +5,7 @@ mod connections;
 mod dags;
 mod instances;
 mod many;
+mod marks;
 
 use crate::once::once;
 use crate::reason::Reason;

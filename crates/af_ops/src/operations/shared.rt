@@ -9,7 +9,7 @@ use crate::body_fault::BodyFault;
 use crate::trigger::Trigger;
 use af_names::{DagId, NamesDag, RunId};
 use af_policy::Reader;
-use af_runs::Run;
+use af_runs::{Mark, Run};
 use af_sched::{DagRow, State};
 use std::alloc::{AllocError, Global};
 
@@ -50,6 +50,16 @@ pub(crate) fn truth_or(input: &Result<bool, BodyFault>) -> Result<bool, OpFault>
 {
     match input {
         Ok(truth) => Ok(*truth),
+        Err(why) => Err(input_fault(*why)),
+    }
+}
+
+/// What was read of a body that marks a run.
+pub(crate) fn mark_or(input: &Result<Mark, BodyFault>) -> Result<Mark, OpFault>
+    ensures { result ≡ input_or input.now }
+{
+    match input {
+        Ok(mark) => Ok(*mark),
         Err(why) => Err(input_fault(*why)),
     }
 }

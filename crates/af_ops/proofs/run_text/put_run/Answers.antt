@@ -1,5 +1,5 @@
 use Rattle.af_ops.proofs.TextLemmas.{more}
-use Rattle.af_ops.proofs.run_text.RunRow.put_fields.Goals as goal
+use Rattle.af_ops.proofs.run_text.put_run.Goals as goal
 
 pub returns : goal.returns
 returns c =
