@@ -17,7 +17,7 @@ use Rattle.af_ops.specs.declared.op.Op.{Op}
 use Rattle.af_ops.specs.declared.op.Op.TheVariants as op
 use Rattle.af_ops.specs.declared.place.Place.{Place}
 use Rattle.af_ops.specs.declared.place.Place.TheVariants as place
-use Rattle.af_ops.specs.Bodies.{pause_in, trigger_in}
+use Rattle.af_ops.specs.Bodies.{mark_in, pause_in, trigger_in}
 use Rattle.af_ops.specs.Endpoints.{are_names, both, dag_id_in, is_all, is_get, op_of_row, run_id_in, task_id_in}
 use Rattle.af_ops.specs.Methods.{method_of}
 use Rattle.af_ops.specs.Table.{Segment, Text, Part, endpoint_at, methods_at, segments_of}
@@ -275,7 +275,7 @@ agrees Patch place.Runs parts body = tt
 agrees Delete place.Runs parts body = tt
 agrees Get place.Run parts body = some_both (λ ids. op.GetRun ids.0 ids.1) (dag_id_in parts) (run_id_in parts)
 agrees Post place.Run parts body = tt
-agrees Patch place.Run parts body = tt
+agrees Patch place.Run parts body = some_both (λ ids. op.MarkRun ids.0 ids.1 (mark_in body)) (dag_id_in parts) (run_id_in parts)
 agrees Delete place.Run parts body = tt
 agrees Get place.Instances parts body = some_both (λ ids. op.ListInstances ids.0 ids.1) (dag_id_in parts) (run_id_in parts)
 agrees Post place.Instances parts body = tt
