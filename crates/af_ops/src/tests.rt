@@ -1,6 +1,4 @@
 //! Requests of several users, one after another, with the bodies that the stable REST API of Airflow 2 and RFC 9457 spell.
-mod instances;
-
 use crate::{
     CallFault, Endpoint, Op, OpFault, Served, Shown, Standing, Status, Text, Under, decide,
     read_row,
