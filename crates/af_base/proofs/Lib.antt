@@ -1,4 +1,6 @@
 mod MemberLemmas
 mod JsonLemmas
+mod GrammarLemmas
+mod BorrowedLemmas
 pub mod TakingLemmas
 pub mod OrderedLemmas

@@ -3,3 +3,4 @@ pub mod Members
 pub mod Parsed
 pub mod Ordered
 pub mod Places
+pub mod JsonValue

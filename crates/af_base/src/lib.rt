@@ -3,6 +3,7 @@
 #![tactic(auto)]
 
 mod items;
+pub mod json_value;
 mod keyed;
 mod members;
 mod ordered;
