@@ -24,6 +24,3 @@ pub use name_error::NameError;
 pub use names_dag::NamesDag;
 pub use preset::Preset;
 pub use worked::{ids_by_the_rule, instants_by_the_rule, names_by_the_rule, points_by_the_rule};
-
-#[cfg(test)]
-mod tests;

@@ -72,6 +72,3 @@ pub use worked::{
     marks_by_the_rule, messages_by_the_rule, readings_by_the_rule, routes_by_the_rule,
     run_messages_by_the_rule, runs_by_the_rule, tasks_by_the_rule, triggers_by_the_rule,
 };
-
-#[cfg(test)]
-mod tests;

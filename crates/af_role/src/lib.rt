@@ -39,6 +39,3 @@ pub use worked::{
     default_roles_by_the_rule, needs_by_the_rule, pairs_by_the_rule, single_dags_by_the_rule,
     texts_by_the_rule,
 };
-
-#[cfg(test)]
-mod tests;

@@ -1,6 +1,6 @@
 //! Rows worked by hand: the default roles with all their permissions, requirements as they are written, and which texts
 //! are resources.
-use crate::{Action, Actions, Need, Pair, Permissions, Resource, ResourceKind, default_roles};
+use af_role::{Action, Actions, Need, Pair, Permissions, Resource, ResourceKind, default_roles};
 use af_names::{DagId, NameError};
 use std::alloc::{AllocError, Global};
 

@@ -1,5 +1,5 @@
 //! Requests of several users, one after another, with the bodies that the stable REST API of Airflow 2 and RFC 9457 spell.
-use crate::{
+use af_ops::{
     CallFault, Endpoint, Op, OpFault, Served, Shown, Standing, Status, Text, Under, decide,
     read_row,
 };

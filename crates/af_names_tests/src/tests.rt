@@ -1,6 +1,6 @@
 //! Texts and moments from outside: Airflow's ids, RFC 3339 and RFC 9557 texts as jiff reads them, and the calendar.
-use crate::kinds::{DagKind, PoolKind, RoleKind, RunKind, TaskKind, UserKind, VarKind};
-use crate::{DagId, Instant, InstantError, Name, NameError, NameKind, Preset};
+use af_names::{DagKind, PoolKind, RoleKind, RunKind, TaskKind, UserKind, VarKind};
+use af_names::{DagId, Instant, InstantError, Name, NameError, NameKind, Preset};
 use std::alloc::Global;
 use std::test::Fail;
 
