@@ -68,7 +68,10 @@ impl<'a> Additions<'a> {
         if let Some(fault) = self.add_fault(&new.dag_id, &new.run_id, new.logical_date) {
             return Err(fault);
         }
-        self.added.add_run(new)
+        let number = self.added.add_free(new)?;
+        // So counting the additions of a DAG goes over few of them.
+        self.added.list_appended();
+        Ok(number)
     }
 
     /// The rows that are to be added, and the number of the last run of all, 0 where there is none.
