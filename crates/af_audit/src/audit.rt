@@ -1,0 +1,86 @@
+ghost use Rattle.std.specs.Prelude.{◌≡◌, ◌≤◌, ◌+◌, [], ◌∷◌, ◌++◌, length, Err, None, Some, OnErr, OnOk, if◌then◌else◌};
+ghost use Rattle.af_audit.specs.Entries.{AreNumbered, next_seq, with_entry};
+
+use crate::audit_fault::AuditFault;
+use crate::entry::Entry;
+use std::alloc::Global;
+use std::marker::Model;
+
+/// The entries, in the order in which they were made, at most so many. Their numbers go from 1 without gaps.
+#[derive(Drop)]
+pub struct Audit {
+    entries: Vec<Entry>,
+    limit: u32,
+}
+
+impl Model for Audit {
+    ghost use Rattle.af_audit.specs.Entries.{AuditRows, IsAudit};
+
+    ghost Value = { AuditRows };
+
+    ghost view = { λ audit. record { entries = audit.entries.items; limit = audit.limit } };
+
+    ghost invariant = { λ audit. IsAudit (record { entries = audit.entries.items; limit = audit.limit }) };
+}
+
+impl Audit {
+    /// No entries, and room for so many. It takes no memory.
+    pub fn new(alloc: Global, limit: u32) -> Audit
+        ensures { result ≡ record { entries = []; limit = limit } }
+    {
+        Audit {
+            entries: Vec::new(alloc),
+            limit,
+        }
+    }
+
+    /// The entries, in the order of their numbers.
+    pub fn entries(&self) -> &[Entry]
+        ensures entries { result.now ≡ self.now.entries }
+        ensures numbered { AreNumbered self.now.entries }
+    {
+        self.entries.as_slice()
+    }
+
+    /// The most entries that there may be.
+    pub fn limit(&self) -> u32
+        ensures { result ≡ self.now.limit }
+    {
+        self.limit
+    }
+
+    /// How many entries there are.
+    pub fn count(&self) -> u32
+        ensures count { result ≡ length self.now.entries }
+        ensures within { length self.now.entries ≤ self.now.limit }
+    {
+        let _limit = self.limit;
+        self.entries.len() as u32
+    }
+
+    /// The number of the next entry, or none where there are as many as there may be.
+    pub fn next_seq(&self) -> Option<u32>
+        ensures { result ≡ next_seq self.now }
+    {
+        let limit = self.limit;
+        let count = self.count();
+        if count < limit { Some(count + 1) } else { None }
+    }
+
+    /// Adds an entry, whose number is the next one. `HistoryFull` exactly where there are as many as there may be;
+    /// `OutOfMemory` only where a growth was refused. A fault leaves the audit as it was, and the entry is given up.
+    pub fn push(&mut self, entry: Entry) -> Result<(), AuditFault>
+        requires { entry.seq ≡ length self.old.entries + 1 }
+        ensures ok { OnOk result (self.new ≡ with_entry self.old entry) }
+        ensures room { OnOk result (next_seq self.old ≡ Some entry.seq) }
+        ensures full { next_seq self.old ≡ None → result ≡ Err AuditFault.HistoryFull }
+        ensures full_only { result ≡ Err AuditFault.HistoryFull → next_seq self.old ≡ None }
+        ensures err { OnErr result (self.new ≡ self.old) }
+    {
+        if self.count() >= self.limit {
+            return Err(AuditFault::HistoryFull);
+        }
+        self.entries.push(entry)?;
+        Ok(())
+    }
+}

@@ -1,0 +1,33 @@
+use crate::entry::Entry;
+use std::alloc::{AllocError, AllocFailed};
+
+/// Why no entry is added, in the order in which the reasons are told.
+#[derive(Clone, Copy, Debug, PartialEq, Eq)]
+pub enum AuditFault {
+    /// There are as many entries as there may be.
+    HistoryFull,
+    /// A growth of memory was refused.
+    OutOfMemory,
+}
+
+impl From<AllocError> for AuditFault {
+    ghost use Rattle.std.specs.Prelude.{◌≡◌};
+    ghost use Rattle.af_audit.specs.declared.audit_fault.AuditFault.TheVariants.{OutOfMemory};
+
+    ghost from_gives = { λ _ fault. fault ≡ OutOfMemory };
+
+    fn from(_error: AllocError) -> AuditFault {
+        AuditFault::OutOfMemory
+    }
+}
+
+impl From<AllocFailed<Entry>> for AuditFault {
+    ghost use Rattle.std.specs.Prelude.{◌≡◌};
+    ghost use Rattle.af_audit.specs.declared.audit_fault.AuditFault.TheVariants.{OutOfMemory};
+
+    ghost from_gives = { λ _ fault. fault ≡ OutOfMemory };
+
+    fn from(_error: AllocFailed<Entry>) -> AuditFault {
+        AuditFault::OutOfMemory
+    }
+}

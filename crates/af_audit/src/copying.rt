@@ -1,0 +1,93 @@
+ghost use Rattle.std.specs.Prelude.{◌≡◌, IfOk};
+
+use af_names::{DagId, RunId};
+use af_ops::{BodyFault, Op, Trigger};
+use std::alloc::{AllocError, Global};
+
+/// The same operation again. `AllocError` only where a growth was refused.
+pub(crate) fn copied(alloc: Global, op: &Op) -> Result<Op, AllocError>
+    ensures { IfOk result (λ copy. copy ≡ op.now) }
+{
+    match op {
+        Op::Version => Ok(Op::Version),
+        Op::ListDags => Ok(Op::ListDags),
+        Op::GetDag(dag_id) => Ok(Op::GetDag(dag_id.copied(alloc)?)),
+        Op::PauseDag(dag_id, input) => Ok(Op::PauseDag(dag_id.copied(alloc)?, *input)),
+        Op::ListTasks(dag_id) => Ok(Op::ListTasks(dag_id.copied(alloc)?)),
+        Op::ListRuns(dag) => Ok(Op::ListRuns(copied_dag(alloc, dag)?)),
+        Op::TriggerRun(dag_id, input) => {
+            let dag_id = dag_id.copied(alloc)?;
+            Ok(Op::TriggerRun(dag_id, copied_input(alloc, input)?))
+        }
+        Op::GetRun(dag_id, run_id) => {
+            let (dag_id, run_id) = copied_ids(alloc, dag_id, run_id)?;
+            Ok(Op::GetRun(dag_id, run_id))
+        }
+        Op::MarkRun(dag_id, run_id, input) => {
+            let (dag_id, run_id) = copied_ids(alloc, dag_id, run_id)?;
+            Ok(Op::MarkRun(dag_id, run_id, *input))
+        }
+        Op::ListInstances(dag_id, run_id) => {
+            let (dag_id, run_id) = copied_ids(alloc, dag_id, run_id)?;
+            Ok(Op::ListInstances(dag_id, run_id))
+        }
+        Op::GetInstance(dag_id, run_id, task_id) => {
+            let (dag_id, run_id) = copied_ids(alloc, dag_id, run_id)?;
+            Ok(Op::GetInstance(dag_id, run_id, task_id.copied(alloc)?))
+        }
+    }
+}
+
+/// The same two ids again.
+fn copied_ids(alloc: Global, dag_id: &DagId, run_id: &RunId) -> Result<(DagId, RunId), AllocError>
+    ensures dag { IfOk result (λ ids. ids.0 ≡ dag_id.now) }
+    ensures run { IfOk result (λ ids. ids.1 ≡ run_id.now) }
+{
+    let dag_id = dag_id.copied(alloc)?;
+    let run_id = run_id.copied(alloc)?;
+    Ok((dag_id, run_id))
+}
+
+/// The same DAG's id again, if there is one.
+fn copied_dag(alloc: Global, dag: &Option<DagId>) -> Result<Option<DagId>, AllocError>
+    ensures { IfOk result (λ copy. copy ≡ dag.now) }
+{
+    match dag {
+        None => Ok(None),
+        Some(dag_id) => Ok(Some(dag_id.copied(alloc)?)),
+    }
+}
+
+/// What was read of a body that triggers a run, again.
+fn copied_input(
+    alloc: Global,
+    input: &Result<Trigger, BodyFault>,
+) -> Result<Result<Trigger, BodyFault>, AllocError>
+    ensures { IfOk result (λ copy. copy ≡ input.now) }
+{
+    match input {
+        Ok(asked) => Ok(Ok(copied_trigger(alloc, asked)?)),
+        Err(fault) => Ok(Err(*fault)),
+    }
+}
+
+/// The same trigger again.
+fn copied_trigger(alloc: Global, asked: &Trigger) -> Result<Trigger, AllocError>
+    ensures { IfOk result (λ copy. copy ≡ asked.now) }
+{
+    let dag_run_id = copied_run(alloc, &asked.dag_run_id)?;
+    Ok(Trigger {
+        dag_run_id,
+        logical_date: asked.logical_date,
+    })
+}
+
+/// The same run's id again, if there is one.
+fn copied_run(alloc: Global, run: &Option<RunId>) -> Result<Option<RunId>, AllocError>
+    ensures { IfOk result (λ copy. copy ≡ run.now) }
+{
+    match run {
+        None => Ok(None),
+        Some(run_id) => Ok(Some(run_id.copied(alloc)?)),
+    }
+}

@@ -1,0 +1,20 @@
+//! The audit: what was done, by whom and when, as a list of entries; and the ledger, whose state is at all times what these
+//! entries make of the one that it was opened with.
+#![tactic(auto)]
+
+mod act;
+mod actor;
+mod audit;
+mod audit_fault;
+mod copying;
+mod entry;
+pub mod laws;
+mod nobody;
+mod replaying;
+
+pub use act::Act;
+pub use actor::Actor;
+pub use audit::Audit;
+pub use audit_fault::AuditFault;
+pub use entry::Entry;
+pub use replaying::replay;
