@@ -67,6 +67,7 @@ pub use reader::Reader;
 pub use role_names::RoleNames;
 pub use role_shown::RoleShown;
 pub use row_fault::RowFault;
+pub use shared::{Row, Table};
 pub use span::Span;
 pub use submit_fault::SubmitFault;
 pub use told::Told;
@@ -78,6 +79,3 @@ pub use worked::{
     bearers_by_the_rule, denials_by_the_rule, grants_by_the_rule, readers_by_the_rule,
     rows_by_the_rule,
 };
-
-#[cfg(test)]
-mod tests;

@@ -6,9 +6,6 @@ mod row;
 mod some;
 mod table;
 
-pub(crate) use row::Row;
+pub use row::Row;
 pub(crate) use some::Test;
-pub(crate) use table::Table;
-
-#[cfg(test)]
-mod tests;
+pub use table::Table;

@@ -1,4 +1,5 @@
-use crate::shared::{Row, Table};
+//! Tables that share rows: what a change leaves of the table before it, and how long a search is.
+use af_policy::{Row, Table};
 use std::alloc::{AllocError, Global};
 use std::test::Fail;
 

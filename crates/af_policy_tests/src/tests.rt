@@ -1,0 +1,8 @@
+mod changes;
+mod grants;
+mod openings;
+mod reads;
+mod steps;
+mod syncs;
+mod tables;
+mod versions;

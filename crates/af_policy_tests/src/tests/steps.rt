@@ -1,0 +1,152 @@
+use crate::tests::openings::{digest_of, names, user};
+use af_names::{DagId, RoleName, UserName};
+use af_policy::{Change, ChangeFault, DagAccess, Policy, RoleInput, RoleNames, UserPatch};
+use af_role::{AccessControl, AccessRow, PairText, PairTexts, Text, Texts};
+use std::alloc::Global;
+use std::test::Fail;
+
+/// A change of a policy.
+#[derive(Clone, Copy)]
+pub enum Step {
+    /// A further role with these permissions, as texts of actions and resources.
+    AddRole(&'static str, &'static [(&'static str, &'static str)]),
+    /// These permissions in place of all that a role has.
+    SetRole(&'static str, &'static [(&'static str, &'static str)]),
+    DropRole(&'static str),
+    /// A further user, with a token and roles.
+    AddUser(&'static str, &'static str, &'static [&'static str]),
+    /// Other roles of a user.
+    SetRoles(&'static str, &'static [&'static str]),
+    /// Another token of a user.
+    SetToken(&'static str, &'static str),
+    /// Another token and other roles of a user.
+    SetBoth(&'static str, &'static str, &'static [&'static str]),
+    DropUser(&'static str),
+    /// The DAG b without access control.
+    Unlisted,
+    /// The access control of the DAG b: roles and actions.
+    Sync(&'static [(&'static str, &'static [&'static str])]),
+}
+
+fn text(alloc: Global, text: &str) -> Result<Text, Fail> {
+    Ok(Text::new(String::from_str(alloc, text)?))
+}
+
+fn role(alloc: Global, name: &str, pairs: &[(&str, &str)]) -> Result<RoleInput, Fail> {
+    let mut items = Vec::new(alloc);
+    for (action, resource) in pairs {
+        let action = text(alloc, action)?;
+        let resource = text(alloc, resource)?;
+        items.push(PairText { action, resource })?;
+    }
+    Ok(RoleInput {
+        name: RoleName::parse(alloc, name)?,
+        actions: PairTexts::new(items),
+    })
+}
+
+fn patch(
+    alloc: Global,
+    name: &str,
+    token: Option<&str>,
+    roles: Option<&[&str]>,
+) -> Result<Change, Fail> {
+    let name = UserName::parse(alloc, name)?;
+    let digest = match token {
+        Some(token) => Some(digest_of(token)),
+        None => None,
+    };
+    let roles = match roles {
+        Some(roles) => Some(RoleNames::new(names(alloc, roles)?)),
+        None => None,
+    };
+    Ok(Change::SetUser(UserPatch {
+        name,
+        digest,
+        roles,
+    }))
+}
+
+fn access(alloc: Global, rows: &[(&str, &[&str])]) -> Result<AccessControl, Fail> {
+    let mut access = Vec::new(alloc);
+    for (role, actions) in rows {
+        let role = RoleName::parse(alloc, role)?;
+        let mut texts = Vec::new(alloc);
+        for action in *actions {
+            texts.push(text(alloc, action)?)?;
+        }
+        let actions = Texts::new(texts);
+        access.push(AccessRow { role, actions })?;
+    }
+    Ok(AccessControl::new(access))
+}
+
+fn sync(alloc: Global, access: Option<AccessControl>) -> Result<Change, Fail> {
+    let dag = DagId::parse(alloc, "b")?;
+    Ok(Change::SyncDag(DagAccess { dag, access }))
+}
+
+/// The change of a step.
+pub fn change_of(alloc: Global, step: Step) -> Result<Change, Fail> {
+    match step {
+        Step::AddRole(name, pairs) => Ok(Change::AddRole(role(alloc, name, pairs)?)),
+        Step::SetRole(name, pairs) => Ok(Change::SetRole(role(alloc, name, pairs)?)),
+        Step::DropRole(name) => Ok(Change::DropRole(RoleName::parse(alloc, name)?)),
+        Step::Unlisted => sync(alloc, None),
+        Step::Sync(rows) => sync(alloc, Some(access(alloc, rows)?)),
+        _ => change_of_user(alloc, step),
+    }
+}
+
+/// The change of a step about a user.
+fn change_of_user(alloc: Global, step: Step) -> Result<Change, Fail> {
+    match step {
+        Step::AddUser(name, token, roles) => Ok(Change::AddUser(user(alloc, name, token, roles)?)),
+        Step::SetRoles(name, roles) => patch(alloc, name, None, Some(roles)),
+        Step::SetToken(name, token) => patch(alloc, name, Some(token), None),
+        Step::SetBoth(name, token, roles) => patch(alloc, name, Some(token), Some(roles)),
+        Step::DropUser(name) => Ok(Change::DropUser(UserName::parse(alloc, name)?)),
+        _ => patch(alloc, "nobody", None, None),
+    }
+}
+
+/// A fault as it is told, with the text that it names.
+pub fn told(alloc: Global, fault: &ChangeFault) -> Result<String, Fail> {
+    Ok(match fault {
+        ChangeFault::BadAction(text) => {
+            let text = text.as_str();
+            format!(in alloc; "bad action: {text}")?
+        }
+        ChangeFault::PairNotAllowed(pair) => {
+            let action = pair.action.as_str();
+            let resource = pair.resource.as_str();
+            format!(in alloc; "not allowed: {resource}.{action}")?
+        }
+        ChangeFault::UnknownRole(name) => format!(in alloc; "unknown role: {name}")?,
+        _ => String::from_str(alloc, word(fault))?,
+    })
+}
+
+/// A fault that names no text.
+fn word(fault: &ChangeFault) -> &'static str {
+    match fault {
+        ChangeFault::NoSuchRole => "no such role",
+        ChangeFault::NoSuchUser => "no such user",
+        ChangeFault::DefaultRole => "default role",
+        ChangeFault::Exists => "exists",
+        ChangeFault::RoleInUse => "role in use",
+        ChangeFault::LastAdmin => "last admin",
+        ChangeFault::TooMany => "too many",
+        ChangeFault::OutOfMemory => "out of memory",
+        _ => "a text",
+    }
+}
+
+/// What is told of a step, and the policy that it leaves.
+pub fn after(alloc: Global, before: &Policy, step: Step) -> Result<(Policy, String), Fail> {
+    let change = change_of(alloc, step)?.copy(alloc)?;
+    match before.changed(alloc, &change) {
+        Ok(later) => Ok((later, String::from_str(alloc, "ok")?)),
+        Err(fault) => Ok((before.copy()?, told(alloc, &fault)?)),
+    }
+}
