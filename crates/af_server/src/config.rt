@@ -102,11 +102,7 @@ impl Configuration {
 }
 
 /// The JSON value that the bytes are the text of.
-fn parse<'a>(
-    alloc: Global,
-    bytes: &'a [u8],
-    scratch: &'a mut Scratch,
-) -> Result<Json<'a>, Reason>
+fn parse<'a>(alloc: Global, bytes: &'a [u8], scratch: &'a mut Scratch) -> Result<Json<'a>, Reason>
     ensures { OrMemory Reason.Memory (ok_or (json_of bytes.now) Reason.Syntax) (seen view result) }
 {
     json_in(alloc, bytes, scratch)?.ok_or(Reason::Syntax)

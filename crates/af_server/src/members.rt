@@ -33,10 +33,7 @@ pub fn list<'v, 'a>(row: &'v Json<'a>, name: &str) -> Result<&'v [Json<'a>], Rea
 }
 
 /// The list of a member, empty where it is absent.
-pub fn optional_list<'v, 'a>(
-    row: &'v Json<'a>,
-    name: &str,
-) -> Result<&'v [Json<'a>], Reason>
+pub fn optional_list<'v, 'a>(row: &'v Json<'a>, name: &str) -> Result<&'v [Json<'a>], Reason>
     ensures { seen (λ values. map view values.now) result ≡ optional_list_in name.now (view row.now) }
 {
     match af_base::optional_list(row, name, Reason::Shape)? {
@@ -63,7 +60,12 @@ pub fn name<K: NameKind>(alloc: Global, row: &Json<'_>, member: &str) -> Result<
 }
 
 /// The integer of a member within these limits, or this one where it is absent.
-pub fn number_or(row: &Json<'_>, name: &str, limits: (u32, u32), default: u32) -> Result<u32, Reason>
+pub fn number_or(
+    row: &Json<'_>,
+    name: &str,
+    limits: (u32, u32),
+    default: u32,
+) -> Result<u32, Reason>
     ensures { result ≡ number_in name.now limits.0 limits.1 default (view row.now) }
 {
     match member(row, name) {
