@@ -1,5 +1,6 @@
 -- An object is empty where it has no member.
-use Rattle.std.proofs.Common.{◌≡◌, ℕ, Bool, true, false, List, [], ◌∷◌, length, Ordering, Less, Equal, Greater, refl, sym, IsTrue, ◌↔◌}
+use Rattle.std.proofs.Common.{◌≡◌, ◌<◌, ◌==◌, ◌∙◌, ℕ, Bool, true, false, List, [], ◌∷◌, length, Ordering, Less, Equal, Greater, refl, sym, arith}
+use Rattle.std.proofs.lemmas.Bool.Decides.{nat_tests}
 use Rattle.std.specs.Borrow.{Bor}
 use Rattle.std.specs.Cmp.Lexicographic.{slice_cmp}
 use Rattle.std.specs.Ordering.{match_ordering, nat_cmp}
@@ -22,8 +23,11 @@ has_none-put_all : (es : List (Bor (List ℕ) × Data)) (ms : Members) → has_n
 has_none-put_all [] ms some = some
 has_none-put_all (e ∷ es) ms some = has_none-put_all es (put e.0.now e.1 ms) (has_none-put e.0.now e.1 ms)
 
-pub empty_is : (b : Bool) (ms : List (Bor (List ℕ) × Json)) → (IsTrue b ↔ (length ms ≡ 0)) → b ≡ has_none (members_view ms)
-empty_is true [] iff = refl
-empty_is false [] iff = iff.1 refl
-empty_is true (m ∷ ms) iff = cc (iff.0 refl)
-empty_is false (m ∷ ms) iff = sym (has_none-put_all (seen_members ms) (put m.0.now (view m.1) no_members) (has_none-put m.0.now (view m.1) no_members))
+above_zero : (n : ℕ) → 0 < n → (n == 0) ≡ false
+above_zero n above = grind (arith, nat_tests)
+
+pub empty_is : (b : Bool) (ms : List (Bor (List ℕ) × Json)) → b ≡ (length ms == 0) → b ≡ has_none (members_view ms)
+empty_is b [] is = is
+empty_is b (m ∷ ms) is =
+    is ∙ above_zero (length (m ∷ ms)) (omega arith)
+    ∙ sym (has_none-put_all (seen_members ms) (put m.0.now (view m.1) no_members) (has_none-put m.0.now (view m.1) no_members))
