@@ -1,16 +1,16 @@
 // Reading the members of a request's body. A member that is null counts as absent.
 ghost use Rattle.std.specs.Prelude.{◌≡◌, ⊤, Err, Ok};
-ghost use Rattle.serde_json.specs.View.{view};
+ghost use Rattle.af_base.specs.JsonValue.{view};
 ghost use Rattle.af_base.specs.Readings.{OrMemory, seen};
 ghost use Rattle.af_ops.specs.Bodies.{body_in, date_in, empty_object, instant_in, is_empty, mark_in, mark_value, optional_in, pause_in, required_in, run_id_of, trigger_in};
 
 use crate::body_fault::{BodyFault, Member};
 use crate::member_name::name_of;
 use crate::trigger::Trigger;
-use af_base::{json_in, member, required_truth};
+use af_base::{Json, json_in, member, required_truth};
 use af_names::{Instant, NameError, RunId};
 use af_runs::{Mark, RunState};
-use serde_json::Value;
+use json::Scratch;
 use std::alloc::Global;
 
 /// Reads whether a DAG is to be paused. The first fault decides: `BadBody` where the bytes are no JSON object, `BadMember`
@@ -18,7 +18,8 @@ use std::alloc::Global;
 pub fn read_pause(alloc: Global, bytes: &[u8]) -> Result<bool, BodyFault>
     ensures { OrMemory BodyFault.OutOfMemory (pause_in bytes.now) result }
 {
-    let body = body_in(alloc, bytes)?;
+    let mut scratch = Scratch::new(alloc);
+    let body = body_in(alloc, bytes, &mut scratch)?;
     let it = Member::IsPaused;
     required_truth(&body, name_of(it), BodyFault::BadMember(it))
 }
@@ -29,7 +30,8 @@ pub fn read_pause(alloc: Global, bytes: &[u8]) -> Result<bool, BodyFault>
 pub fn read_trigger(alloc: Global, bytes: &[u8]) -> Result<Trigger, BodyFault>
     ensures { OrMemory BodyFault.OutOfMemory (trigger_in bytes.now) result }
 {
-    let body = body_in(alloc, bytes)?;
+    let mut scratch = Scratch::new(alloc);
+    let body = body_in(alloc, bytes, &mut scratch)?;
     let dag_run_id = optional_run_id(alloc, &body, Member::DagRunId)?;
     let logical_date = date_in(&body)?;
     optional_empty(&body, Member::Conf)?;
@@ -44,22 +46,27 @@ pub fn read_trigger(alloc: Global, bytes: &[u8]) -> Result<Trigger, BodyFault>
 pub fn read_mark(alloc: Global, bytes: &[u8]) -> Result<Mark, BodyFault>
     ensures { OrMemory BodyFault.OutOfMemory (mark_in bytes.now) result }
 {
-    let body = body_in(alloc, bytes)?;
+    let mut scratch = Scratch::new(alloc);
+    let body = body_in(alloc, bytes, &mut scratch)?;
     required_mark(&body, Member::State)
 }
 
 /// The object that a body is.
-fn body_in(alloc: Global, bytes: &[u8]) -> Result<Value, BodyFault>
+fn body_in<'a>(
+    alloc: Global,
+    bytes: &'a [u8],
+    scratch: &'a mut Scratch,
+) -> Result<Json<'a>, BodyFault>
     ensures { OrMemory BodyFault.OutOfMemory (body_in bytes.now) (seen view result) }
 {
-    match json_in(alloc, bytes)? {
+    match json_in(alloc, bytes, scratch)? {
         Some(value) if value.is_object() => Ok(value),
         _ => Err(BodyFault::BadBody),
     }
 }
 
 /// The logical date, by its name or by its older one.
-fn date_in(body: &Value) -> Result<Option<Instant>, BodyFault>
+fn date_in(body: &Json<'_>) -> Result<Option<Instant>, BodyFault>
     ensures { result ≡ date_in (view body.now) }
 {
     match member(body, "logical_date") {
@@ -68,7 +75,7 @@ fn date_in(body: &Value) -> Result<Option<Instant>, BodyFault>
     }
 }
 
-fn optional_instant(body: &Value, it: Member) -> Result<Option<Instant>, BodyFault>
+fn optional_instant(body: &Json<'_>, it: Member) -> Result<Option<Instant>, BodyFault>
     ensures { result ≡ optional_in instant_in it (view body.now) }
 {
     let Some(value) = member(body, name_of(it)) else {
@@ -83,7 +90,7 @@ fn optional_instant(body: &Value, it: Member) -> Result<Option<Instant>, BodyFau
     }
 }
 
-fn optional_run_id(alloc: Global, body: &Value, it: Member) -> Result<Option<RunId>, BodyFault>
+fn optional_run_id(alloc: Global, body: &Json<'_>, it: Member) -> Result<Option<RunId>, BodyFault>
     ensures { OrMemory BodyFault.OutOfMemory (optional_in run_id_of it (view body.now)) result }
 {
     let Some(value) = member(body, name_of(it)) else {
@@ -100,7 +107,7 @@ fn optional_run_id(alloc: Global, body: &Value, it: Member) -> Result<Option<Run
 }
 
 /// An object without members, or nothing.
-fn optional_empty(body: &Value, it: Member) -> Result<Option<()>, BodyFault>
+fn optional_empty(body: &Json<'_>, it: Member) -> Result<Option<()>, BodyFault>
     ensures { result ≡ optional_in empty_object it (view body.now) }
 {
     let Some(value) = member(body, name_of(it)) else {
@@ -113,7 +120,7 @@ fn optional_empty(body: &Value, it: Member) -> Result<Option<()>, BodyFault>
     }
 }
 
-fn is_empty_object(value: &Value) -> bool
+fn is_empty_object(value: &Json<'_>) -> bool
     ensures { result ≡ is_empty (view value.now) }
 {
     match value.as_object() {
@@ -122,7 +129,7 @@ fn is_empty_object(value: &Value) -> bool
     }
 }
 
-fn required_mark(body: &Value, it: Member) -> Result<Mark, BodyFault>
+fn required_mark(body: &Json<'_>, it: Member) -> Result<Mark, BodyFault>
     ensures { result ≡ required_in mark_value it (view body.now) }
 {
     match member(body, name_of(it)) {
@@ -132,7 +139,7 @@ fn required_mark(body: &Value, it: Member) -> Result<Mark, BodyFault>
 }
 
 /// The mark that puts a run into the state of a text.
-fn mark_value(value: &Value) -> Option<Mark>
+fn mark_value(value: &Json<'_>) -> Option<Mark>
     ensures { result ≡ mark_value (view value.now) }
 {
     let text = value.as_str()?;

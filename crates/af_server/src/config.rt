@@ -1,7 +1,7 @@
 // The configuration: a JSON object of roles, users, pools and DAGs.
 ghost use Rattle.std.specs.Prelude.{◌≡◌, ◌≤◌, ◌<◌, length, Err, IfOk, ok_or, is_some, true};
 ghost use Rattle.serde_json.specs.Find.{as_object};
-ghost use Rattle.serde_json.specs.View.{view};
+ghost use Rattle.af_base.specs.JsonValue.{view};
 ghost use Rattle.af_policy.specs.Rows.{IsPolicy};
 ghost use Rattle.af_sched.specs.State.{AreRows};
 ghost use Rattle.af_base.specs.Parsed.{json_of};
@@ -22,11 +22,11 @@ mod upstream;
 mod users;
 
 use crate::reason::Reason;
-use af_base::json_in;
+use af_base::{Json, json_in};
 use af_policy::Policy;
 use af_sched::{Script, State};
 use draft::StateDraft;
-use serde_json::Value;
+use json::Scratch;
 use std::alloc::Global;
 use std::marker::Model;
 
@@ -67,7 +67,8 @@ impl Configuration {
         if bytes.len() > LONGEST {
             return Err(Reason::Unreadable);
         }
-        let value = parse(alloc, bytes)?;
+        let mut scratch = Scratch::new(alloc);
+        let value = parse(alloc, bytes, &mut scratch)?;
         let configuration = Configuration::of_value(alloc, &value)?;
         configuration.conditions();
         Ok(configuration)
@@ -83,7 +84,7 @@ impl Configuration {
     }
 
     /// Reads what a JSON value says. Of one that is no object the reason is told, memory or not.
-    fn of_value(alloc: Global, value: &Value) -> Result<Configuration, Reason>
+    fn of_value(alloc: Global, value: &Json<'_>) -> Result<Configuration, Reason>
         ensures read { OrMemory Reason.Memory (configuration_in (view value.now)) result }
         ensures memory { result ≡ Err Reason.Memory → is_some (as_object (view value.now)) ≡ true }
     {
@@ -101,8 +102,8 @@ impl Configuration {
 }
 
 /// The JSON value that the bytes are the text of.
-fn parse(alloc: Global, bytes: &[u8]) -> Result<Value, Reason>
+fn parse<'a>(alloc: Global, bytes: &'a [u8], scratch: &'a mut Scratch) -> Result<Json<'a>, Reason>
     ensures { OrMemory Reason.Memory (ok_or (json_of bytes.now) Reason.Syntax) (seen view result) }
 {
-    json_in(alloc, bytes)?.ok_or(Reason::Syntax)
+    json_in(alloc, bytes, scratch)?.ok_or(Reason::Syntax)
 }

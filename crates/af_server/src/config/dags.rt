@@ -1,6 +1,6 @@
 // A DAG of the configuration: how it is run, and its tasks.
 ghost use Rattle.std.specs.Prelude.{◌≡◌, []};
-ghost use Rattle.serde_json.specs.View.{view};
+ghost use Rattle.af_base.specs.JsonValue.{view};
 ghost use Rattle.af_graph.specs.Definition.{checked};
 ghost use Rattle.af_pool.specs.Pools.{ArePools};
 ghost use Rattle.af_base.specs.Readings.{OrMemory, Makes};
@@ -12,11 +12,11 @@ use super::schedules::read_schedule;
 use super::tasks::{Tasks, read_tasks};
 use crate::members::{name, number_or, optional_list, truth_or};
 use crate::reason::Reason;
+use af_base::Json;
 use af_graph::{Dag, DagSpec, Schedule, TaskSpec, TaskSpecs};
 use af_names::DagId;
 use af_pool::Pool;
 use af_sched::{DagRow, Script};
-use serde_json::Value;
 use std::alloc::Global;
 use std::marker::Model;
 
@@ -48,7 +48,7 @@ impl Model for ReadDag {
 }
 
 /// Adds the DAG of a row, and the scripts of its tasks.
-pub fn add_dag(alloc: Global, draft: &mut StateDraft, row: &Value) -> Result<(), Reason>
+pub fn add_dag(alloc: Global, draft: &mut StateDraft, row: &Json<'_>) -> Result<(), Reason>
     ensures { Makes Reason.Memory (dag_taken draft.old (view row.now)) draft.new result }
 {
     let dag = read_dag(alloc, draft.state.pools(), row)?;
@@ -65,7 +65,7 @@ fn place_dag(draft: &mut StateDraft, read: ReadDag) -> Result<(), Reason>
 }
 
 /// Reads a DAG whose tasks name these pools.
-fn read_dag(alloc: Global, pools: &[Pool], row: &Value) -> Result<ReadDag, Reason>
+fn read_dag(alloc: Global, pools: &[Pool], row: &Json<'_>) -> Result<ReadDag, Reason>
     requires { ArePools pools.now }
     ensures { OrMemory Reason.Memory (dag_in pools.now (view row.now)) result }
 {
@@ -100,7 +100,7 @@ fn graph(
 }
 
 /// Reads how a DAG is run.
-fn read_settings(row: &Value) -> Result<Settings, Reason>
+fn read_settings(row: &Json<'_>) -> Result<Settings, Reason>
     ensures { result ≡ settings_in (view row.now) }
 {
     let schedule = read_schedule(row)?;

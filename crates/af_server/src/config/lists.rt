@@ -1,6 +1,6 @@
 // The lists of a configuration: roles and users make its policy, pools and DAGs its state.
 ghost use Rattle.std.specs.Prelude.{◌≡◌, map};
-ghost use Rattle.serde_json.specs.View.{view};
+ghost use Rattle.af_base.specs.JsonValue.{view};
 ghost use Rattle.af_base.specs.Readings.{OrMemory, Makes, taking};
 ghost use Rattle.af_server.specs.declared.reason.Reason.{Reason};
 ghost use Rattle.af_server.specs.DagRows.{dag_taken};
@@ -14,12 +14,12 @@ use super::roles::read_role;
 use super::users::read_user;
 use crate::members::optional_list;
 use crate::reason::Reason;
+use af_base::Json;
 use af_policy::{FinishFault, Policy, PolicyDraft};
-use serde_json::Value;
 use std::alloc::Global;
 
 /// The policy of the roles and the users that are listed, beside the default roles.
-pub fn read_policy(alloc: Global, config: &Value) -> Result<Policy, Reason>
+pub fn read_policy(alloc: Global, config: &Json<'_>) -> Result<Policy, Reason>
     ensures { OrMemory Reason.Memory (policy_in (view config.now)) result }
 {
     let roles = optional_list(config, "roles")?;
@@ -34,7 +34,7 @@ pub fn read_policy(alloc: Global, config: &Value) -> Result<Policy, Reason>
 }
 
 /// Adds the roles of the rows.
-fn add_roles(alloc: Global, draft: &mut PolicyDraft, rows: &[Value]) -> Result<(), Reason>
+fn add_roles(alloc: Global, draft: &mut PolicyDraft, rows: &[Json<'_>]) -> Result<(), Reason>
     ensures { Makes Reason.Memory (taking role_taken draft.old (map view rows.now)) draft.new result }
 {
     for row in rows {
@@ -43,7 +43,7 @@ fn add_roles(alloc: Global, draft: &mut PolicyDraft, rows: &[Value]) -> Result<(
     Ok(())
 }
 
-fn add_role(alloc: Global, draft: &mut PolicyDraft, row: &Value) -> Result<(), Reason>
+fn add_role(alloc: Global, draft: &mut PolicyDraft, row: &Json<'_>) -> Result<(), Reason>
     ensures { Makes Reason.Memory (role_taken draft.old (view row.now)) draft.new result }
 {
     let role = read_role(alloc, row)?;
@@ -52,7 +52,7 @@ fn add_role(alloc: Global, draft: &mut PolicyDraft, row: &Value) -> Result<(), R
 }
 
 /// Adds the users of the rows.
-fn add_users(alloc: Global, draft: &mut PolicyDraft, rows: &[Value]) -> Result<(), Reason>
+fn add_users(alloc: Global, draft: &mut PolicyDraft, rows: &[Json<'_>]) -> Result<(), Reason>
     ensures { Makes Reason.Memory (taking user_taken draft.old (map view rows.now)) draft.new result }
 {
     for row in rows {
@@ -61,7 +61,7 @@ fn add_users(alloc: Global, draft: &mut PolicyDraft, rows: &[Value]) -> Result<(
     Ok(())
 }
 
-fn add_user(alloc: Global, draft: &mut PolicyDraft, row: &Value) -> Result<(), Reason>
+fn add_user(alloc: Global, draft: &mut PolicyDraft, row: &Json<'_>) -> Result<(), Reason>
     ensures { Makes Reason.Memory (user_taken draft.old (view row.now)) draft.new result }
 {
     let user = read_user(alloc, row)?;
@@ -70,7 +70,7 @@ fn add_user(alloc: Global, draft: &mut PolicyDraft, row: &Value) -> Result<(), R
 }
 
 /// The state of the pools and the DAGs that are listed, with the scripts of tasks.
-pub fn read_state(alloc: Global, config: &Value) -> Result<StateDraft, Reason>
+pub fn read_state(alloc: Global, config: &Json<'_>) -> Result<StateDraft, Reason>
     ensures { OrMemory Reason.Memory (draft_in (view config.now)) result }
 {
     let pools = optional_list(config, "pools")?;
@@ -81,7 +81,7 @@ pub fn read_state(alloc: Global, config: &Value) -> Result<StateDraft, Reason>
 }
 
 /// Adds the pools of the rows.
-fn add_pools(alloc: Global, draft: &mut StateDraft, rows: &[Value]) -> Result<(), Reason>
+fn add_pools(alloc: Global, draft: &mut StateDraft, rows: &[Json<'_>]) -> Result<(), Reason>
     ensures { Makes Reason.Memory (taking pool_taken draft.old (map view rows.now)) draft.new result }
 {
     for row in rows {
@@ -91,7 +91,7 @@ fn add_pools(alloc: Global, draft: &mut StateDraft, rows: &[Value]) -> Result<()
 }
 
 /// Adds the DAGs of the rows.
-fn add_dags(alloc: Global, draft: &mut StateDraft, rows: &[Value]) -> Result<(), Reason>
+fn add_dags(alloc: Global, draft: &mut StateDraft, rows: &[Json<'_>]) -> Result<(), Reason>
     ensures { Makes Reason.Memory (taking dag_taken draft.old (map view rows.now)) draft.new result }
 {
     for row in rows {

@@ -1,6 +1,6 @@
 // A pool of the configuration: `name` and `slots`.
 ghost use Rattle.std.specs.Prelude.{◌≡◌, Some, None};
-ghost use Rattle.serde_json.specs.View.{view};
+ghost use Rattle.af_base.specs.JsonValue.{view};
 ghost use Rattle.af_graph.specs.Graph.{same_name};
 ghost use Rattle.af_pool.specs.Pools.{default_name};
 ghost use Rattle.af_base.specs.Readings.{Makes};
@@ -10,8 +10,8 @@ ghost use Rattle.af_server.specs.PoolRows.{further_pool, placed_pool, pool_taken
 use super::draft::StateDraft;
 use crate::members::{name, number};
 use crate::reason::Reason;
+use af_base::Json;
 use af_names::PoolName;
-use serde_json::Value;
 use std::alloc::Global;
 
 /// The name of the pool that is always there.
@@ -21,7 +21,7 @@ pub const DEFAULT_POOL: &str = "default_pool";
 const SLOTS: (u32, u32) = (0, 1_000_000);
 
 /// Adds the pool of a row. The default pool may come once, and then it has these slots.
-pub fn add_pool(alloc: Global, draft: &mut StateDraft, row: &Value) -> Result<(), Reason>
+pub fn add_pool(alloc: Global, draft: &mut StateDraft, row: &Json<'_>) -> Result<(), Reason>
     ensures { Makes Reason.Memory (pool_taken draft.old (view row.now)) draft.new result }
 {
     let name: PoolName = name(alloc, row, "name")?;

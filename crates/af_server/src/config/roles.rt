@@ -1,18 +1,18 @@
 // A role of the configuration: `name`, and `actions` as the API shows them.
 ghost use Rattle.std.specs.Prelude.{◌≡◌, map};
-ghost use Rattle.serde_json.specs.View.{view};
+ghost use Rattle.af_base.specs.JsonValue.{view};
 ghost use Rattle.af_base.specs.Readings.{OrMemory, Makes, first_fault, seen};
 ghost use Rattle.af_server.specs.declared.reason.Reason.{Reason};
 ghost use Rattle.af_server.specs.Accounts.{action_in, pair_in, pair_taken, permissions_in, role_in, texts_in};
 
 use crate::members::{list, name, object, text};
 use crate::reason::Reason;
+use af_base::Json;
 use af_role::{Action, Pair, Permissions, Resource, Role};
-use serde_json::Value;
 use std::alloc::Global;
 
 /// Reads a role: its members first, then the first action that is none, then the first pair that may not stand.
-pub fn read_role(alloc: Global, row: &Value) -> Result<Role, Reason>
+pub fn read_role(alloc: Global, row: &Json<'_>) -> Result<Role, Reason>
     ensures { OrMemory Reason.Memory (role_in (view row.now)) result }
 {
     let name = name(alloc, row, "name")?;
@@ -24,7 +24,7 @@ pub fn read_role(alloc: Global, row: &Value) -> Result<Role, Reason>
 }
 
 /// Whether each item has its texts; the reason of the first that has not.
-fn test_texts(items: &[Value]) -> Result<(), Reason>
+fn test_texts(items: &[Json<'_>]) -> Result<(), Reason>
     ensures { result ≡ first_fault texts_in (map view items.now) }
 {
     for item in items {
@@ -34,7 +34,7 @@ fn test_texts(items: &[Value]) -> Result<(), Reason>
 }
 
 /// Whether each item names an action; the reason of the first that does not.
-fn test_actions(items: &[Value]) -> Result<(), Reason>
+fn test_actions(items: &[Json<'_>]) -> Result<(), Reason>
     ensures { result ≡ first_fault action_in (map view items.now) }
 {
     for item in items {
@@ -44,7 +44,7 @@ fn test_actions(items: &[Value]) -> Result<(), Reason>
 }
 
 /// The permissions of the items, each once.
-fn read_pairs(alloc: Global, items: &[Value]) -> Result<Permissions, Reason>
+fn read_pairs(alloc: Global, items: &[Json<'_>]) -> Result<Permissions, Reason>
     ensures { OrMemory Reason.Memory (permissions_in (map view items.now)) result }
 {
     let mut permissions = Permissions::new(alloc);
@@ -54,7 +54,7 @@ fn read_pairs(alloc: Global, items: &[Value]) -> Result<Permissions, Reason>
     Ok(permissions)
 }
 
-fn add_pair(alloc: Global, permissions: &mut Permissions, item: &Value) -> Result<(), Reason>
+fn add_pair(alloc: Global, permissions: &mut Permissions, item: &Json<'_>) -> Result<(), Reason>
     ensures { Makes Reason.Memory (pair_taken permissions.old (view item.now)) permissions.new result }
 {
     let pair = read_pair(alloc, item)?;
@@ -63,7 +63,7 @@ fn add_pair(alloc: Global, permissions: &mut Permissions, item: &Value) -> Resul
 }
 
 /// The texts of an action and of a resource, as in `{"action":{"name":..},"resource":{"name":..}}`.
-fn read_texts(item: &Value) -> Result<(&str, &str), Reason>
+fn read_texts<'a>(item: &Json<'a>) -> Result<(&'a str, &'a str), Reason>
     ensures { seen (λ texts. (texts.0.now, texts.1.now)) result ≡ texts_in (view item.now) }
 {
     let action = text(object(item, "action")?, "name")?;
@@ -71,14 +71,14 @@ fn read_texts(item: &Value) -> Result<(&str, &str), Reason>
     Ok((action, resource))
 }
 
-fn read_action(item: &Value) -> Result<Action, Reason>
+fn read_action(item: &Json<'_>) -> Result<Action, Reason>
     ensures { result ≡ action_in (view item.now) }
 {
     let (action, _) = read_texts(item)?;
     Action::read(action).ok_or(Reason::Action)
 }
 
-fn read_pair(alloc: Global, item: &Value) -> Result<Pair, Reason>
+fn read_pair(alloc: Global, item: &Json<'_>) -> Result<Pair, Reason>
     ensures { OrMemory Reason.Memory (pair_in (view item.now)) result }
 {
     let (_, resource) = read_texts(item)?;

@@ -1,15 +1,15 @@
 // The script of a task of the configuration: how its tries end.
 ghost use Rattle.std.specs.Prelude.{◌≡◌, map, []};
-ghost use Rattle.serde_json.specs.View.{view};
+ghost use Rattle.af_base.specs.JsonValue.{view};
 ghost use Rattle.af_base.specs.Readings.{OrMemory, Makes, seen, taking};
 ghost use Rattle.af_server.specs.declared.reason.Reason.{Reason};
 ghost use Rattle.af_server.specs.Tasks.{outcome_of, outcome_taken, script_taken};
 
 use super::upstream::text_of;
 use crate::reason::Reason;
+use af_base::Json;
 use af_names::{DagId, TaskId};
 use af_sched::{Outcome, Script};
-use serde_json::Value;
 use std::alloc::Global;
 
 /// Adds the script of a task, where its row has one.
@@ -18,7 +18,7 @@ pub fn add_script(
     dag_id: &DagId,
     task_id: &TaskId,
     scripts: &mut Vec<Script>,
-    row: &Value,
+    row: &Json<'_>,
 ) -> Result<(), Reason>
     ensures { Makes Reason.Memory (script_taken dag_id.now task_id.now scripts.old.items (view row.now)) scripts.new.items result }
 {
@@ -33,7 +33,7 @@ pub fn add_script(
     }
 }
 
-fn read_outcomes(alloc: Global, values: &[Value]) -> Result<Vec<Outcome>, Reason>
+fn read_outcomes(alloc: Global, values: &[Json<'_>]) -> Result<Vec<Outcome>, Reason>
     ensures { OrMemory Reason.Memory (taking outcome_taken [] (map view values.now)) (seen (λ outcomes. outcomes.items) result) }
 {
     let mut outcomes = Vec::with_capacity(alloc, values.len())?;
@@ -43,7 +43,7 @@ fn read_outcomes(alloc: Global, values: &[Value]) -> Result<Vec<Outcome>, Reason
     Ok(outcomes)
 }
 
-fn add_outcome(outcomes: &mut Vec<Outcome>, value: &Value) -> Result<(), Reason>
+fn add_outcome(outcomes: &mut Vec<Outcome>, value: &Json<'_>) -> Result<(), Reason>
     ensures { Makes Reason.Memory (outcome_taken outcomes.old.items (view value.now)) outcomes.new.items result }
 {
     let outcome = outcome_of(text_of(value)?).ok_or(Reason::Shape)?;

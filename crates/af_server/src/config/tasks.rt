@@ -1,6 +1,6 @@
 // The tasks of a DAG of the configuration, with the scripts of those that have one.
 ghost use Rattle.std.specs.Prelude.{◌≡◌, map, codes};
-ghost use Rattle.serde_json.specs.View.{view};
+ghost use Rattle.af_base.specs.JsonValue.{view};
 ghost use Rattle.serde_json.specs.Find.{as_number};
 ghost use Rattle.af_pool.specs.Pools.{ArePools};
 ghost use Rattle.af_base.specs.Readings.{OrMemory, Makes, member_of, seen};
@@ -13,12 +13,11 @@ use super::scripts::add_script;
 use super::upstream::read_upstream;
 use crate::members::{name, number_or, optional_list, signed_or};
 use crate::reason::Reason;
-use af_base::{is_there, member, optional_text};
+use af_base::{Json, is_there, member, optional_text};
 use af_graph::TaskSpec;
 use af_names::{DagId, PoolName};
 use af_pool::Pool;
 use af_sched::Script;
-use serde_json::Value;
 use std::alloc::Global;
 use std::marker::Model;
 
@@ -57,7 +56,7 @@ pub fn read_tasks(
     alloc: Global,
     pools: &[Pool],
     dag_id: &DagId,
-    rows: &[Value],
+    rows: &[Json<'_>],
 ) -> Result<Tasks, Reason>
     requires { ArePools pools.now }
     ensures { OrMemory Reason.Memory (tasks_in pools.now dag_id.now (map view rows.now)) result }
@@ -77,7 +76,7 @@ fn add_task(
     pools: &[Pool],
     dag_id: &DagId,
     read: &mut Tasks,
-    row: &Value,
+    row: &Json<'_>,
 ) -> Result<(), Reason>
     requires { ArePools pools.now }
     ensures { Makes Reason.Memory (task_taken pools.now dag_id.now read.old (view row.now)) read.new result }
@@ -89,7 +88,7 @@ fn add_task(
 }
 
 /// Reads a task.
-fn read_task(alloc: Global, pools: &[Pool], row: &Value) -> Result<TaskSpec, Reason>
+fn read_task(alloc: Global, pools: &[Pool], row: &Json<'_>) -> Result<TaskSpec, Reason>
     requires { ArePools pools.now }
     ensures { OrMemory Reason.Memory (task_in pools.now (view row.now)) result }
 {
@@ -111,7 +110,7 @@ fn read_task(alloc: Global, pools: &[Pool], row: &Value) -> Result<TaskSpec, Rea
 }
 
 /// The pool that a task names, which is one of these; the default one where it names none.
-fn read_pool(alloc: Global, pools: &[Pool], row: &Value) -> Result<PoolName, Reason>
+fn read_pool(alloc: Global, pools: &[Pool], row: &Json<'_>) -> Result<PoolName, Reason>
     requires { ArePools pools.now }
     ensures { OrMemory Reason.Memory (task_pool_in pools.now (view row.now)) result }
 {
@@ -124,7 +123,7 @@ fn read_pool(alloc: Global, pools: &[Pool], row: &Value) -> Result<PoolName, Rea
     }
 }
 
-fn pool_text(row: &Value) -> Result<&str, Reason>
+fn pool_text<'a>(row: &Json<'a>) -> Result<&'a str, Reason>
     ensures { seen (λ text. text.now) result ≡ pool_text_in (view row.now) }
 {
     match optional_text(row, "pool", Reason::Shape)? {
@@ -134,7 +133,7 @@ fn pool_text(row: &Value) -> Result<&str, Reason>
 }
 
 /// Reads the numbers of a task.
-fn read_numbers(row: &Value) -> Result<Numbers, Reason>
+fn read_numbers(row: &Json<'_>) -> Result<Numbers, Reason>
     ensures { result ≡ numbers_in (view row.now) }
 {
     let pool_slots = slots_or_one(row)?;
@@ -149,7 +148,7 @@ fn read_numbers(row: &Value) -> Result<Numbers, Reason>
     })
 }
 
-fn slots_or_one(row: &Value) -> Result<u64, Reason>
+fn slots_or_one(row: &Json<'_>) -> Result<u64, Reason>
     ensures { result ≡ slots_or (member_of (codes "pool_slots") (view row.now)) }
 {
     match member(row, "pool_slots") {
@@ -159,7 +158,7 @@ fn slots_or_one(row: &Value) -> Result<u64, Reason>
 }
 
 /// An integer of 64 bits, one below 0 taken as 0.
-fn slots_of(value: &Value) -> Result<u64, Reason>
+fn slots_of(value: &Json<'_>) -> Result<u64, Reason>
     ensures { result ≡ slots_of (as_number (view value.now)) }
 {
     match value.as_u64() {

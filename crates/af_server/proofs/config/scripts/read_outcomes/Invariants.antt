@@ -1,5 +1,5 @@
 use Rattle.std.proofs.Common.{◌≡◌, drop, map, []}
-use Rattle.serde_json.specs.View.{view}
+use Rattle.af_base.specs.JsonValue.{view}
 use Rattle.af_base.specs.Readings.{taking}
 use Rattle.af_server.specs.Tasks.{outcome_taken}
 use Rattle.af_server.proofs.config.scripts.read_outcomes.Given as goal

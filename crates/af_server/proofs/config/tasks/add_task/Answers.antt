@@ -1,6 +1,6 @@
 use Rattle.std.proofs.Common.{◌≡◌, ◌∙◌, ◌∷◌, ◌++◌, [], ℕ, List, Result, Ok, ap, sym}
 use Rattle.serde_json.specs.Data.{Data}
-use Rattle.serde_json.specs.View.{view}
+use Rattle.af_base.specs.JsonValue.{view}
 use Rattle.af_graph.specs.declared.task_spec.TaskSpec.{TaskSpec}
 use Rattle.af_pool.specs.declared.pool.Pool.{Pool}
 use Rattle.af_sched.specs.Scripts.{ScriptRow}

@@ -1,5 +1,5 @@
 use Rattle.std.proofs.Common.{◌≡◌, drop, map}
-use Rattle.serde_json.specs.View.{view}
+use Rattle.af_base.specs.JsonValue.{view}
 use Rattle.af_base.specs.Readings.{taking, tested}
 use Rattle.af_server.specs.Tasks.{text_of}
 use Rattle.af_server.proofs.config.upstream.test_texts.Given as goal
