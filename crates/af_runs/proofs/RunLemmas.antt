@@ -143,6 +143,24 @@ AreRuns-push runs next new first no_fault are =
       bounded = λ dag_id. bounded_push runs run dag_id (are.bounded dag_id) (Lt-from_not_le (length (runs_of runs new.dag_id)) (or_left (nat_le 65_536 (length (runs_of runs new.dag_id))) (nat_le (2 ^ 64) next) parts.2));
     }
 
+-- a DAG has at most as many runs as there are
+few_of : (p : Run → Bool) (runs : List Run) → length (filter p runs) ≤ length runs
+few_of p [] = omega arith
+few_of p (run ∷ runs) =
+    let rest = few_of p runs in
+    ⊎_elim
+    (λ (is : p run ≡ true). rw is (omega (arith, rest)))
+    (λ (no : p run ≡ false). rw no (omega (arith, rest)))
+    (cases_Bool (p run))
+
+few_is : (n : ℕ) → n < 65_536 → false ≡ nat_le 65_536 n
+few_is n few = sym (grind (arith, nat_tests))
+
+pub few_together : (before added : List Run) (dag_id : List ℕ) → length (runs_of before dag_id) ≤ 65_536 → length added < 65_536 - length (runs_of before dag_id) → false ≡ nat_le 65_536 (length (runs_of (before ++ added) dag_id))
+few_together before added dag_id most few =
+    let own = few_of (is_of dag_id) added in
+    few_is (length (runs_of (before ++ added) dag_id)) (omega (arith, count-append before added dag_id, own, most, few))
+
 any_after : {X : Type 0} (p : X → Bool) (xs ys : List X) → list_any p (xs ++ ys) ≡ false → list_any p ys ≡ false
 any_after p [] ys none = none
 any_after p (x ∷ xs) ys none = any_after p xs ys (or_right (p x) (list_any p (xs ++ ys)) none)
