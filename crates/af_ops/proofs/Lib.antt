@@ -1,4 +1,5 @@
 mod BodyLemmas
+mod ChangeLemmas
 mod DecisionLemmas
 mod EditLemmas
 mod LawLemmas
