@@ -1,6 +1,6 @@
 -- What is decided of an operation that is permitted.
 use Rattle.std.proofs.Common.{◌≡◌, ◌⊎◌, inl, inr, ℕ, Bool, true, false, List, refl, ap, sym, subst}
-use Rattle.std.specs.Prelude.{Option, Some, None, Result, Ok, Err, IsOk, is_some, nat_lt}
+use Rattle.std.specs.Prelude.{Option, Some, None, Result, Ok, Err, IsOk, is_some, nat_lt, if◌then◌else◌}
 use Rattle.af_sched.specs.State.{StateRows}
 use Rattle.af_ops.specs.declared.answer.CallFault.{CallFault}
 use Rattle.af_ops.specs.declared.answer.CallFault.TheVariants as why
@@ -64,6 +64,11 @@ module _ (under : Under) (state : StateRows) where
       let unread : fault ≡ OutOfMemory → true ≡ false = subst (λ (e : Result Effect OpFault). ChangesWhereDone e true) is changes in
       cc (unread want)
   full_wanted effect fault full want changes (inr wants) = inl (full_done effect full changes wants.0)
+
+  -- memory is wanted, and there is no room for one more entry
+  pub none_wanted : (changes : Bool) (effect : Result Effect OpFault) (fault : OpFault) → nat_lt under.seq history_limit ≡ false → fault ≡ OutOfMemory → ChangesWhereDone effect changes → MemoryLast OutOfMemory effect (Err fault) → IsDecided state (done under effect) (Err (why.Op (if changes then HistoryFull else fault)))
+  none_wanted true effect fault full want changes told = full_wanted effect fault full want changes told
+  none_wanted false effect fault full want changes told = kept_wanted effect fault changes told
 
 none_some : {X : Type 0} {x : X} → None ≡ Some x → ⊥
 none_some same = cc

@@ -1,5 +1,4 @@
 mod BodyLemmas
-mod ChangeLemmas
 mod DecisionLemmas
 mod EditLemmas
 mod LawLemmas

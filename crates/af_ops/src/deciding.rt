@@ -1,9 +1,9 @@
-ghost use Rattle.std.specs.Prelude.{◌≡◌, ◌<◌, ◌↔◌, ℕ, List, Bool, true, Err, IfOk, Ok};
+ghost use Rattle.std.specs.Prelude.{◌≡◌, ◌<◌, ◌↔◌, ℕ, List, Bool, true, Err, IfOk, Ok, if◌then◌else◌};
 ghost use Rattle.std.specs.Option.{option_copied};
 ghost use Rattle.af_policy.specs.Identity.{bearer_of};
 ghost use Rattle.af_policy.specs.Views.{held};
 ghost use Rattle.af_ops.specs.declared.answer.CallFault.{CallFault};
-ghost use Rattle.af_ops.specs.declared.answer.OpFault.TheVariants.{OutOfMemory};
+ghost use Rattle.af_ops.specs.declared.answer.OpFault.TheVariants.{HistoryFull, OutOfMemory};
 ghost use Rattle.af_ops.specs.Decisions.{ChangesWhereDone, IsDecided};
 ghost use Rattle.af_ops.specs.Edits.{is_edit};
 ghost use Rattle.af_ops.specs.Prepared.{CanDo, IsExact, MemoryLast};
@@ -95,31 +95,32 @@ fn permitted<R: Reader>(
             }
             Ok(prepared)
         }
-        Err(fault) => Err(CallFault::Op(full_or(state, under, op, fault))),
+        Err(fault) => {
+            if is_full(state, under, op, &fault) {
+                return Err(CallFault::Op(OpFault::HistoryFull));
+            }
+            Err(CallFault::Op(fault))
+        }
     }
 }
 
-/// The fault that is told: want of memory, but that a change for whose entry there is no room is refused as such, memory or not.
-fn full_or(state: &State, under: Under, op: &Op, fault: OpFault) -> OpFault
-    ensures { (reads : List ℕ → Bool) (now : ℕ) → MemoryLast OutOfMemory (effect_of reads state.now.rows op.now now) (Err fault)
-        → IsDecided state.now.rows (done under (effect_of reads state.now.rows op.now now)) (Err (CallFault.Op result)) }
+/// Whether a fault is told as a full history: it is want of memory for a change, for whose entry there is no room, memory or not.
+fn is_full(state: &State, under: Under, op: &Op, fault: &OpFault) -> bool
+    ensures { (reads : List ℕ → Bool) (now : ℕ) → MemoryLast OutOfMemory (effect_of reads state.now.rows op.now now) (Err fault.now)
+        → IsDecided state.now.rows (done under (effect_of reads state.now.rows op.now now)) (Err (CallFault.Op (if result then HistoryFull else fault.now))) }
 {
     if !is_want(fault) {
-        return fault;
+        return false;
     }
     if under.seq < MOST_ENTRIES {
-        return fault;
+        return false;
     }
-    if would_change(state, op) {
-        OpFault::HistoryFull
-    } else {
-        fault
-    }
+    would_change(state, op)
 }
 
 /// Whether it is want of memory.
-fn is_want(fault: OpFault) -> bool
-    ensures { (result ≡ true) ↔ (fault ≡ OutOfMemory) }
+fn is_want(fault: &OpFault) -> bool
+    ensures { (result ≡ true) ↔ (fault.now ≡ OutOfMemory) }
 {
     matches!(fault, OpFault::OutOfMemory)
 }
