@@ -1,6 +1,6 @@
 -- What is decided of an operation that is permitted.
 use Rattle.std.proofs.Common.{◌≡◌, ◌⊎◌, inl, inr, ℕ, Bool, true, false, List, refl, ap, sym, subst}
-use Rattle.std.specs.Prelude.{Option, Some, None, Result, Ok, Err, IsOk, nat_lt, if◌then◌else◌}
+use Rattle.std.specs.Prelude.{Option, Some, None, Result, Ok, Err, IsOk, is_some, nat_lt, if◌then◌else◌}
 use Rattle.af_sched.specs.State.{StateRows}
 use Rattle.af_ops.specs.declared.answer.CallFault.{CallFault}
 use Rattle.af_ops.specs.declared.answer.CallFault.TheVariants as why
@@ -10,28 +10,65 @@ use Rattle.af_ops.specs.declared.answer.Under.{Under}
 use Rattle.af_ops.specs.declared.op.Op.{Op}
 use Rattle.af_ops.specs.declared.served.Served.{Served}
 use Rattle.af_ops.specs.declared.served.Served.TheVariants as served
-use Rattle.af_ops.specs.Decisions.{IsDecided, IsDoing, fault_verdict}
+use Rattle.af_ops.specs.Decisions.{ChangesWhereDone, IsDecided, IsDoing, fault_verdict}
 use Rattle.af_ops.specs.Effects.{Effect}
+use Rattle.af_ops.specs.Prepared.{MemoryLast}
 use Rattle.af_ops.specs.Served.{IsServed}
 use Rattle.af_ops.specs.Standings.{StandingRows, history_limit}
-use Rattle.af_ops.specs.Verdicts.{Verdict, Refuses, Changes, done, opened, recorded}
+use Rattle.af_ops.specs.Verdicts.{Verdict, Refuses, done, opened, recorded}
 
-changing : (b : Bool) (reply : List ℕ) (next : StateRows) → IsDoing (if b then Changes reply next else Refuses HistoryFull)
-changing true reply next = tt
-changing false reply next = refl
+-- what is said of an operation that is not refused, where memory is wanted for it, or that it is refused
+module _ (under : Under) (state : StateRows) where
+  -- its own fault, which is no want of memory
+  pub own_fault : (effect : Result Effect OpFault) (fault : OpFault) → (fault ≡ OutOfMemory → ⊥) → MemoryLast OutOfMemory effect (Err fault) → IsDecided state (done under effect) (Err (why.Op fault))
+  own_fault effect fault other (inl is) = inl (ap (done under) is)
+  own_fault effect fault other (inr wants) = absurd (other wants.1)
 
-doing : (under : Under) (reply : List ℕ) (next : Option StateRows) → IsDoing (recorded under reply next)
-doing under reply None = tt
-doing under reply (Some next) = changing (nat_lt under.seq history_limit) reply next
+  with_room : (reply : List ℕ) (next : Option StateRows) → nat_lt under.seq history_limit ≡ true → IsDoing (recorded under reply next)
+  with_room reply None room = tt
+  with_room reply (Some next) room = rw room tt
 
-done_doing : (under : Under) (effect : Result Effect OpFault) → IsOk effect → IsDoing (done under effect)
-done_doing under (Ok effect) ok = doing under effect.reply effect.next
-done_doing under (Err fault) ok = cc
+  room_doing : (effect : Result Effect OpFault) → IsOk effect → nat_lt under.seq history_limit ≡ true → IsDoing (done under effect)
+  room_doing (Ok it) ok room = with_room it.reply it.next room
+  room_doing (Err fault) ok room = cc
 
--- a fault, or want of memory
-pub decided_fault : (under : Under) (state : StateRows) (effect : Result Effect OpFault) (fault : OpFault) → (effect ≡ Err fault) ⊎ (IsOk effect × (fault ≡ OutOfMemory)) → IsDecided state (done under effect) (Err (why.Op fault))
-decided_fault under state effect fault (inl is) = inl (ap (done under) is)
-decided_fault under state effect fault (inr wants) = inr (done_doing under effect wants.0, ap (λ (f : OpFault). why.Op f) wants.1)
+  -- there is room for one more entry
+  pub room_wanted : (effect : Result Effect OpFault) (fault : OpFault) → nat_lt under.seq history_limit ≡ true → MemoryLast OutOfMemory effect (Err fault) → IsDecided state (done under effect) (Err (why.Op fault))
+  room_wanted effect fault room (inl is) = inl (ap (done under) is)
+  room_wanted effect fault room (inr wants) = inr (room_doing effect wants.0 room, ap (λ (f : OpFault). why.Op f) wants.1)
+
+  kept_doing : (reply : List ℕ) (next : Option StateRows) → is_some next ≡ false → IsDoing (recorded under reply next)
+  kept_doing reply None none = tt
+  kept_doing reply (Some next) none = cc
+
+  reading_doing : (effect : Result Effect OpFault) → IsOk effect → ChangesWhereDone effect false → IsDoing (done under effect)
+  reading_doing (Ok it) ok keeps = kept_doing it.reply it.next keeps
+  reading_doing (Err fault) ok keeps = cc
+
+  -- it leaves the state
+  pub kept_wanted : (effect : Result Effect OpFault) (fault : OpFault) → ChangesWhereDone effect false → MemoryLast OutOfMemory effect (Err fault) → IsDecided state (done under effect) (Err (why.Op fault))
+  kept_wanted effect fault keeps (inl is) = inl (ap (done under) is)
+  kept_wanted effect fault keeps (inr wants) = inr (reading_doing effect wants.0 keeps, ap (λ (f : OpFault). why.Op f) wants.1)
+
+  full_next : (reply : List ℕ) (next : Option StateRows) → nat_lt under.seq history_limit ≡ false → is_some next ≡ true → recorded under reply next ≡ Refuses HistoryFull
+  full_next reply None full changes = cc
+  full_next reply (Some next) full changes = rw full refl
+
+  full_done : (effect : Result Effect OpFault) → nat_lt under.seq history_limit ≡ false → ChangesWhereDone effect true → IsOk effect → done under effect ≡ Refuses HistoryFull
+  full_done (Ok it) full changes ok = full_next it.reply it.next full changes
+  full_done (Err fault) full changes ok = cc
+
+  -- it changes the state, and there is no room for its entry
+  pub full_wanted : (effect : Result Effect OpFault) (fault : OpFault) → nat_lt under.seq history_limit ≡ false → fault ≡ OutOfMemory → ChangesWhereDone effect true → MemoryLast OutOfMemory effect (Err fault) → IsDecided state (done under effect) (Err (why.Op HistoryFull))
+  full_wanted effect fault full want changes (inl is) =
+      let unread : fault ≡ OutOfMemory → true ≡ false = subst (λ (e : Result Effect OpFault). ChangesWhereDone e true) is changes in
+      cc (unread want)
+  full_wanted effect fault full want changes (inr wants) = inl (full_done effect full changes wants.0)
+
+  -- memory is wanted, and there is no room for one more entry
+  pub none_wanted : (changes : Bool) (effect : Result Effect OpFault) (fault : OpFault) → nat_lt under.seq history_limit ≡ false → fault ≡ OutOfMemory → ChangesWhereDone effect changes → MemoryLast OutOfMemory effect (Err fault) → IsDecided state (done under effect) (Err (why.Op (if changes then HistoryFull else fault)))
+  none_wanted true effect fault full want changes told = full_wanted effect fault full want changes told
+  none_wanted false effect fault full want changes told = kept_wanted effect fault changes told
 
 none_some : {X : Type 0} {x : X} → None ≡ Some x → ⊥
 none_some same = cc

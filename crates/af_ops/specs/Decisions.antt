@@ -1,10 +1,12 @@
 -- A verdict whose operation is worked out and not yet done.
-use Rattle.std.specs.Prelude.{◌≡◌, ◌⊎◌, List, ℕ, Option, Some, None, Result, Ok, Err, ⊤}
+use Rattle.std.specs.Prelude.{◌≡◌, ◌⊎◌, List, ℕ, Bool, false, is_some, Option, Some, None, Result, Ok, Err, ⊤}
 use Rattle.af_sched.specs.State.{StateRows}
 use Rattle.af_ops.specs.declared.answer.CallFault.{CallFault}
 use Rattle.af_ops.specs.declared.answer.CallFault.TheVariants as why
-use Rattle.af_ops.specs.declared.answer.OpFault.TheVariants.{HistoryFull, OutOfMemory}
+use Rattle.af_ops.specs.declared.answer.OpFault.{OpFault}
+use Rattle.af_ops.specs.declared.answer.OpFault.TheVariants.{OutOfMemory}
 use Rattle.af_ops.specs.Edits.{next_by}
+use Rattle.af_ops.specs.Effects.{Effect}
 use Rattle.af_ops.specs.Prepared.{Preparation}
 use Rattle.af_ops.specs.Verdicts.{Verdict, Open, Stranger, Lacks, Refuses, Tells, Changes}
 
@@ -21,12 +23,17 @@ fault_verdict why.Unauthenticated = Stranger
 fault_verdict (why.Denied need) = Lacks need
 fault_verdict (why.Op fault) = Refuses fault
 
+-- whether an operation changes the state, where it is not refused; one whose body was not read changes nothing
+abbrev pub ChangesWhereDone : Result Effect OpFault → Bool → Type 0
+ChangesWhereDone (Ok effect) changes = is_some effect.next ≡ changes
+ChangesWhereDone (Err fault) changes = fault ≡ OutOfMemory → changes ≡ false
+
 -- an operation that is permitted and not refused: only there memory may be wanted
 abbrev pub IsDoing : Verdict → Type 0
 IsDoing (Open reply) = ⊤
 IsDoing Stranger = ⊥
 IsDoing (Lacks need) = ⊥
-IsDoing (Refuses fault) = fault ≡ HistoryFull
+IsDoing (Refuses fault) = ⊥
 IsDoing (Tells reply) = ⊤
 IsDoing (Changes reply next) = ⊤
 

@@ -1,21 +1,25 @@
-ghost use Rattle.std.specs.Prelude.{◌≡◌, ◌<◌, true, IfOk};
+ghost use Rattle.std.specs.Prelude.{◌≡◌, ◌<◌, ◌↔◌, ℕ, List, Bool, true, Err, IfOk, Ok, if◌then◌else◌};
 ghost use Rattle.std.specs.Option.{option_copied};
 ghost use Rattle.af_policy.specs.Identity.{bearer_of};
 ghost use Rattle.af_policy.specs.Views.{held};
-ghost use Rattle.af_ops.specs.Decisions.{IsDecided};
+ghost use Rattle.af_ops.specs.declared.answer.CallFault.{CallFault};
+ghost use Rattle.af_ops.specs.declared.answer.OpFault.TheVariants.{HistoryFull, OutOfMemory};
+ghost use Rattle.af_ops.specs.Decisions.{ChangesWhereDone, IsDecided};
 ghost use Rattle.af_ops.specs.Edits.{is_edit};
-ghost use Rattle.af_ops.specs.Prepared.{CanDo, IsExact};
+ghost use Rattle.af_ops.specs.Prepared.{CanDo, IsExact, MemoryLast};
 ghost use Rattle.af_ops.specs.Standings.{history_limit};
 ghost use Rattle.af_ops.specs.Verdicts.{done, granted_verdict, judged};
-ghost use Rattle.af_ops.specs.Effects.{effect_of};
+ghost use Rattle.af_ops.specs.Effects.{effect_of, paused_dag, run_marked};
 
 use crate::answer::{CallFault, OpFault, Under};
 use crate::op::Op;
+use crate::operations::dags::differs;
 use crate::prepared::Prepared;
 use crate::preparing::prepare;
 use crate::table::needs_for;
-use af_names::Instant;
+use af_names::{DagId, Instant, RunId};
 use af_policy::{Policy, PolicyView, Reader};
+use af_runs::Mark;
 use af_sched::State;
 use std::alloc::Global;
 
@@ -91,6 +95,72 @@ fn permitted<R: Reader>(
             }
             Ok(prepared)
         }
-        Err(fault) => Err(CallFault::Op(fault)),
+        Err(fault) => {
+            if is_full(state, under, op, &fault) {
+                return Err(CallFault::Op(OpFault::HistoryFull));
+            }
+            Err(CallFault::Op(fault))
+        }
+    }
+}
+
+/// Whether a fault is told as a full history: it is want of memory for a change, for whose entry there is no room, memory or not.
+fn is_full(state: &State, under: Under, op: &Op, fault: &OpFault) -> bool
+    ensures { (reads : List ℕ → Bool) (now : ℕ) → MemoryLast OutOfMemory (effect_of reads state.now.rows op.now now) (Err fault.now)
+        → IsDecided state.now.rows (done under (effect_of reads state.now.rows op.now now)) (Err (CallFault.Op (if result then HistoryFull else fault.now))) }
+{
+    if !is_want(fault) {
+        return false;
+    }
+    if under.seq < MOST_ENTRIES {
+        return false;
+    }
+    would_change(state, op)
+}
+
+/// Whether it is want of memory.
+fn is_want(fault: &OpFault) -> bool
+    ensures { (result ≡ true) ↔ (fault.now ≡ OutOfMemory) }
+{
+    matches!(fault, OpFault::OutOfMemory)
+}
+
+/// Whether an operation changes the state, where it is not refused. It takes no memory to tell.
+fn would_change(state: &State, op: &Op) -> bool
+    ensures { (reads : List ℕ → Bool) (now : ℕ) → ChangesWhereDone (effect_of reads state.now.rows op.now now) result }
+{
+    match op {
+        Op::PauseDag(dag_id, Ok(is_paused)) => would_pause(state, dag_id, *is_paused),
+        Op::TriggerRun(_, Ok(_)) => true,
+        Op::MarkRun(dag_id, run_id, Ok(mark)) => would_mark(state, dag_id, run_id, *mark),
+        Op::PauseDag(_, Err(_)) | Op::TriggerRun(_, Err(_)) | Op::MarkRun(_, _, Err(_)) => false,
+        Op::Version
+        | Op::ListDags
+        | Op::GetDag(_)
+        | Op::ListTasks(_)
+        | Op::ListRuns(_)
+        | Op::GetRun(_, _)
+        | Op::ListInstances(_, _)
+        | Op::GetInstance(_, _, _) => false,
+    }
+}
+
+/// Whether a DAG is to stand otherwise than it does, where it is there.
+fn would_pause(state: &State, dag_id: &DagId, is_paused: bool) -> bool
+    ensures { ChangesWhereDone (paused_dag state.now.rows dag_id.now (Ok is_paused)) result }
+{
+    match state.dag(dag_id) {
+        Some(row) => differs(row, is_paused),
+        None => false,
+    }
+}
+
+/// Whether a run is not yet marked so, where it is there.
+fn would_mark(state: &State, dag_id: &DagId, run_id: &RunId, mark: Mark) -> bool
+    ensures { (now : ℕ) → ChangesWhereDone (run_marked state.now.rows dag_id.now run_id.now (Ok mark) now) result }
+{
+    match state.run(dag_id, run_id) {
+        Some(run) => !run.is_marked(mark),
+        None => false,
     }
 }

@@ -1,5 +1,6 @@
 // Reading the members of a row of the configuration, with the reason of one that is missing or of another kind.
-ghost use Rattle.std.specs.Prelude.{◌≡◌, map};
+ghost use Rattle.std.specs.Prelude.{◌≡◌, [], map};
+ghost use Rattle.std.specs.Option.{option_map_or};
 ghost use Rattle.serde_json.specs.Find.{as_number};
 ghost use Rattle.af_base.specs.JsonValue.{view};
 ghost use Rattle.af_base.specs.Readings.{OrMemory, seen};
@@ -36,9 +37,17 @@ pub fn list<'v, 'a>(row: &'v Json<'a>, name: &str) -> Result<&'v [Json<'a>], Rea
 pub fn optional_list<'v, 'a>(row: &'v Json<'a>, name: &str) -> Result<&'v [Json<'a>], Reason>
     ensures { seen (λ values. map view values.now) result ≡ optional_list_in name.now (view row.now) }
 {
-    match af_base::optional_list(row, name, Reason::Shape)? {
-        Some(values) => Ok(values),
-        None => Ok(&[]),
+    let values = af_base::optional_list(row, name, Reason::Shape)?;
+    Ok(or_empty(values))
+}
+
+/// These values, or none.
+fn or_empty<'v, 'a>(values: Option<&'v [Json<'a>]>) -> &'v [Json<'a>]
+    ensures { map view result.now ≡ option_map_or (λ it. map view it.now) values.entry [] }
+{
+    match values {
+        Some(values) => values,
+        None => &[],
     }
 }
 

@@ -79,7 +79,7 @@ fn pause_edit(
     }
 }
 
-fn differs(row: &DagRow, is_paused: bool) -> bool
+pub(crate) fn differs(row: &DagRow, is_paused: bool) -> bool
     ensures { result ≡ differs row.now is_paused }
 {
     if is_paused {
