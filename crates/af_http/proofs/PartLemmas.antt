@@ -1,6 +1,6 @@
 -- The texts of a path's parts: how they are gathered, that one which is too long is no name, and that what an operation reads
 -- are names where the parts are.
-use Rattle.std.proofs.Common.{◌≡◌, ◌<◌, ◌≤◌, ◌+◌, ◌&&◌, ◌++◌, ℕ, zero, suc, Bool, true, false, not, List, [], ◌∷◌, length, map, take, set, refl, sym, ap, subst, ◌∙◌, Option, Some, None, arith, append_assoc}
+use Rattle.std.proofs.Common.{◌≡◌, ◌≢◌, get_or, ◌<◌, ◌≤◌, ◌+◌, ◌&&◌, ◌++◌, ℕ, zero, suc, Bool, true, false, not, List, [], ◌∷◌, length, map, take, set, refl, sym, ap, subst, ◌∙◌, Option, Some, None, arith, append_assoc}
 use Rattle.std.specs.Prelude.{◌||◌, IsUtf8, IfSome, if◌then◌else◌, is_some, nat_eq, nat_lt, ok_or, option_map, option_and_then, Ok, Err, ⊤}
 use Rattle.std.specs.List.{list_any}
 use Rattle.std.specs.Result.{result_ok}
@@ -8,6 +8,7 @@ use Rattle.std.specs.Str.{is_utf8}
 use Rattle.std.proofs.lemmas.Bool.{lt-ltb}
 use Rattle.std.proofs.lemmas.Str.{IsUtf8-from_is_utf8, is_utf8-from_IsUtf8}
 use Rattle.percent_encoding.specs.Percent.{percent_decode}
+use Rattle.percent_encoding.proofs.PercentLemmas.{percent_decode-nil, percent_decode_not_percent}
 use Rattle.af_names.specs.Names.{Grammar, id_grammar, is_spelled, is_tilde, named as name_in, run_id_grammar}
 use Rattle.af_names.specs.declared.name_error.NameError.TheVariants.{BadName, TooLong}
 use Rattle.af_ops.specs.declared.endpoint.Endpoint.{Endpoint}
@@ -25,6 +26,14 @@ use Rattle.af_http.specs.Limits.{name_limit, part_limit}
 use Rattle.af_http.specs.Parts.{IsUnfit, IsUnfitPart, is_long, part_count, with_all}
 use Rattle.af_http.specs.Routes.{before, by_endpoint, by_method, decoded, endpoint_of, named, onward, parts_in, read, with_first, with_parts}
 use Rattle.af_http.specs.declared.route_fault.RouteFault.TheVariants as fault
+
+-- ---- decoding
+
+-- a part in which no escape begins is its text
+pub decoded_plain : (part : List ℕ) → ((k : ℕ) → k < length part → get_or part k 0 ≢ 37) → percent_decode part ≡ part
+decoded_plain [] none = percent_decode-nil
+decoded_plain (b ∷ part) none =
+    percent_decode_not_percent b part (none 0 (omega arith)) ∙ ap (λ t. b ∷ t) (decoded_plain part (λ k h. none (suc k) (omega arith)))
 
 -- ---- gathering
 

@@ -73,6 +73,10 @@ put_also {some} {p} {q} {r} {a} {b} x y = record {
 pub put_as : {some : ℕ} {p q : Place} {a b : List ℕ} → a ≡ b → Puts some p q a → Puts some p q b
 put_as {some} {p} {q} e x = subst (λ t. Puts some p q t) e x
 
+-- one text, which is two
+pub put_pair : {some : ℕ} {p q r : Place} {t : List ℕ} (a b : List ℕ) → Puts some p q t → Puts 0 q r (a ++ b) → Puts some p r ((t ++ a) ++ b)
+put_pair {some} {p} {q} {r} {t} a b x y = put_as (sym (append_assoc t a b)) (put_also x y)
+
 -- nothing more
 went_none : (f : Bool) (p : Place) → Went 0 f f p p []
 went_none false p = (sym (append-nil (all_put p)), refl)

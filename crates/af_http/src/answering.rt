@@ -1,5 +1,5 @@
 ghost use Rattle.std.specs.Prelude.{◌≡◌, ◌<◌, ◌++◌, false, length};
-ghost use Rattle.af_http.specs.Answers.{number_line, number_line_of, type_line, length_line, head_text, body_text, answer_text, told};
+ghost use Rattle.af_http.specs.Answers.{number_line, number_line_of, type_line, length_line, allow_line, auth_line, head_text, body_text, answer_text, told};
 ghost use Rattle.std.specs.Option.{option_copied};
 ghost use Rattle.af_http.specs.Limits.{outgoing_room};
 ghost use Rattle.af_http.specs.Sending.{Puts};
@@ -7,8 +7,8 @@ ghost use Rattle.af_http.specs.Sending.{Puts};
 use crate::answer::Answer;
 use crate::outgoing::Outgoing;
 use crate::stream::Sink;
-use crate::wording::{allow_line, auth_line, close_line, status_line, type_line};
-use af_ops::Status;
+use crate::wording::{allow_line, body_line, last_lines, status_line};
+use af_ops::{Methods, Status};
 use itoa::Buffer;
 
 /// Puts a field of this name with a number.
@@ -49,8 +49,32 @@ fn put_body_fields<W: Sink>(
         (type_line status (option_copied body.entry) ++ length_line (option_copied body.entry)) }
 {
     if let Some(bytes) = body {
-        outgoing.put(writer, type_line(status));
-        put_number(writer, outgoing, b"Content-Length: ", bytes.len() as u64);
+        put_number(writer, outgoing, body_line(status), bytes.len() as u64);
+    }
+}
+
+/// Puts the methods of a path, if they are told.
+fn put_allow<W: Sink>(writer: &mut W, outgoing: &mut Outgoing, allow: Option<Methods>)
+    ensures { Puts 0
+        (record { sink = W.taken writer.old; waiting = outgoing.old })
+        (record { sink = W.taken writer.new; waiting = outgoing.new })
+        (allow_line allow) }
+{
+    if let Some(allow) = allow {
+        outgoing.put(writer, allow_line(allow));
+    }
+}
+
+/// Puts what 401 asks for.
+fn put_auth<W: Sink>(writer: &mut W, outgoing: &mut Outgoing, status: Status)
+    ensures { Puts 0
+        (record { sink = W.taken writer.old; waiting = outgoing.old })
+        (record { sink = W.taken writer.new; waiting = outgoing.new })
+        (auth_line status) }
+{
+    match status {
+        Status::Unauthorized => outgoing.put(writer, b"WWW-Authenticate: Bearer\r\n"),
+        _ => {}
     }
 }
 
@@ -64,12 +88,11 @@ fn put_head<W: Sink>(writer: &mut W, outgoing: &mut Outgoing, answer: &Answer<'_
 {
     outgoing.begin(writer, status_line(answer.status));
     put_body_fields(writer, outgoing, answer.status, answer.body);
-    outgoing.put(writer, allow_line(answer.allow));
-    outgoing.put(writer, auth_line(answer.status));
+    put_allow(writer, outgoing, answer.allow);
+    put_auth(writer, outgoing, answer.status);
     put_number_of(writer, outgoing, b"X-Policy-Version: ", answer.version);
     put_number_of(writer, outgoing, b"X-Plane-Seq: ", answer.seq);
-    outgoing.put(writer, close_line(closes));
-    outgoing.put(writer, b"\r\n");
+    outgoing.put(writer, last_lines(closes));
 }
 
 /// The body, unless it is left out.

@@ -42,15 +42,26 @@ pub fn blanks_len(bytes: &[u8]) -> usize
 {
     let mut rest = bytes;
     let mut at = 0;
-    while let Some(n) = line_len(rest) {
-        let (line, after) = rest.split_at(n);
-        if !is_blank(line) {
-            return at;
-        }
+    while let Some(n) = blank_len(rest) {
+        let (_, after) = rest.split_at(n);
         at += n;
         rest = after;
     }
     at
+}
+
+/// How long the empty line at the front is, if one stands there.
+fn blank_len(bytes: &[u8]) -> Option<usize>
+    ensures within { IfSome result (λ n. (0 < n) × (n ≤ length bytes.now)) }
+    ensures dropped { IfSome result (λ n. (tail : List ℕ) → after_blanks (lines_of (bytes.now ++ tail))
+        ≡ after_blanks (lines_of (drop n bytes.now ++ tail))) }
+    ensures none { IfNone result (begins_blank (lines_of bytes.now) ≡ false) }
+{
+    match bytes {
+        [b'\n', ..] => Some(1),
+        [b'\r', b'\n', ..] => Some(2),
+        _ => None,
+    }
 }
 
 /// How far the head at the front goes.

@@ -45,6 +45,7 @@ impl Outgoing {
     }
 
     /// Whether a write has failed.
+    #[inline(always)]
     pub fn has_failed(&self) -> bool
         ensures { result ≡ self.now.failed }
     {
@@ -52,6 +53,7 @@ impl Outgoing {
     }
 
     /// How many bytes more find room.
+    #[inline(always)]
     fn room(&self) -> usize
         ensures { result + length self.now.bytes ≡ outgoing_room }
     {
@@ -59,6 +61,7 @@ impl Outgoing {
     }
 
     /// These bytes wait after those that do.
+    #[inline(always)]
     fn hold(&mut self, bytes: &[u8])
         requires { length self.old.bytes + length bytes.now ≤ outgoing_room }
         ensures held { self.new.bytes ≡ self.old.bytes ++ bytes.now }
@@ -110,6 +113,7 @@ impl Outgoing {
 
     /// Puts bytes after those that wait, and writes these where not all find room together. So at a failure a first byte
     /// has been given to the writer, if it found room.
+    #[inline(always)]
     pub fn put<W: Sink>(&mut self, writer: &mut W, bytes: &[u8])
         ensures all { Puts 0
             (record { sink = W.taken writer.old; waiting = self.old })
@@ -121,18 +125,35 @@ impl Outgoing {
         if self.has_failed() {
             return;
         }
-        let room = self.room();
-        if bytes.len() <= room {
+        if bytes.len() <= self.room() {
             self.hold(bytes);
             return;
         }
-        let (front, rest) = bytes.split_at(room);
+        self.put_over(writer, bytes);
+    }
+
+    /// Puts bytes of which not all find room behind those that wait: as many wait as do, all are written, and then the others
+    /// wait.
+    #[cold]
+    #[inline(never)]
+    fn put_over<W: Sink>(&mut self, writer: &mut W, bytes: &[u8])
+        requires sound { self.old.failed ≡ false }
+        requires over { outgoing_room ≤ length self.old.bytes + length bytes.now }
+        ensures all { Puts 0
+            (record { sink = W.taken writer.old; waiting = self.old })
+            (record { sink = W.taken writer.new; waiting = self.new }) bytes.now }
+        ensures first { length self.old.bytes < outgoing_room → Puts 1
+            (record { sink = W.taken writer.old; waiting = self.old })
+            (record { sink = W.taken writer.new; waiting = self.new }) bytes.now }
+    {
+        let (front, rest) = bytes.split_at(self.room());
         self.hold(front);
         self.flush(writer);
         self.put_first(writer, rest);
     }
 
     /// Puts the first bytes of an answer, one of which finds room.
+    #[inline(always)]
     pub fn begin<W: Sink>(&mut self, writer: &mut W, bytes: &[u8])
         requires some { 0 < length bytes.now }
         requires room { self.old.failed ≡ false → length self.old.bytes < outgoing_room }

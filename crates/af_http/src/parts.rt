@@ -5,6 +5,7 @@ ghost use Rattle.af_http.specs.Limits.{name_limit, part_limit};
 ghost use Rattle.af_http.specs.Parts.{IsUnfitPart};
 ghost use Rattle.af_http.specs.Routes.{decoded};
 
+use memchr::memchr;
 use percent_encoding::percent_decode;
 use std::alloc::{AllocError, Global};
 use std::marker::Model;
@@ -102,6 +103,38 @@ fn decode(bytes: &mut Vec<u8>, part: &[u8]) -> bool
     ensures long { result ≡ false → name_limit < length (percent_decode part.now) }
 {
     bytes.clear();
+    match memchr(b'%', part) {
+        Some(_) => decode_escapes(bytes, part),
+        None => copy(bytes, part),
+    }
+}
+
+/// Puts these bytes where nothing is, and tells whether they are not too long for a name.
+fn copy(bytes: &mut Vec<u8>, part: &[u8]) -> bool
+    requires none { bytes.old.items ≡ [] }
+    requires room { name_limit ≤ vec_capacity bytes.old }
+    ensures room { name_limit ≤ vec_capacity bytes.new }
+    ensures text { result ≡ true → bytes.new.items ≡ part.now }
+    ensures short { result ≡ true → length bytes.new.items ≤ name_limit }
+    ensures long { result ≡ false → name_limit < length part.now }
+{
+    if part.len() > NAME_LIMIT {
+        return false;
+    }
+    let added = bytes.extend_from_slice(part);
+    prove!(added.is_ok());
+    true
+}
+
+/// Puts a part without its percent-encoding where nothing is, and tells whether it is not too long for a name.
+fn decode_escapes(bytes: &mut Vec<u8>, part: &[u8]) -> bool
+    requires none { bytes.old.items ≡ [] }
+    requires room { name_limit ≤ vec_capacity bytes.old }
+    ensures room { name_limit ≤ vec_capacity bytes.new }
+    ensures text { result ≡ true → bytes.new.items ≡ percent_decode part.now }
+    ensures short { result ≡ true → length bytes.new.items ≤ name_limit }
+    ensures long { result ≡ false → name_limit < length (percent_decode part.now) }
+{
     for byte in percent_decode(part) {
         if bytes.len() == NAME_LIMIT {
             return false;

@@ -23,14 +23,16 @@ pub struct Routes {
     parts: Parts,
 }
 
-/// What stands before the first of these bytes, and from it on.
-fn cut(byte: u8, text: &[u8]) -> (&[u8], &[u8])
-    ensures { (result.0.now ≡ before byte text.now) × (result.1.now ≡ onward byte text.now) }
+/// What stands before the first slash, and from it on. It is near, so the bytes are looked at one by one.
+fn cut(path: &[u8]) -> (&[u8], &[u8])
+    ensures { (result.0.now ≡ before 47 path.now) × (result.1.now ≡ onward 47 path.now) }
 {
-    match memchr(byte, text) {
-        Some(at) => text.split_at(at),
-        None => (text, &[]),
+    for (at, byte) in path.iter().enumerate() {
+        if *byte == b'/' {
+            return path.split_at(at);
+        }
     }
+    (path, &[])
 }
 
 /// Whether a segment stands for this text.
@@ -54,7 +56,7 @@ fn has_form(segments: &[Segment], path: &[u8]) -> bool
     let Some((slash, path)) = path.split_first() else {
         return false;
     };
-    let (piece, rest) = cut(b'/', path);
+    let (piece, rest) = cut(path);
     *slash == b'/' && (stands_for(segment, piece) && has_form(segments, rest))
 }
 
@@ -71,7 +73,7 @@ fn read_parts(segments: &[Segment], path: &[u8], parts: &mut Parts) -> bool
     let Some((_, path)) = path.split_first() else {
         return true;
     };
-    let (piece, rest) = cut(b'/', path);
+    let (piece, rest) = cut(path);
     if !segment.is_part {
         return read_parts(segments, rest, parts);
     }
@@ -123,8 +125,10 @@ fn named(
 fn path_of(target: &[u8]) -> &[u8]
     ensures { result.now ≡ path_of target.now }
 {
-    let (path, _) = cut(b'?', target);
-    path
+    match memchr(b'?', target) {
+        Some(at) => target.split_at(at).0,
+        None => target,
+    }
 }
 
 impl Routes {

@@ -1,5 +1,5 @@
 ghost use Rattle.std.specs.Prelude.{◌≡◌, ◌<◌, ◌++◌, Some, codes, length};
-ghost use Rattle.af_http.specs.Answers.{status_line, type_line_of, allow_line, auth_line, close_line};
+ghost use Rattle.af_http.specs.Answers.{status_line, type_line_of, allow_line, close_line};
 
 use af_ops::{Methods, Status};
 
@@ -26,29 +26,19 @@ pub fn status_line(status: Status) -> &'static [u8]
     }
 }
 
-/// The type of a body.
-pub fn type_line(status: Status) -> &'static [u8]
-    ensures { result.now ≡ type_line_of status }
+/// The type of a body, and the name of the field that tells its length.
+pub fn body_line(status: Status) -> &'static [u8]
+    ensures { result.now ≡ type_line_of status ++ codes "Content-Length: " }
 {
     if status.is_fault() {
-        b"Content-Type: application/problem+json\r\n"
+        b"Content-Type: application/problem+json\r\nContent-Length: "
     } else {
-        b"Content-Type: application/json\r\n"
-    }
-}
-
-/// The methods of a path.
-pub fn allow_line(allow: Option<Methods>) -> &'static [u8]
-    ensures { result.now ≡ allow_line allow }
-{
-    match allow {
-        None => b"",
-        Some(allow) => allowed(allow),
+        b"Content-Type: application/json\r\nContent-Length: "
     }
 }
 
 /// The field that tells these methods.
-fn allowed(allow: Methods) -> &'static [u8]
+pub fn allow_line(allow: Methods) -> &'static [u8]
     ensures { result.now ≡ allow_line (Some allow) }
 {
     match (allow.get, allow.post, allow.patch, allow.delete) {
@@ -71,23 +61,13 @@ fn allowed(allow: Methods) -> &'static [u8]
     }
 }
 
-/// What 401 asks for.
-pub fn auth_line(status: Status) -> &'static [u8]
-    ensures { result.now ≡ auth_line status }
-{
-    match status {
-        Status::Unauthorized => b"WWW-Authenticate: Bearer\r\n",
-        _ => b"",
-    }
-}
-
-/// Whether the connection closes.
-pub fn close_line(closes: bool) -> &'static [u8]
-    ensures { result.now ≡ close_line closes }
+/// Whether the connection closes, and the empty line.
+pub fn last_lines(closes: bool) -> &'static [u8]
+    ensures { result.now ≡ close_line closes ++ codes "\r\n" }
 {
     if closes {
-        b"Connection: close\r\n"
+        b"Connection: close\r\n\r\n"
     } else {
-        b""
+        b"\r\n"
     }
 }

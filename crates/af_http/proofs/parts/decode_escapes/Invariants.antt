@@ -3,7 +3,7 @@ use Rattle.std.specs.Vec.{vec_capacity}
 use Rattle.percent_encoding.specs.Iter.{decoded_bytes}
 use Rattle.percent_encoding.specs.Percent.{percent_decode}
 use Rattle.af_http.specs.Limits.{name_limit}
-use Rattle.af_http.proofs.parts.decode.Given as goal
+use Rattle.af_http.proofs.parts.decode_escapes.Given as goal
 
 abbrev pub invariant-loop-byte : goal.invariant-loop-byte
 invariant-loop-byte l =
