@@ -1,11 +1,11 @@
 -- Rows whose numbers rise: where a number can stand, and what a search for it passes.
-use Rattle.std.proofs.Common.{◌≡◌, ◌≢◌, sym, ◌∙◌, ap, subst, ℕ, zero, suc, ◌<◌, ◌≤◌, ◌+◌, ◌-◌, List, map, length, get_or, true, false, ◌==◌, ⊎_elim, arith}
+use Rattle.std.proofs.Common.{◌≡◌, ◌≢◌, sym, ◌∙◌, ap, subst, ℕ, zero, suc, ◌<◌, ◌≤◌, ◌+◌, ◌-◌, List, map, length, get_or, true, false, ◌==◌, ◌⊎◌, ⊎_elim, arith}
 use Rattle.std.specs.Prelude.{min}
 use Rattle.std.proofs.lemmas.Bool.Decides.{nat_tests}
 use Rattle.std.proofs.lemmas.Bool.{cases_lt}
 use Rattle.std.proofs.lemmas.List.{get_or-map, length-map, get_or_default}
 use Rattle.std.proofs.lemmas.Map.Keys.{below_from_sorted}
-use Rattle.af_runs.specs.Places.{StandsAt}
+use Rattle.af_runs.specs.Places.{StandsAt, StandsNowhere}
 use Rattle.af_runs.specs.Runs.{AreRuns, is_numbered}
 use Rattle.af_runs.specs.declared.run.Run.{Run}
 
@@ -65,6 +65,28 @@ module _ (runs : List Run) (next : ℕ) (are : AreRuns runs next) where
         (λ below. let up = rises other place d below within in not_numbered number other d (omega arith))
         (λ above. let up = rises place other d (omega arith) inside in not_numbered number other d (omega arith))
         (cases_lt other place);
+  }
+
+  -- ---- where each number up to the last has a row, that row stands right before it
+  place_before : (last k : ℕ) (d : Run) → next ≡ last + 1 → length runs ≡ last → k < length runs → number_at d k ≡ k + 1
+  place_before last k d is all within =
+      let above = place_below k d within in
+      let few = rows_after_few (length runs - k - 1) k d (omega arith) in
+      omega arith
+
+  pub stands_before : (last number : ℕ) → next ≡ last + 1 → length runs ≡ last → 0 < number → number ≤ last → StandsAt runs number (number - 1)
+  stands_before last number is all some within = record {
+    within = omega arith;
+    here = λ d. let here = place_before last (number - 1) d is all (omega arith) in same_numbers (number_at d (number - 1)) number (omega arith);
+    alone = λ other d inside apart. let there = place_before last other d is all inside in not_numbered number other d (omega arith);
+  }
+
+  -- and no other number has one
+  pub stands_nowhere : (last number : ℕ) → next ≡ last + 1 → length runs ≡ last → (number ≡ 0) ⊎ (last < number) → StandsNowhere runs number
+  stands_nowhere last number is all out = record {
+    none = λ other d inside.
+        let there = place_before last other d is all inside in
+        ⊎_elim (λ zero_is. not_numbered number other d (omega arith)) (λ past. not_numbered number other d (omega arith)) out;
   }
 
   -- ---- the search: the places that it leaves out

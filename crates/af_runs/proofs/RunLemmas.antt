@@ -96,6 +96,10 @@ or_left : (a b : Bool) → (a || b) ≡ false → a ≡ false
 or_left true b none = absurd (cc)
 or_left false b none = refl
 
+or_right : (a b : Bool) → (a || b) ≡ false → b ≡ false
+or_right true b none = absurd (cc)
+or_right false b none = none
+
 Less-from_lt : (a b : ℕ) → a < b → nat_cmp a b ≡ Less
 Less-from_lt a b below = grind (arith, nat_tests)
 
@@ -139,8 +143,53 @@ AreRuns-push runs next new first no_fault are =
       bounded = λ dag_id. bounded_push runs run dag_id (are.bounded dag_id) (Lt-from_not_le (length (runs_of runs new.dag_id)) (or_left (nat_le 65_536 (length (runs_of runs new.dag_id))) (nat_le (2 ^ 64) next) parts.2));
     }
 
+-- a DAG has at most as many runs as there are
+few_of : (p : Run → Bool) (runs : List Run) → length (filter p runs) ≤ length runs
+few_of p [] = omega arith
+few_of p (run ∷ runs) =
+    let rest = few_of p runs in
+    ⊎_elim
+    (λ (is : p run ≡ true). rw is (omega (arith, rest)))
+    (λ (no : p run ≡ false). rw no (omega (arith, rest)))
+    (cases_Bool (p run))
+
+few_is : (n : ℕ) → n < 65_536 → false ≡ nat_le 65_536 n
+few_is n few = sym (grind (arith, nat_tests))
+
+pub few_together : (before added : List Run) (dag_id : List ℕ) → length (runs_of before dag_id) ≤ 65_536 → length added < 65_536 - length (runs_of before dag_id) → false ≡ nat_le 65_536 (length (runs_of (before ++ added) dag_id))
+few_together before added dag_id most few =
+    let own = few_of (is_of dag_id) added in
+    few_is (length (runs_of (before ++ added) dag_id)) (omega (arith, count-append before added dag_id, own, most, few))
+
+any_after : {X : Type 0} (p : X → Bool) (xs ys : List X) → list_any p (xs ++ ys) ≡ false → list_any p ys ≡ false
+any_after p [] ys none = none
+any_after p (x ∷ xs) ys none = any_after p xs ys (or_right (p x) (list_any p (xs ++ ys)) none)
+
+few_after : (a b : ℕ) → nat_le 65_536 (a + b) ≡ false → nat_le 65_536 b ≡ false
+few_after a b few = grind (arith, nat_tests)
+
+or_none : (a b : Bool) → a ≡ false → b ≡ false → (a || b) ≡ false
+or_none true b left right = absurd (cc)
+or_none false b left right = right
+
+none_of : (a b c : Bool) (x y z : RunFault) → a ≡ false → b ≡ false → c ≡ false → cond a (Some x) (cond b (Some y) (cond c (Some z) None)) ≡ None
+none_of a b c x y z no_a no_b no_c = rw (no_a, no_b, no_c) refl
+
+-- a run that meets no fault among others and these meets none among these
+pub no_fault_after : (before rows : List Run) (next : ℕ) (dag_id run_id : List ℕ) (date : ℕ) → add_fault (before ++ rows) next dag_id run_id date ≡ None → add_fault rows next dag_id run_id date ≡ None
+no_fault_after before rows next dag_id run_id date none =
+    let parts = no_fault_parts (list_any (is_run dag_id run_id) (before ++ rows)) (list_any (is_dated dag_id date) (before ++ rows)) (is_full (before ++ rows) next dag_id) RunExists DateTaken Full none in
+    let all_few : nat_le 65_536 (length (runs_of before dag_id) + length (runs_of rows dag_id)) ≡ false =
+    ap (nat_le 65_536) (sym (count-append before rows dag_id)) ∙ or_left (nat_le 65_536 (length (runs_of (before ++ rows) dag_id))) (nat_le (2 ^ 64) next) parts.2 in
+    none_of (list_any (is_run dag_id run_id) rows) (list_any (is_dated dag_id date) rows) (is_full rows next dag_id) RunExists DateTaken Full
+    (any_after (is_run dag_id run_id) before rows parts.0)
+    (any_after (is_dated dag_id date) before rows parts.1)
+    (or_none (nat_le 65_536 (length (runs_of rows dag_id))) (nat_le (2 ^ 64) next)
+    (few_after (length (runs_of before dag_id)) (length (runs_of rows dag_id)) all_few)
+    (or_right (nat_le 65_536 (length (runs_of (before ++ rows) dag_id))) (nat_le (2 ^ 64) next) parts.2))
+
 -- a run that meets no fault, if it is added to those after others
-pub AreRuns-additions : (before : List Run) (old new : RunRows) (run : NewRun) (result : Result ℕ RunFault) → add_fault (before ++ old.rows) old.next run.dag_id run.run_id run.logical_date ≡ None → IfOk result (Adds old new run) → IfOk result (λ number. 0 < number) → OnErr result (SameRuns old new) → AreRuns (before ++ old.rows) old.next → AreRuns (before ++ new.rows) new.next
+pub AreRuns-additions : {E : Type 0} (before : List Run) (old new : RunRows) (run : NewRun) (result : Result ℕ E) → add_fault (before ++ old.rows) old.next run.dag_id run.run_id run.logical_date ≡ None → IfOk result (Adds old new run) → IfOk result (λ number. 0 < number) → OnErr result (SameRuns old new) → AreRuns (before ++ old.rows) old.next → AreRuns (before ++ new.rows) new.next
 AreRuns-additions before old new run (Ok number) no_fault adds above err are =
     let added = AreRuns-push (before ++ old.rows) old.next run (omega (arith, adds.next_number, above)) no_fault are in
     subst (λ (next : ℕ). AreRuns (before ++ new.rows) next) (sym adds.next)

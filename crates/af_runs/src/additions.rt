@@ -68,7 +68,7 @@ impl<'a> Additions<'a> {
         if let Some(fault) = self.add_fault(&new.dag_id, &new.run_id, new.logical_date) {
             return Err(fault);
         }
-        self.added.add_run(new)
+        Ok(self.added.add_free(new)?)
     }
 
     /// The rows that are to be added, and the number of the last run of all, 0 where there is none.
@@ -82,8 +82,14 @@ impl<'a> Additions<'a> {
     }
 
     /// Why a run of these ids and this logical date would not be added, memory aside.
-    fn add_fault(&self, dag_id: &DagId, run_id: &RunId, logical_date: Instant) -> Option<RunFault>
-        ensures { result ≡ add_fault (self.now.before ++ self.now.added) self.now.next dag_id.now run_id.now logical_date }
+    fn add_fault(
+        &mut self,
+        dag_id: &DagId,
+        run_id: &RunId,
+        logical_date: Instant,
+    ) -> Option<RunFault>
+        ensures told { result ≡ add_fault (self.old.before ++ self.old.added) self.old.next dag_id.now run_id.now logical_date }
+        ensures kept { self.new ≡ self.old }
     {
         if self.has_ids(dag_id, run_id) {
             Some(RunFault::RunExists)
@@ -109,17 +115,26 @@ impl<'a> Additions<'a> {
     }
 
     /// Whether the DAG has as many runs as it may have, or no number is left for another.
-    fn is_full(&self, dag_id: &DagId) -> bool
-        ensures { result ≡ is_full (self.now.before ++ self.now.added) self.now.next dag_id.now }
+    fn is_full(&mut self, dag_id: &DagId) -> bool
+        ensures told { result ≡ is_full (self.old.before ++ self.old.added) self.old.next dag_id.now }
+        ensures kept { self.new ≡ self.old }
     {
-        self.count_of(dag_id) >= MOST_RUNS || self.is_spent()
+        self.has_most(dag_id) || self.is_spent()
     }
 
-    /// How many runs the DAG has, among the others and the additions.
-    fn count_of(&self, dag_id: &DagId) -> usize
-        ensures { result ≡ length (runs_of (self.now.before ++ self.now.added) dag_id.now) }
+    /// Whether the DAG has as many runs as it may have, among the others and the additions. Its additions are counted where
+    /// all additions together would be too many.
+    fn has_most(&mut self, dag_id: &DagId) -> bool
+        ensures told { result ≡ nat_le 65_536 (length (runs_of (self.old.before ++ self.old.added) dag_id.now)) }
+        ensures kept { self.new ≡ self.old }
     {
-        self.runs.count_of(dag_id) + self.added.count_of(dag_id)
+        let before = self.runs.count_of(dag_id);
+        if self.added.rows().len() < MOST_RUNS - before {
+            return false;
+        }
+        // Those that are listed by DAG are counted without going over them.
+        self.added.list_appended();
+        before + self.added.count_of(dag_id) >= MOST_RUNS
     }
 
     /// Whether no number is left for another run.

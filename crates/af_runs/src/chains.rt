@@ -1,4 +1,5 @@
-ghost use Rattle.std.specs.Prelude.{◌≡◌, ℕ, ◌+◌, ◌<◌, List, [], ◌∷◌, ◌++◌, All, length, map, OnOk, slice_index_or, vec_capacity, vec_len};
+ghost use Rattle.std.specs.Prelude.{◌≡◌, ℕ, ◌+◌, ◌<◌, ◌≤◌, List, [], ◌∷◌, ◌++◌, All, Some, length, map, nat_eq, OnOk, slice_index_or, unwrap_or, vec_capacity, vec_len, if◌then◌else◌};
+ghost use Rattle.std.specs.HashMap.{get, spare};
 ghost use Rattle.std.specs.List.{remove};
 ghost use Rattle.std.specs.List.Sorted.{IsStrictlySortedBy};
 ghost use Rattle.std.specs.Ordering.{nat_cmp};
@@ -67,9 +68,8 @@ impl Chains {
         ensures room { (rows : ℕ) → HasRoom (rows + 1) self.old → HasRoom rows self.new }
         ensures len { vec_len self.new.earlier ≡ vec_len self.old.earlier + 1 }
     {
-        // There is room, so both succeed.
-        let before = self.last(code);
-        let _put = self.last.insert(code, number);
+        let before = put(&mut self.last, code, number);
+        // There is room, so it succeeds.
         let _pushed = self.earlier.push(before);
     }
 
@@ -88,6 +88,20 @@ impl Chains {
                 *last = before;
             }
         }
+    }
+}
+
+/// Puts a number at a code, where there is room for one more, and tells that which was there, 0 where there was none.
+fn put(numbers: &mut HashMap<u64, u64>, code: u64, number: u64) -> u64
+    requires { 0 < spare numbers.old }
+    ensures before { result ≡ unwrap_or (get nat_eq numbers.old code) 0 }
+    ensures numbers { (other : ℕ) → get nat_eq numbers.new other ≡ (if nat_eq code other then Some number else get nat_eq numbers.old other) }
+    ensures spare { spare numbers.old ≤ spare numbers.new + 1 }
+{
+    // There is room, so it succeeds.
+    match numbers.insert(code, number) {
+        Ok(before) => before.unwrap_or(0),
+        Err(_) => 0,
     }
 }
 

@@ -8,10 +8,24 @@ use crate::chains::Chains;
 use crate::run::Run;
 use crate::wanted::Wanted;
 
-/// Where the row of the run of this number stands, the last number being known. The row stands at most where it would if no
-/// number before it had been taken out, and at least where it would if none after it had been: a binary search between the
-/// two, of one step where no run was taken out.
+/// Where the row of the run of this number stands, the last number being known. Where no run was taken out each number has its
+/// row, which stands right before it; no row is read then.
 pub(crate) fn place_of(rows: &[Run], last: u64, number: u64) -> Option<usize>
+    requires { AreRuns rows.now (last + 1) }
+    ensures { MatchOption result (StandsNowhere rows.now number) (StandsAt rows.now number) }
+{
+    if rows.len() as u64 != last {
+        return search(rows, last, number);
+    }
+    if number == 0 || last < number {
+        return None;
+    }
+    Some((number - 1) as usize)
+}
+
+/// Where the row of the run of this number stands, by a binary search. The row stands at most where it would if no number
+/// before it had been taken out, and at least where it would if none after it had been: the search goes between the two.
+fn search(rows: &[Run], last: u64, number: u64) -> Option<usize>
     requires { AreRuns rows.now (last + 1) }
     ensures { MatchOption result (StandsNowhere rows.now number) (StandsAt rows.now number) }
 {

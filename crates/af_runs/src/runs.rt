@@ -17,6 +17,9 @@ mod marking;
 /// The most runs that a DAG has.
 pub(crate) const MOST_RUNS: usize = 65_536;
 
+/// For how many runs memory is reserved at once, where one is added and none is reserved.
+pub(crate) const MORE_RUNS: usize = 64;
+
 /// The runs of all DAGs, in order of number. Contracts see them as that list of rows, each with its instances, beside
 /// the number that the next run gets and the number of rows for which memory is reserved.
 #[derive(Drop)]

@@ -4,7 +4,7 @@ ghost use Rattle.af_runs.specs.Runs.{AreRuns, Adds, SameRuns, IsOkOrOutOfMemory,
 use crate::new_run::NewRun;
 use crate::run::Run;
 use crate::run_fault::RunFault;
-use crate::runs::{MOST_RUNS, Runs};
+use crate::runs::{MORE_RUNS, MOST_RUNS, Runs};
 use af_names::{DagId, Instant, RunId};
 use std::alloc::AllocError;
 
@@ -72,8 +72,21 @@ impl Runs {
         if let Some(fault) = self.add_fault(&new.dag_id, &new.run_id, new.logical_date) {
             return Err(fault);
         }
+        Ok(self.add_free(new)?)
+    }
+
+    /// Adds a run, queued, of which `add_fault` tells nothing, and tells its number. `AllocError` only where a growth was
+    /// refused and never where memory is reserved; then as before.
+    pub(crate) fn add_free(&mut self, new: NewRun) -> Result<u64, AllocError>
+        requires { refusal self.old new ≡ None }
+        ensures ok { IfOk result (Adds self.old self.new new) }
+        ensures positive { IfOk result (λ number. 0 < number) }
+        ensures err { OnErr result (SameRuns self.old self.new) }
+        ensures roomy { 0 < self.old.spare → IsOk result }
+        ensures spare { self.old.spare ≤ self.new.spare + (if is_ok result then 1 else 0) }
+    {
         if self.spare == 0 {
-            self.reserve(1)?;
+            self.reserve(MORE_RUNS)?;
         }
         Ok(self.push(new))
     }

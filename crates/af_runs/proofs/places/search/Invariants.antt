@@ -1,7 +1,7 @@
 use Rattle.std.proofs.Common.{◌≡◌, ◌<◌, ◌≤◌, ◌-◌, ℕ, get_or, length, false}
 use Rattle.af_runs.specs.Runs.{is_numbered}
 use Rattle.af_runs.specs.declared.run.Run.{Run}
-use Rattle.af_runs.proofs.places.place_of.Given as goal
+use Rattle.af_runs.proofs.places.search.Given as goal
 
 abbrev pub invariant-loop-low : goal.invariant-loop-low
 invariant-loop-low l =
