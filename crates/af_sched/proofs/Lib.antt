@@ -10,6 +10,7 @@ mod EndedLemmas
 mod FillLemmas
 mod FittingLemmas
 mod FrameLemmas
+mod HeavyLemmas
 mod IdleLemmas
 mod KeyLemmas
 mod LikeLemmas

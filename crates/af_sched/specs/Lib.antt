@@ -19,3 +19,4 @@ pub mod Start
 pub mod State
 pub mod Steps
 pub mod Tick
+pub mod Weights

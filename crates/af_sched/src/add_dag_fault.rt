@@ -1,8 +1,7 @@
 ghost use Rattle.std.specs.Prelude.{◌≡◌, Some};
 ghost use Rattle.af_sched.specs.FaultTexts.{add_dag_text};
 
-use crate::dag_row::DagRow;
-use std::alloc::{AllocError, AllocFailed};
+use std::alloc::AllocError;
 use std::fmt;
 
 /// Why a DAG is not added, in the order in which faults are told.
@@ -20,17 +19,6 @@ pub enum AddDagFault {
     Full,
     /// A growth of memory was refused.
     OutOfMemory,
-}
-
-impl From<AllocFailed<DagRow>> for AddDagFault {
-    ghost use Rattle.std.specs.Prelude.{◌≡◌};
-    ghost use Rattle.af_sched.specs.declared.add_dag_fault.AddDagFault.TheVariants.{OutOfMemory};
-
-    ghost from_gives = { λ _ fault. fault ≡ OutOfMemory };
-
-    fn from(_error: AllocFailed<DagRow>) -> AddDagFault {
-        AddDagFault::OutOfMemory
-    }
 }
 
 impl From<AllocError> for AddDagFault {

@@ -1,6 +1,7 @@
 ghost use Rattle.std.specs.Prelude.{◌≡◌, IfSome, MatchResult, option_copied, true};
 ghost use Rattle.af_sched.specs.State.{AreInOrder, FitsAt, dag_of, tasks_of};
 ghost use Rattle.af_sched.specs.Steps.{StandsAt};
+ghost use Rattle.af_sched.specs.Weights.{NoneIsHeavier};
 
 use crate::dag_row::DagRow;
 use crate::guesses::{Guesses, beside, code_of};
@@ -13,26 +14,41 @@ use std::marker::Model;
 pub(crate) struct Dags<'a> {
     rows: &'a [DagRow],
     guesses: &'a Guesses,
+    /// No task of a DAG is heavier.
+    heaviest: i32,
 }
 
 impl<'a> Model for Dags<'a> {
     ghost use Rattle.std.specs.Prelude.{List};
     ghost use Rattle.af_sched.specs.State.{AreInOrder};
+    ghost use Rattle.af_sched.specs.Weights.{NoneIsHeavier};
     ghost use Rattle.af_sched.specs.declared.dag_row.DagRow.{DagRow};
 
     ghost Value = { List DagRow };
 
     ghost view = { λ dags. dags.rows.now };
 
-    ghost invariant = { λ dags. AreInOrder dags.rows.now };
+    ghost invariant = { λ dags. AreInOrder dags.rows.now × NoneIsHeavier dags.heaviest dags.rows.now };
 }
 
 impl<'a> Dags<'a> {
-    pub(crate) fn of(rows: &'a [DagRow], guesses: &'a Guesses) -> Dags<'a>
-        requires { AreInOrder rows.now }
+    pub(crate) fn of(rows: &'a [DagRow], guesses: &'a Guesses, heaviest: i32) -> Dags<'a>
+        requires in_order { AreInOrder rows.now }
+        requires heaviest { NoneIsHeavier heaviest rows.now }
         ensures { result ≡ rows.now }
     {
-        Dags { rows, guesses }
+        Dags {
+            rows,
+            guesses,
+            heaviest,
+        }
+    }
+
+    /// A weight: no task of a DAG is heavier.
+    pub(crate) fn heaviest(&self) -> i32
+        ensures { NoneIsHeavier result self.now }
+    {
+        self.heaviest
     }
 
     /// The rows, by id.

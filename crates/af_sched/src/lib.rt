@@ -7,6 +7,7 @@ mod choosing;
 mod claim;
 mod creating;
 mod dag_row;
+mod dag_table;
 mod dags;
 mod due;
 mod executor;

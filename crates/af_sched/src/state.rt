@@ -3,8 +3,8 @@ ghost use Rattle.af_pool.specs.Pools.{ArePools, default_name};
 ghost use Rattle.af_sched.specs.State.{AreRows, dag_of};
 
 use crate::dag_row::DagRow;
+use crate::dag_table::DagTable;
 use crate::dags::Dags;
-use crate::guesses::Guesses;
 use af_names::DagId;
 use af_pool::{Pool, Pools};
 use af_runs::Runs;
@@ -25,9 +25,7 @@ mod ticking;
 /// beside the numbers of runs and pools for which memory is reserved.
 #[derive(Drop)]
 pub struct State {
-    dags: Vec<DagRow>,
-    /// Where the rows of DAGs stand, so that none is searched for.
-    guesses: Guesses,
+    dags: DagTable,
     runs: Runs,
     pools: Pools,
 }
@@ -39,7 +37,7 @@ impl Model for State {
 
     ghost view = { λ state. record {
       rows = record {
-        dags = state.dags.items;
+        dags = state.dags;
         runs = state.runs.rows;
         next_run = state.runs.next;
         pools = state.pools.rows;
@@ -48,7 +46,7 @@ impl Model for State {
       spare_pools = state.pools.spare;
     } };
 
-    ghost invariant = { λ state. AreRows state.dags.items state.runs.rows };
+    ghost invariant = { λ state. AreRows state.dags state.runs.rows };
 }
 
 impl State {
@@ -61,8 +59,7 @@ impl State {
     {
         let pools = Pools::new(alloc)?;
         Ok(State {
-            dags: Vec::new(alloc),
-            guesses: Guesses::new(alloc),
+            dags: DagTable::new(alloc),
             runs: Runs::new(alloc),
             pools,
         })
@@ -73,7 +70,7 @@ impl State {
         ensures rows { result.now ≡ self.now.rows.dags }
         ensures kept { AreRows self.now.rows.dags self.now.rows.runs }
     {
-        self.dags.as_slice()
+        self.dags.rows()
     }
 
     /// The DAG of this id, found where it is guessed to stand, or else by binary search.
@@ -87,7 +84,7 @@ impl State {
     fn by_id(&self) -> Dags<'_>
         ensures { result ≡ self.now.rows.dags }
     {
-        Dags::of(self.dags(), &self.guesses)
+        self.dags.by_id()
     }
 
     /// The pools, by name.

@@ -16,9 +16,7 @@ impl State {
           rows = record self.old.rows { dags = with_paused self.old.rows.dags dag_id.now is_paused };
         } }
     {
-        if let Ok(place) = self.by_id().place_of(dag_id) {
-            self.dags[place].is_paused = is_paused;
-        }
+        self.dags.set_paused(dag_id, is_paused);
     }
 
     /// Advances the run of the later one's number to it: its state, its start, its end and its instances become those of

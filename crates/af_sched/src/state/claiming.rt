@@ -1,8 +1,9 @@
-ghost use Rattle.std.specs.Prelude.{◌≡◌, IfOk, None, Ok, OnErr, MatchOption, true};
+ghost use Rattle.std.specs.Prelude.{◌≡◌, IfOk, None, Ok, OnErr, MatchOption, option_copied, true};
 ghost use Rattle.af_sched.specs.Claims.{is_claimable, Claims, ClaimsNone, IsNextClaim, claim_of};
 ghost use Rattle.af_sched.specs.Placed.{IsFirstOf, NonePasses, placed_of, placed_in};
 ghost use Rattle.af_sched.specs.State.{tasks_of};
 ghost use Rattle.af_sched.specs.Steps.{Continues, first_with, has_queued};
+ghost use Rattle.af_sched.specs.Weights.{IsAsHeavy};
 
 use crate::claim::Claim;
 use crate::dags::Dags;
@@ -46,15 +47,31 @@ impl State {
     }
 }
 
-/// Of the instances that may be claimed, the first in the order. Only busy runs have any.
+/// Of the instances that may be claimed, the first in the order. Only busy runs have any, and they come by number: none comes
+/// before one that is as heavy as any task.
 fn first_claimable<'a>(dags: &Dags<'a>, runs: &'a Runs) -> Option<PlacedInstance<'a>>
     ensures { IsFirstOf is_claimable (placed_in dags.now runs.now.rows) result }
 {
+    // Numbers rise.
+    let _rows = runs.rows();
     let mut first = None;
     for run in runs.busy() {
         first = first_after(first, dags, run);
+        if is_as_heavy(first.as_ref(), dags.heaviest()) {
+            return first;
+        }
     }
     first
+}
+
+/// Whether there is an instance, of a task at least as heavy as this.
+fn is_as_heavy(first: Option<&PlacedInstance<'_>>, weight: i32) -> bool
+    ensures { result ≡ true → IsAsHeavy weight (option_copied first.entry) }
+{
+    match first {
+        Some(first) => first.task.priority_weight >= weight,
+        None => false,
+    }
 }
 
 /// The first in the order, once the instances of this run have been seen too. The DAG is looked up where one is queued.

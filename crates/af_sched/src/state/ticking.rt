@@ -34,7 +34,7 @@ impl State {
     fn planned(&self, alloc: Global, at: Instant) -> Result<Plan, AllocError>
         ensures { IfOk result (IsPlan at self.now.rows) }
     {
-        let dags = self.dags.as_slice();
+        let dags = self.dags.rows();
         let mut additions = Additions::of(alloc, &self.runs);
         let cursors = create_all(alloc, dags, at, &mut additions)?;
         let (added, last) = additions.into_rows();
@@ -65,7 +65,7 @@ impl State {
             last,
             is_change: _,
         } = plan;
-        set_cursors(self.dags.as_mut_slice(), cursors.as_slice());
+        self.dags.set_cursors(cursors.as_slice());
         advance_all(&mut self.runs, moved);
         self.runs.append(added, last);
     }
@@ -90,7 +90,7 @@ impl State {
         ensures { (result ≡ true) ↔ HasRows self.now.rows cursors.now moved.now added.now }
     {
         added.is_empty()
-            && have_cursors(self.dags.as_slice(), cursors)
+            && have_cursors(self.dags.rows(), cursors)
             && are_busy_of(&self.runs, moved)
     }
 }
@@ -115,14 +115,4 @@ fn have_cursors(dags: &[DagRow], cursors: &[Option<Instant>]) -> bool
         }
     }
     true
-}
-
-/// Gives each of these DAGs its cursor.
-fn set_cursors(dags: &mut [DagRow], cursors: &[Option<Instant>])
-    requires { length cursors.now ≡ length dags.old }
-    ensures { dags.new ≡ with_cursors dags.old cursors.now }
-{
-    for (place, row) in dags.iter_mut().enumerate() {
-        row.cursor = cursors[place];
-    }
 }

@@ -12,4 +12,4 @@ returns c is =
     let row : DagRow = c.index-rows-place.result in
     let here : is_of_id c.args.dag_id.now (get_or rows c.args.place row) ≡ true =
     ap (λ (id : List ℕ). same_name id c.args.dag_id.now) (sym c.dag_id.ensures) ∙ sym c.eq.ensures ∙ is in
-    rw (← c.self.view_is) (stands_here rows c.args.dag_id.now c.args.place c.self.invariant c.if-place-rows.false (λ d. ap (is_of_id c.args.dag_id.now) (get_or-same rows c.args.place d row c.if-place-rows.false) ∙ here))
+    rw (← c.self.view_is) (stands_here rows c.args.dag_id.now c.args.place c.self.invariant.0 c.if-place-rows.false (λ d. ap (is_of_id c.args.dag_id.now) (get_or-same rows c.args.place d row c.if-place-rows.false) ∙ here))

@@ -10,4 +10,4 @@ pub returns : goal.returns
 returns c =
     let facts = c.binary_search_by.ensures in
     let by_id = facts.position (λ row. slice_cmp nat_cmp row.dag.dag_id c.args.dag_id.now) (always_returns_same _ _ _ (λ a r f' called. search rules)) in
-    rw (← c.self.view_is) (place_from_search c.self.inside.rows.now c.args.dag_id.now c.binary_search_by.result c.self.invariant facts.bound by_id)
+    rw (← c.self.view_is) (place_from_search c.self.inside.rows.now c.args.dag_id.now c.binary_search_by.result c.self.invariant.0 facts.bound by_id)

@@ -10,9 +10,9 @@ use Rattle.af_sched.proofs.state.State.planned.Goals as goal
 
 pub moved_on-requires-clause-whole : goal.moved_on-requires-clause-whole
 moved_on-requires-clause-whole c =
-    let state : StateRows = record { dags = c.self.inside.dags.items; runs = c.self.inside.runs.rows; next_run = c.self.inside.runs.next; pools = c.self.inside.pools.rows } in
+    let state : StateRows = record { dags = c.self.inside.dags; runs = c.self.inside.runs.rows; next_run = c.self.inside.runs.next; pools = c.self.inside.pools.rows } in
     let stays : c.create_all.new.additions.before ≡ state.runs = c.in_ok-cursors.ensures.before ∙ c.of-additions.ensures.before in
-    let takes = rw (c.as_slice-dags.ensures.value) at c.in_ok-cursors.ensures.runs in
+    let takes = rw (c.rows-dags.ensures) at c.in_ok-cursors.ensures.runs in
     let same : c.of-additions.result.before ++ c.of-additions.result.added ≡ state.runs = (λ i. c.of-additions.ensures.before i ++ c.of-additions.ensures.added i) ∙ append-nil state.runs in
     rw (c.by_id.ensures, ← c.self.view_is, c.into_rows-added.ensures.added)
     (subst (λ (runs : List Run). All (IsWhole state.dags) (runs ++ c.create_all.new.additions.added)) stays
@@ -20,7 +20,7 @@ moved_on-requires-clause-whole c =
 
 pub returns : goal.returns
 returns c =
-    let state : StateRows = record { dags = c.self.inside.dags.items; runs = c.self.inside.runs.rows; next_run = c.self.inside.runs.next; pools = c.self.inside.pools.rows } in
+    let state : StateRows = record { dags = c.self.inside.dags; runs = c.self.inside.runs.rows; next_run = c.self.inside.runs.next; pools = c.self.inside.pools.rows } in
     let tells = rw (← c.self.view_is, c.as_slice.ensures.value, c.as_slice-2.ensures.value, c.as_slice-3.ensures.value) at c.has-is_change.ensures in
     let stays : c.create_all.new.additions.before ≡ state.runs = c.in_ok-cursors.ensures.before ∙ c.of-additions.ensures.before in
     rw (← c.self.view_is) (subst (λ n. IsPlan c.args.at state record { cursors = c.in_ok-cursors.cursors.items; moved = c.in_ok-moved.moved.items; added = c.in_ok-moved.added.items; next_run = n; changes = Rattle.std.specs.Prelude.not c.has-is_change.result }) (sym c.into_rows-added.ensures.next)
@@ -31,9 +31,9 @@ returns c =
       none = c.of-additions.ensures.added;
       next = c.of-additions.ensures.next;
       stays = stays;
-      takes = rw (c.as_slice-dags.ensures.value) at c.in_ok-cursors.ensures.runs;
+      takes = rw (c.rows-dags.ensures) at c.in_ok-cursors.ensures.runs;
       kept = rw stays at c.into_rows-added.ensures.kept;
-      told = rw (c.as_slice-dags.ensures.value) at c.in_ok-cursors.ensures.cursors;
+      told = rw (c.rows-dags.ensures) at c.in_ok-cursors.ensures.cursors;
       moves = rw (c.by_id.ensures, ← c.self.view_is, c.into_rows-added.ensures.added) at c.in_ok-moved.ensures.runs;
       count = c.in_ok-moved.ensures.count;
     })

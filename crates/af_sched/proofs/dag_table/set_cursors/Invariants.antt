@@ -1,7 +1,7 @@
 use Rattle.std.proofs.Common.{◌≡◌, ◌<◌, ◌≤◌, ℕ, get_or}
 use Rattle.std.specs.Prelude.{None}
 use Rattle.af_sched.specs.declared.dag_row.DagRow.{DagRow}
-use Rattle.af_sched.proofs.state.ticking.set_cursors.Given as goal
+use Rattle.af_sched.proofs.dag_table.set_cursors.Given as goal
 
 abbrev pub invariant-loop-place : goal.invariant-loop-place
 invariant-loop-place l =
