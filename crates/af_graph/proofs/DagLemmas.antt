@@ -16,11 +16,11 @@ use Rattle.af_graph.proofs.PlaceLemmas.{find_nothing}
 use Rattle.af_graph.proofs.OrderLemmas.{among_contains, order_is}
 
 -- where no fault is told each one is absent
-parts : (o : Option DagFault) (os : List (Option DagFault)) → first_of (o ∷ os) ≡ None → (o ≡ None) × (first_of os ≡ None)
+parts : (o : Option (DagFault (List ℕ))) (os : List (Option (DagFault (List ℕ)))) → first_of (o ∷ os) ≡ None → (o ≡ None) × (first_of os ≡ None)
 parts None os e = (refl, e)
 parts (Some f) os e = absurd (none-some f (sym e))
 
-unmapped : (f : ℕ → DagFault) (o : Option ℕ) → option_map f o ≡ None → o ≡ None
+unmapped : (f : ℕ → DagFault (List ℕ)) (o : Option ℕ) → option_map f o ≡ None → o ≡ None
 unmapped f None e = refl
 unmapped f (Some place) e = absurd (none-some (f place) (sym e))
 

@@ -1,13 +1,13 @@
 -- The plain search for faults: a task may be taken once the tasks of the ids that it names have been.
-use Rattle.std.proofs.Common.{◌≡◌, ◌<◌, ◌≤◌, ◌+◌, ◌++◌, ◌&&◌, ℕ, suc, Bool, true, false, not, eqb, List, [], ◌∷◌, Option, Some, None, length, get_or, refl, sym, ap, ◌∙◌, subst, ⊎_elim, arith}
+use Rattle.std.proofs.Common.{◌≡◌, ◌<◌, ◌&&◌, ℕ, suc, Bool, true, false, not, eqb, List, [], ◌∷◌, Option, Some, None, length, get_or, refl, sym, ap, ◌∙◌, subst, ⊎_elim, arith}
 use Rattle.std.specs.Prelude.{All}
-use Rattle.std.specs.List.{cons_option, filter, filter_map, list_all}
+use Rattle.std.specs.List.{cons_option, filter_map, list_all}
 use Rattle.std.specs.Option.{option_map_or}
 use Rattle.std.proofs.lemmas.Bool.{cases_Bool, eqb-true, or_right, or_left, eq-eqb, and_parts}
 use Rattle.std.proofs.lemmas.List.{get_or-map}
 use Rattle.af_graph.specs.Rows.{places, row_at, is_among, arranged}
 use Rattle.af_graph.specs.Graph.{place_of, named_rows, upstream_rows}
-use Rattle.af_graph.specs.Order.{is_free, one_more}
+use Rattle.af_graph.specs.Order.{is_free}
 use Rattle.af_graph.specs.Steps.{is_done}
 use Rattle.af_graph.specs.declared.task_spec.TaskSpec.{TaskSpec}
 use Rattle.af_graph.proofs.RowLemmas.{row_at-arranged, among-filter, among-places}

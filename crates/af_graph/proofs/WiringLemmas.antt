@@ -17,8 +17,6 @@ use Rattle.af_graph.specs.Steps.{told, IsPlaced, IsPair}
 use Rattle.af_graph.specs.declared.task_spec.TaskSpec.{TaskSpec}
 use Rattle.af_graph.specs.declared.dag_fault.DagFault.{DagFault}
 use Rattle.af_graph.specs.declared.dag_fault.DagFault.TheVariants as fault
-use Rattle.af_graph.specs.declared.misfit.Misfit.{Misfit}
-use Rattle.af_graph.specs.declared.misfit.Misfit.TheVariants as misfit
 use Rattle.af_graph.proofs.PlaceLemmas.{find_some}
 use Rattle.af_graph.proofs.RowLemmas.{length-turned, length-arranged, row_at-turned, row_at-arranged, among-turned, among-filter, below_all, filter_same_places, turned-turned}
 use Rattle.af_graph.proofs.TakingLemmas.{all_from_among}
@@ -101,10 +99,10 @@ order_within (suc turns) rows =
 
 -- ---- faults
 
-skip : (o : Option DagFault) (os : List (Option DagFault)) → o ≡ None → first_of (o ∷ os) ≡ first_of os
+skip : (o : Option (DagFault (List ℕ))) (os : List (Option (DagFault (List ℕ)))) → o ≡ None → first_of (o ∷ os) ≡ first_of os
 skip o os e = ap (λ x. first_of (x ∷ os)) e
 
-tell : (o : Option DagFault) (os : List (Option DagFault)) (f : DagFault) → o ≡ Some f → first_of (o ∷ os) ≡ Some f
+tell : (o : Option (DagFault (List ℕ))) (os : List (Option (DagFault (List ℕ)))) (f : DagFault (List ℕ)) → o ≡ Some f → first_of (o ∷ os) ≡ Some f
 tell o os f e = ap (λ x. first_of (x ∷ os)) e
 
 module _ (tasks : List TaskSpec) where
@@ -128,7 +126,7 @@ module _ (tasks : List TaskSpec) where
       skip (no_task tasks) (too_many tasks ∷ duplicate tasks ∷ unknown_upstream tasks ∷ cycle tasks ∷ bad_slots tasks ∷ []) first
       ∙ skip (too_many tasks) (duplicate tasks ∷ unknown_upstream tasks ∷ cycle tasks ∷ bad_slots tasks ∷ []) second
 
-  pub tell_duplicate : no_task tasks ≡ None → too_many tasks ≡ None → (f : DagFault) → duplicate tasks ≡ Some f → fault_of tasks ≡ Some f
+  pub tell_duplicate : no_task tasks ≡ None → too_many tasks ≡ None → (f : DagFault (List ℕ)) → duplicate tasks ≡ Some f → fault_of tasks ≡ Some f
   tell_duplicate first second f e =
       from_third first second ∙ tell (duplicate tasks) (unknown_upstream tasks ∷ cycle tasks ∷ bad_slots tasks ∷ []) f e
 
@@ -137,7 +135,7 @@ module _ (tasks : List TaskSpec) where
       from_third first second
       ∙ skip (duplicate tasks) (unknown_upstream tasks ∷ cycle tasks ∷ bad_slots tasks ∷ []) (ap (option_map (λ place. fault.Duplicate (id_at tasks place))) third)
 
-  pub tell_unknown : no_task tasks ≡ None → too_many tasks ≡ None → find (is_repeated tasks) (places tasks) ≡ None → (f : DagFault) → unknown_upstream tasks ≡ Some f → fault_of tasks ≡ Some f
+  pub tell_unknown : no_task tasks ≡ None → too_many tasks ≡ None → find (is_repeated tasks) (places tasks) ≡ None → (f : DagFault (List ℕ)) → unknown_upstream tasks ≡ Some f → fault_of tasks ≡ Some f
   tell_unknown first second third f e =
       from_fourth first second third ∙ tell (unknown_upstream tasks) (cycle tasks ∷ bad_slots tasks ∷ []) f e
 
@@ -169,20 +167,20 @@ module _ (tasks : List TaskSpec) where
   pub found_below : (test : ℕ → Bool) (place : ℕ) → find test (places tasks) ≡ Some place → place < length tasks
   found_below test place e = omega (arith, (find_some test 0 (length tasks) place e).1)
 
-  pub duplicate_told : (m : Misfit) → option_map (λ p. misfit.Duplicate p) (find (is_repeated tasks) (places tasks)) ≡ Some m → (duplicate tasks ≡ Some (told tasks m)) × IsPlaced (length tasks) m
+  pub duplicate_told : (m : DagFault ℕ) → option_map (λ p. fault.Duplicate p) (find (is_repeated tasks) (places tasks)) ≡ Some m → (duplicate tasks ≡ Some (told tasks m)) × IsPlaced (length tasks) m
   duplicate_told m e = go (find (is_repeated tasks) (places tasks)) refl e
     where
-      go : (o : Option ℕ) → find (is_repeated tasks) (places tasks) ≡ o → option_map (λ p. misfit.Duplicate p) o ≡ Some m → (duplicate tasks ≡ Some (told tasks m)) × IsPlaced (length tasks) m
+      go : (o : Option ℕ) → find (is_repeated tasks) (places tasks) ≡ o → option_map (λ p. fault.Duplicate p) o ≡ Some m → (duplicate tasks ≡ Some (told tasks m)) × IsPlaced (length tasks) m
       go None is said = absurd (none-some m said)
       go (Some place) is said =
-          let P : Misfit → Type 0 = λ x. (duplicate tasks ≡ Some (told tasks x)) × IsPlaced (length tasks) x in
-          subst P (same_Some (misfit.Duplicate place) m said) (ap (option_map (λ p. fault.Duplicate (id_at tasks p))) is, found_below (is_repeated tasks) place is)
+          let P : DagFault ℕ → Type 0 = λ x. (duplicate tasks ≡ Some (told tasks x)) × IsPlaced (length tasks) x in
+          subst P (same_Some (fault.Duplicate place) m said) (ap (option_map (λ p. fault.Duplicate (id_at tasks p))) is, found_below (is_repeated tasks) place is)
 
-  pub unknown_told : (m : Misfit) → option_map (λ p. misfit.UnknownUpstream p) (find (at_place tasks (names_nobody tasks)) (places tasks)) ≡ Some m → (unknown_upstream tasks ≡ Some (told tasks m)) × IsPlaced (length tasks) m
+  pub unknown_told : (m : DagFault ℕ) → option_map (λ p. fault.UnknownUpstream p) (find (at_place tasks (names_nobody tasks)) (places tasks)) ≡ Some m → (unknown_upstream tasks ≡ Some (told tasks m)) × IsPlaced (length tasks) m
   unknown_told m e = go (find (at_place tasks (names_nobody tasks)) (places tasks)) refl e
     where
-      go : (o : Option ℕ) → find (at_place tasks (names_nobody tasks)) (places tasks) ≡ o → option_map (λ p. misfit.UnknownUpstream p) o ≡ Some m → (unknown_upstream tasks ≡ Some (told tasks m)) × IsPlaced (length tasks) m
+      go : (o : Option ℕ) → find (at_place tasks (names_nobody tasks)) (places tasks) ≡ o → option_map (λ p. fault.UnknownUpstream p) o ≡ Some m → (unknown_upstream tasks ≡ Some (told tasks m)) × IsPlaced (length tasks) m
       go None is said = absurd (none-some m said)
       go (Some place) is said =
-          let P : Misfit → Type 0 = λ x. (unknown_upstream tasks ≡ Some (told tasks x)) × IsPlaced (length tasks) x in
-          subst P (same_Some (misfit.UnknownUpstream place) m said) (ap (option_map (λ p. fault.UnknownUpstream (id_at tasks p))) is, found_below (at_place tasks (names_nobody tasks)) place is)
+          let P : DagFault ℕ → Type 0 = λ x. (unknown_upstream tasks ≡ Some (told tasks x)) × IsPlaced (length tasks) x in
+          subst P (same_Some (fault.UnknownUpstream place) m said) (ap (option_map (λ p. fault.UnknownUpstream (id_at tasks p))) is, found_below (at_place tasks (names_nobody tasks)) place is)

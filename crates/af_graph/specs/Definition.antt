@@ -40,45 +40,45 @@ abbrev pub has_bad_slots : TaskSpec → Bool
 has_bad_slots task = not (nat_le 1 task.pool_slots && nat_le task.pool_slots most_slots)
 
 -- the first task in the order of the definition at whose place the test holds is told
-abbrev pub first_task : List TaskSpec → (ℕ → Bool) → (List ℕ → DagFault) → Option DagFault
+abbrev pub first_task : List TaskSpec → (ℕ → Bool) → (List ℕ → DagFault (List ℕ)) → Option (DagFault (List ℕ))
 first_task tasks test fault = option_map (λ place. fault (id_at tasks place)) (find test (places tasks))
 
 -- the first that there is
-abbrev pub first_of : List (Option DagFault) → Option DagFault
+abbrev pub first_of : {T : Type 0} → List (Option T) → Option T
 first_of [] = None
 first_of (None ∷ others) = first_of others
 first_of (Some fault ∷ others) = Some fault
 
 -- there is no task
-abbrev pub no_task : List TaskSpec → Option DagFault
+abbrev pub no_task : List TaskSpec → Option (DagFault (List ℕ))
 no_task tasks = if length tasks == 0 then Some NoTask else None
 
 -- there are more tasks than may be
-abbrev pub too_many : List TaskSpec → Option DagFault
+abbrev pub too_many : List TaskSpec → Option (DagFault (List ℕ))
 too_many tasks = if nat_lt most_tasks (length tasks) then Some TooMany else None
 
-abbrev pub duplicate : List TaskSpec → Option DagFault
+abbrev pub duplicate : List TaskSpec → Option (DagFault (List ℕ))
 duplicate tasks = first_task tasks (is_repeated tasks) Duplicate
 
-abbrev pub unknown_upstream : List TaskSpec → Option DagFault
+abbrev pub unknown_upstream : List TaskSpec → Option (DagFault (List ℕ))
 unknown_upstream tasks = first_task tasks (at_place tasks (names_nobody tasks)) UnknownUpstream
 
-abbrev pub cycle : List TaskSpec → Option DagFault
+abbrev pub cycle : List TaskSpec → Option (DagFault (List ℕ))
 cycle tasks = first_task tasks (is_never_taken tasks) Cycle
 
-abbrev pub bad_slots : List TaskSpec → Option DagFault
+abbrev pub bad_slots : List TaskSpec → Option (DagFault (List ℕ))
 bad_slots tasks = first_task tasks (at_place tasks has_bad_slots) BadSlots
 
 -- the fault of a definition's tasks, in the order in which faults are told
-abbrev pub fault_of : List TaskSpec → Option DagFault
+abbrev pub fault_of : List TaskSpec → Option (DagFault (List ℕ))
 fault_of tasks =
     first_of (no_task tasks ∷ too_many tasks ∷ duplicate tasks ∷ unknown_upstream tasks ∷ cycle tasks ∷ bad_slots tasks ∷ [])
 
 -- the definition, unless it has a fault
-abbrev pub unless : Option DagFault → DagSpec → Result DagSpec DagFault
+abbrev pub unless : Option (DagFault (List ℕ)) → DagSpec → Result DagSpec (DagFault (List ℕ))
 unless None dag = Ok dag
 unless (Some fault) dag = Err fault
 
 -- a definition without a fault is a DAG; else its fault is told
-abbrev pub checked : DagSpec → Result DagSpec DagFault
+abbrev pub checked : DagSpec → Result DagSpec (DagFault (List ℕ))
 checked dag = unless (fault_of dag.tasks) dag

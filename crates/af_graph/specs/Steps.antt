@@ -13,8 +13,6 @@ use Rattle.af_graph.specs.declared.task_spec.TaskSpec.{TaskSpec}
 use Rattle.af_graph.specs.declared.index.Index.{Index}
 use Rattle.af_graph.specs.declared.taking.Taking.{Taking}
 use Rattle.af_graph.specs.declared.wiring.Wiring.{Wiring}
-use Rattle.af_graph.specs.declared.misfit.Misfit.{Misfit}
-use Rattle.af_graph.specs.declared.misfit.Misfit.TheVariants as misfit
 use Rattle.af_graph.specs.declared.dag_fault.DagFault.{DagFault}
 use Rattle.af_graph.specs.declared.dag_fault.DagFault.TheVariants as fault
 
@@ -30,30 +28,30 @@ IsIndexOf index tasks = (id : List ℕ) → place_in index id ≡ place_of tasks
 abbrev pub is_done : List TaskSpec → List ℕ → List ℕ → Bool
 is_done tasks taken id = option_map_or (is_among taken) (place_of tasks id) true
 
--- the fault that a misfit is told as
-abbrev pub told : List TaskSpec → Misfit → DagFault
-told tasks misfit.NoTask = fault.NoTask
-told tasks misfit.TooMany = fault.TooMany
-told tasks (misfit.Duplicate place) = fault.Duplicate (id_at tasks place)
-told tasks (misfit.UnknownUpstream place) = fault.UnknownUpstream (id_at tasks place)
-told tasks (misfit.Cycle place) = fault.Cycle (id_at tasks place)
-told tasks (misfit.BadSlots place) = fault.BadSlots (id_at tasks place)
-told tasks misfit.OutOfMemory = fault.OutOfMemory
+-- the fault, with the id of the task in the place of its place
+abbrev pub told : List TaskSpec → DagFault ℕ → DagFault (List ℕ)
+told tasks fault.NoTask = fault.NoTask
+told tasks fault.TooMany = fault.TooMany
+told tasks (fault.Duplicate place) = fault.Duplicate (id_at tasks place)
+told tasks (fault.UnknownUpstream place) = fault.UnknownUpstream (id_at tasks place)
+told tasks (fault.Cycle place) = fault.Cycle (id_at tasks place)
+told tasks (fault.BadSlots place) = fault.BadSlots (id_at tasks place)
+told tasks fault.OutOfMemory = fault.OutOfMemory
 
--- the place of a misfit is a task's
-abbrev pub IsPlaced : ℕ → Misfit → Type 0
-IsPlaced count misfit.NoTask = Unit {0}
-IsPlaced count misfit.TooMany = Unit {0}
-IsPlaced count (misfit.Duplicate place) = place < count
-IsPlaced count (misfit.UnknownUpstream place) = place < count
-IsPlaced count (misfit.Cycle place) = place < count
-IsPlaced count (misfit.BadSlots place) = place < count
-IsPlaced count misfit.OutOfMemory = Unit {0}
+-- the place that a fault names is a task's
+abbrev pub IsPlaced : ℕ → DagFault ℕ → Type 0
+IsPlaced count fault.NoTask = Unit {0}
+IsPlaced count fault.TooMany = Unit {0}
+IsPlaced count (fault.Duplicate place) = place < count
+IsPlaced count (fault.UnknownUpstream place) = place < count
+IsPlaced count (fault.Cycle place) = place < count
+IsPlaced count (fault.BadSlots place) = place < count
+IsPlaced count fault.OutOfMemory = Unit {0}
 
--- the misfit is what is told of these tasks, or a growth was refused
-abbrev pub IsTold : List TaskSpec → Misfit → Type 0
+-- the fault is what is told of these tasks, or a growth was refused
+abbrev pub IsTold : List TaskSpec → DagFault ℕ → Type 0
 IsTold tasks said =
-    (said ≡ misfit.OutOfMemory) ⊎ ((fault_of tasks ≡ Some (told tasks said)) × IsPlaced (length tasks) said)
+    (said ≡ fault.OutOfMemory) ⊎ ((fault_of tasks ≡ Some (told tasks said)) × IsPlaced (length tasks) said)
 
 -- the graph is that of these tasks
 pub record IsWiringOf (tasks : List TaskSpec) (wiring : Wiring) : Type 0 where

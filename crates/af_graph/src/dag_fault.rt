@@ -1,33 +1,45 @@
 use af_names::TaskId;
-use std::alloc::AllocError;
+use std::alloc::{AllocError, AllocFailed};
 use std::fmt;
 
-/// Why a definition makes no DAG. Where several apply, the first is told.
-#[derive(Debug, Drop, PartialEq, Eq)]
-pub enum DagFault {
+/// Why a definition makes no DAG, with the task that is told: its id, or its place where no id is at hand. Where several
+/// apply, the first is told.
+#[derive(Clone, Copy, Debug, Drop, PartialEq, Eq)]
+pub enum DagFault<T = TaskId> {
     /// The definition has no task.
     NoTask,
     /// It has more than 512 tasks.
     TooMany,
     /// An earlier task has the id of this one, the first such task.
-    Duplicate(TaskId),
+    Duplicate(T),
     /// This task, the first such one, names an upstream task that the definition doesn't have.
-    UnknownUpstream(TaskId),
+    UnknownUpstream(T),
     /// This task, the first such one, stands on a cycle of upstream tasks or below one.
-    Cycle(TaskId),
+    Cycle(T),
     /// This task, the first such one, asks for no pool slot or for more than 1,000,000.
-    BadSlots(TaskId),
+    BadSlots(T),
     /// A growth was refused.
     OutOfMemory,
 }
 
-impl From<AllocError> for DagFault {
+impl<T> From<AllocError> for DagFault<T> {
     ghost use Rattle.std.specs.Prelude.{◌≡◌};
     ghost use Rattle.af_graph.specs.declared.dag_fault.DagFault.TheVariants.{OutOfMemory};
 
     ghost from_gives = { λ _ fault. fault ≡ OutOfMemory };
 
-    fn from(_error: AllocError) -> DagFault {
+    fn from(_error: AllocError) -> DagFault<T> {
+        DagFault::OutOfMemory
+    }
+}
+
+impl<X: Drop, T> From<AllocFailed<X>> for DagFault<T> {
+    ghost use Rattle.std.specs.Prelude.{◌≡◌};
+    ghost use Rattle.af_graph.specs.declared.dag_fault.DagFault.TheVariants.{OutOfMemory};
+
+    ghost from_gives = { λ _ fault. fault ≡ OutOfMemory };
+
+    fn from(_error: AllocFailed<X>) -> DagFault<T> {
         DagFault::OutOfMemory
     }
 }

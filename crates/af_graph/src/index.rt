@@ -1,6 +1,7 @@
 ghost use Rattle.std.specs.Prelude.{◌≡◌, ◌≤◌, ◌⊎◌, Some, None, true, false, length, is_none, IfOk, IfErr, OnOk, MatchOption, ⊤};
 ghost use Rattle.std.specs.Option.{option_map};
 ghost use Rattle.std.specs.List.{find, list_any, filter_map};
+ghost use Rattle.af_graph.specs.declared.dag_fault.DagFault.TheVariants as fault;
 ghost use Rattle.af_graph.specs.Rows.{places};
 ghost use Rattle.af_graph.specs.Graph.{named_rows};
 ghost use Rattle.af_graph.specs.Definition.{is_repeated, at_place, names_nobody};
@@ -25,7 +26,7 @@ impl<'a> Index<'a> {
         requires { length tasks.now ≤ 65_536 }
         ensures index { IfOk result (λ index. IsIndexOf index tasks.now) }
         ensures ok { OnOk result (find (is_repeated tasks.now) (places tasks.now) ≡ None) }
-        ensures err { IfErr result (λ misfit. (misfit ≡ Misfit.OutOfMemory) ⊎ (option_map Misfit.Duplicate (find (is_repeated tasks.now) (places tasks.now)) ≡ Some misfit)) }
+        ensures err { IfErr result (λ misfit. (misfit ≡ fault.OutOfMemory) ⊎ (option_map fault.Duplicate (find (is_repeated tasks.now) (places tasks.now)) ≡ Some misfit)) }
     {
         let mut index = Index {
             places: BTreeMap::new(alloc),
@@ -67,7 +68,7 @@ impl<'a> Index<'a> {
         requires { IsIndexOf self.now tasks.now }
         ensures named { IfOk result (λ links. links ≡ named_rows tasks.now) }
         ensures ok { OnOk result (find (at_place tasks.now (names_nobody tasks.now)) (places tasks.now) ≡ None) }
-        ensures err { IfErr result (λ misfit. (misfit ≡ Misfit.OutOfMemory) ⊎ (option_map Misfit.UnknownUpstream (find (at_place tasks.now (names_nobody tasks.now)) (places tasks.now)) ≡ Some misfit)) }
+        ensures err { IfErr result (λ misfit. (misfit ≡ fault.OutOfMemory) ⊎ (option_map fault.UnknownUpstream (find (at_place tasks.now (names_nobody tasks.now)) (places tasks.now)) ≡ Some misfit)) }
     {
         let mut rows = Vec::with_capacity(alloc, tasks.len())?;
         for (place, task) in tasks.iter().enumerate() {

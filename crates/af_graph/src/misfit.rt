@@ -6,41 +6,9 @@ use crate::dag_fault::DagFault;
 use crate::task_spec::TaskSpec;
 use crate::task_specs::TaskSpecs;
 use af_names::TaskId;
-use std::alloc::{AllocError, AllocFailed};
 
 /// Why tasks make no graph, with the place of the task that is told.
-#[derive(Clone, Copy, Debug, PartialEq, Eq)]
-pub(crate) enum Misfit {
-    NoTask,
-    TooMany,
-    Duplicate(usize),
-    UnknownUpstream(usize),
-    Cycle(usize),
-    BadSlots(usize),
-    OutOfMemory,
-}
-
-impl From<AllocError> for Misfit {
-    ghost use Rattle.std.specs.Prelude.{◌≡◌};
-    ghost use Rattle.af_graph.specs.declared.misfit.Misfit.TheVariants.{OutOfMemory};
-
-    ghost from_gives = { λ _ misfit. misfit ≡ OutOfMemory };
-
-    fn from(_error: AllocError) -> Misfit {
-        Misfit::OutOfMemory
-    }
-}
-
-impl<T: Drop> From<AllocFailed<T>> for Misfit {
-    ghost use Rattle.std.specs.Prelude.{◌≡◌};
-    ghost use Rattle.af_graph.specs.declared.misfit.Misfit.TheVariants.{OutOfMemory};
-
-    ghost from_gives = { λ _ misfit. misfit ≡ OutOfMemory };
-
-    fn from(_error: AllocFailed<T>) -> Misfit {
-        Misfit::OutOfMemory
-    }
-}
+pub(crate) type Misfit = DagFault<usize>;
 
 impl Misfit {
     /// The fault, with the task's id for its place.

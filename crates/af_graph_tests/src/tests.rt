@@ -65,7 +65,7 @@ fn defined(alloc: Global, tasks: Vec<TaskSpec>) -> Result<DagSpec, Fail> {
 fn told(alloc: Global, spec: DagSpec) -> Result<Option<DagFault>, Fail> {
     match Dag::new(alloc, spec) {
         Ok(_) => Ok(None),
-        Err(DagFault::OutOfMemory) => Err(DagFault::OutOfMemory.into()),
+        Err(fault) if matches!(fault, DagFault::OutOfMemory) => Err(fault.into()),
         Err(fault) => Ok(Some(fault)),
     }
 }

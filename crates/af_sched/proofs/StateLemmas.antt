@@ -76,7 +76,7 @@ dag_kept dags row place dag_id n absent is =
     (λ (other : is_of_id dag_id row ≡ false). rw (find-inserted (is_of_id dag_id) dags row place other) is)
     (cases_Bool (is_of_id dag_id row))
 
-no_fault : (o : Option DagFault) (dag : DagSpec) → unless o dag ≡ Ok dag → o ≡ None
+no_fault : (o : Option (DagFault (List ℕ))) (dag : DagSpec) → unless o dag ≡ Ok dag → o ≡ None
 no_fault None dag is = refl
 no_fault (Some fault) dag is = absurd (cc)
 

@@ -73,7 +73,7 @@ spec_of dag_id settings read = record {
   max_active_runs = settings.max_active_runs;
 }
 
-abbrev pub graph_or : Result DagSpec DagFault → Result DagSpec Reason
+abbrev pub graph_or : Result DagSpec (DagFault (List ℕ)) → Result DagSpec Reason
 graph_or (Ok dag) = Ok dag
 graph_or (Err fault) = Err (graph_reason fault)
 

@@ -4,6 +4,7 @@ use Rattle.std.specs.Prelude.{codes, true, if◌then◌else◌, Result, Ok, Err}
 use Rattle.serde_json.specs.Data.{Data}
 use Rattle.af_names.specs.Names.{row_name_grammar}
 use Rattle.af_graph.specs.Graph.{same_name}
+use Rattle.af_graph.specs.Limits.{most_slots}
 use Rattle.af_pool.specs.Pools.{add_fault, default_name, set_fault, with_pool, with_slots}
 use Rattle.af_pool.specs.declared.pool.Pool.{Pool}
 use Rattle.af_base.specs.Readings.{◌>>=◌}
@@ -16,7 +17,7 @@ use Rattle.af_server.specs.Reasons.{pool_reason}
 abbrev pub pool_in : Data → Result Pool Reason
 pool_in row = do
   name ← name_in row_name_grammar (codes "name") row
-  slots ← required_number_in (codes "slots") 0 1_000_000 row
+  slots ← required_number_in (codes "slots") 0 most_slots row
   Ok (record { name = name; slots = slots })
 
 -- the pools with one more, in its place by name

@@ -53,7 +53,7 @@ pool_reason pool.Full = Limit
 pool_reason pool.OutOfMemory = Memory
 
 -- tasks that make no DAG
-abbrev pub graph_reason : DagFault → Reason
+abbrev pub graph_reason : DagFault (List ℕ) → Reason
 graph_reason dag.NoTask = Graph
 graph_reason dag.TooMany = Graph
 graph_reason (dag.Duplicate task) = Graph

@@ -11,14 +11,13 @@ use super::draft::StateDraft;
 use crate::members::{name, number};
 use crate::reason::Reason;
 use af_base::Json;
+use af_graph::MOST_SLOTS;
 use af_names::PoolName;
+use af_pool::DEFAULT_POOL;
 use std::alloc::Global;
 
-/// The name of the pool that is always there.
-pub const DEFAULT_POOL: &str = "default_pool";
-
 /// The least and the most slots.
-const SLOTS: (u32, u32) = (0, 1_000_000);
+const SLOTS: (u32, u32) = (0, MOST_SLOTS as u32);
 
 /// Adds the pool of a row. The default pool may come once, and then it has these slots.
 pub fn add_pool(alloc: Global, draft: &mut StateDraft, row: &Json<'_>) -> Result<(), Reason>

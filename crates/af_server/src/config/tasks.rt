@@ -7,7 +7,6 @@ ghost use Rattle.af_base.specs.Readings.{OrMemory, Makes, member_of, seen};
 ghost use Rattle.af_server.specs.declared.reason.Reason.{Reason};
 ghost use Rattle.af_server.specs.Tasks.{numbers_in, pool_text_in, slots_of, slots_or, task_in, task_pool_in, task_taken, tasks_in};
 
-use super::pools::DEFAULT_POOL;
 use super::rules::read_rule;
 use super::scripts::add_script;
 use super::upstream::read_upstream;
@@ -16,7 +15,7 @@ use crate::reason::Reason;
 use af_base::{Json, is_there, member, optional_text};
 use af_graph::TaskSpec;
 use af_names::{DagId, PoolName};
-use af_pool::Pool;
+use af_pool::{DEFAULT_POOL, Pool};
 use af_sched::Script;
 use std::alloc::Global;
 use std::marker::Model;

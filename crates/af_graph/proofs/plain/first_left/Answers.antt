@@ -1,4 +1,4 @@
-use Rattle.std.proofs.Common.{◌≡◌, ℕ, true, not, length, sym, ap, ◌∙◌, arith}
+use Rattle.std.proofs.Common.{◌≡◌, ℕ, true, not, length, sym, arith}
 use Rattle.af_graph.specs.Rows.{is_among}
 use Rattle.af_graph.proofs.PlaceLemmas.{find_first, find_none}
 use Rattle.af_graph.proofs.plain.first_left.Goals as goal

@@ -1,4 +1,4 @@
-use Rattle.std.proofs.Common.{◌≡◌, ◌+◌, ℕ, List, length, take, not, sym, ap, ◌∙◌, arith}
+use Rattle.std.proofs.Common.{◌≡◌, ℕ, List, length, not, sym, ap, ◌∙◌, arith}
 use Rattle.std.specs.List.{find}
 use Rattle.af_graph.specs.Rows.{places, is_among}
 use Rattle.af_graph.specs.Graph.{upstream_rows}

@@ -1,8 +1,7 @@
-use Rattle.std.proofs.Common.{◌≡◌, false, not, sym, ap, ◌∙◌, arith}
+use Rattle.std.proofs.Common.{◌≡◌, false, ap, ◌∙◌, arith}
 use Rattle.std.specs.List.{list_all}
 use Rattle.af_graph.specs.Rows.{is_among}
 use Rattle.af_graph.specs.Steps.{is_done}
-use Rattle.af_graph.specs.declared.task_spec.TaskSpec.{TaskSpec}
 use Rattle.af_graph.proofs.PlainLemmas.{free_plain}
 use Rattle.af_graph.proofs.plain.is_free.Goals as goal
 

@@ -1,5 +1,4 @@
-use Rattle.std.proofs.Common.{ℕ, length, sym, ap, ◌∙◌, arith}
-use Rattle.std.specs.List.{find, range_with_len}
+use Rattle.std.proofs.Common.{length, sym, ◌∙◌, arith}
 use Rattle.af_graph.specs.Graph.{upstream_rows}
 use Rattle.af_graph.specs.Order.{is_free}
 use Rattle.af_graph.proofs.PlaceLemmas.{find_first, find_none}

@@ -8,7 +8,7 @@ use Rattle.std.proofs.lemmas.Option.{slice_get-get_or, MatchOption-at_some}
 use Rattle.af_graph.specs.Graph.{place_of}
 use Rattle.af_graph.specs.Definition.{at_place, names_nobody, is_nobody}
 use Rattle.af_graph.specs.Steps.{place_in}
-use Rattle.af_graph.specs.declared.misfit.Misfit.TheVariants.{UnknownUpstream}
+use Rattle.af_graph.specs.declared.dag_fault.DagFault.TheVariants.{UnknownUpstream}
 use Rattle.af_graph.specs.declared.task_spec.TaskSpec.{TaskSpec}
 use Rattle.af_graph.proofs.PlaceLemmas.{find_first, find_none}
 use Rattle.af_graph.proofs.index.Index.named.Goals as goal

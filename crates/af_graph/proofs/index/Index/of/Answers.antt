@@ -9,7 +9,7 @@ use Rattle.std.proofs.lemmas.Option.{slice_get-get_or}
 use Rattle.std.proofs.lemmas.Map.Text.{btree_map_updates_str}
 use Rattle.af_graph.specs.Graph.{place_of}
 use Rattle.af_graph.specs.Definition.{is_repeated, id_at}
-use Rattle.af_graph.specs.declared.misfit.Misfit.TheVariants.{Duplicate}
+use Rattle.af_graph.specs.declared.dag_fault.DagFault.TheVariants.{Duplicate}
 use Rattle.af_graph.specs.declared.task_spec.TaskSpec.{TaskSpec}
 use Rattle.af_graph.proofs.PlaceLemmas.{find_first, find_none}
 use Rattle.af_graph.proofs.IndexLemmas.{place_of_push}
