@@ -1,3 +1,4 @@
+pub mod FrontLemmas
 pub mod OrderLemmas
 pub mod FoundLemmas
 pub mod ShapeLemmas
@@ -16,3 +17,4 @@ pub mod ShownLemmas
 pub mod LawLemmas
 pub mod PermissionLemmas
 pub mod TouchLemmas
+pub mod StandLemmas

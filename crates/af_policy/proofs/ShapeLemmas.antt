@@ -1,11 +1,8 @@
 -- What a node has is what its two sides have, with its row between them.
-use Rattle.std.proofs.Common.{◌≡◌, ℕ, Bool, ◌||◌, List, [], ◌∷◌, ◌++◌, Some, None, Global, refl, sym, ap, subst, ◌∙◌}
+use Rattle.std.proofs.Common.{◌≡◌, ℕ, List, [], ◌∷◌, ◌++◌, Some, None, Global, refl, sym, ap, subst, ◌∙◌}
 use Rattle.std.proofs.lemmas.List.{append_assoc}
-use Rattle.std.specs.List.{list_any}
-use Rattle.std.proofs.lemmas.List.Folds.{list_any-append}
 use Rattle.std.specs.Ordering.{nat_cmp}
 use Rattle.std.specs.Cmp.Lexicographic.{slice_cmp}
-use Rattle.std.specs.declared.cmp.Ordering.{Ordering}
 use Rattle.std.specs.declared.cmp.Ordering.TheVariants.{Less, Equal, Greater}
 use Rattle.af_policy.specs.SharedRows.{Ascend, found, with_row, without}
 use Rattle.af_policy.proofs.OrderLemmas.{Stands, stands, found_left, found_here, found_right, with_left, with_here, with_right, without_left, without_here, without_right}
@@ -47,14 +44,6 @@ module _ {T : Type 0} (n m : Node T) (arc : Arc (Node T) Global) where
 
 pub first_of_none : {T : Type 0} (n : Node T) → (out-Node T n).left ≡ None → (out-Node T n).row ∷ link_rows (out-Node T n).right ≡ rows n
 first_of_none {T} n is = ap (λ l. link_rows l ++ (out-Node T n).row ∷ link_rows (out-Node T n).right) (sym is) ∙ rows_of_node T n
-
--- a test of some row of a node
-pub some_of_node : {T : Type 0} (p : T → Bool) (n : Node T) → (list_any p (link_rows (out-Node T n).left) || (p ((out-Node T n).row) || list_any p (link_rows (out-Node T n).right))) ≡ list_any p (rows n)
-some_of_node {T} p n = sym (list_any-append p (link_rows (out-Node T n).left) ((out-Node T n).row ∷ link_rows (out-Node T n).right)) ∙ ap (list_any p) (rows_of_node T n)
-
--- what a comparison of two texts told
-pub told : (x y a b : List ℕ) (o : Ordering) → a ≡ x → b ≡ y → o ≡ slice_cmp nat_cmp a b → slice_cmp nat_cmp x y ≡ o
-told x y a b o p q e = (λ i. slice_cmp nat_cmp (sym p i) (sym q i)) ∙ sym e
 
 module _ {T : Type 0} (key : T → List ℕ) (n : Node T) (s : Ascend key (rows n)) where
   split : Stands key (link_rows (out-Node T n).left) (out-Node T n).row (link_rows (out-Node T n).right)

@@ -1,5 +1,5 @@
 -- What a change leaves as it is, and who may make it.
-use Rattle.std.proofs.Common.{◌≡◌, ℕ, List, [], false, not, ◌||◌, nat_le, cond, length, Option, Some, None, Result, Ok, Err, refl, sym, ap, ◌∙◌}
+use Rattle.std.proofs.Common.{◌≡◌, ℕ, List, [], false, not, ◌||◌, nat_le, cond, length, Option, Some, None, Result, Ok, Err, refl, sym, ap, subst, ◌∙◌}
 use Rattle.std.specs.Cmp.Lexicographic.{bytes_decides, nat_list_eq_equiv}
 use Rattle.sha2.specs.Sha256.{sha256}
 use Rattle.af_role.specs.declared.need.Need.{Need}
@@ -19,11 +19,10 @@ use Rattle.af_policy.specs.Tables.{found_role}
 use Rattle.af_policy.specs.Identity.{bearer_of, digest_user}
 use Rattle.af_policy.specs.Grants.{missing}
 use Rattle.af_policy.specs.Versions.{asked_by, asked_kind, unless_lacked}
-use Rattle.af_policy.specs.Laws.{DefaultRolesStay, LackDecides, NothingIsDoubled, OneRoleIsTouched, OneUserIsTouched, RemovedTokenIsNobodys}
+use Rattle.af_policy.specs.Laws.{DefaultRolesStay, LackDecides, OneRoleIsTouched, OneUserIsTouched, RemovedTokenIsNobodys}
 use Rattle.af_policy.proofs.FoundLemmas.{found_with, found_without}
 use Rattle.af_policy.proofs.LawLemmas.{okay, unless}
 use Rattle.af_policy.proofs.RemovalLemmas.{digest_user-without_user}
-use Rattle.af_policy.proofs.UserLemmas.{or-false_left, or-false_right}
 
 -- ---- another user
 
@@ -81,19 +80,33 @@ one_user-touched policy later (DropUser gone) name other is apart e =
 -- ---- another role
 
 module _ (policy later : PolicyRows) where
-  added : (name : List ℕ) (read : Result (List PairRow) PairFault) → after_pairs read (role_added policy name) ≡ Ok later → (has_role policy.roles name ≡ false) × ((pairs : List PairRow) × (okay (record { users = policy.users; roles = with_role policy.roles (record { name = name; pairs = pairs }) }) ≡ Ok later))
+  pub added : (name : List ℕ) (read : Result (List PairRow) PairFault) → after_pairs read (role_added policy name) ≡ Ok later → (has_role policy.roles name ≡ false) × ((pairs : List PairRow) × (okay (record { users = policy.users; roles = with_role policy.roles (record { name = name; pairs = pairs }) }) ≡ Ok later))
   added name (Err fault) e = cc
   added name (Ok pairs) e =
       let free = unless (has_role policy.roles name) Exists (cond (nat_le most_roles (length policy.roles)) (Err TooMany) (Ok (record { users = policy.users; roles = with_role policy.roles (record { name = name; pairs = pairs }) }))) later e
       in let room = unless (nat_le most_roles (length policy.roles)) TooMany (Ok (record { users = policy.users; roles = with_role policy.roles (record { name = name; pairs = pairs }) })) later free.1
       in (free.0, (pairs, room.1))
 
-  is_set : (name : List ℕ) (read : Result (List PairRow) PairFault) → after_pairs read (role_set policy name) ≡ Ok later → (is_default name ≡ false) × ((pairs : List PairRow) × (okay (record { users = policy.users; roles = with_role policy.roles (record { name = name; pairs = pairs }) }) ≡ Ok later))
+  pub is_set : (name : List ℕ) (read : Result (List PairRow) PairFault) → after_pairs read (role_set policy name) ≡ Ok later → (is_default name ≡ false) × ((pairs : List PairRow) × (okay (record { users = policy.users; roles = with_role policy.roles (record { name = name; pairs = pairs }) }) ≡ Ok later))
   is_set name (Err fault) e = cc
   is_set name (Ok pairs) e =
       let there = unless (not (has_role policy.roles name)) NoSuchRole (cond (is_default name) (Err DefaultRole) (Ok (record { users = policy.users; roles = with_role policy.roles (record { name = name; pairs = pairs }) }))) later e
       in let own = unless (is_default name) DefaultRole (Ok (record { users = policy.users; roles = with_role policy.roles (record { name = name; pairs = pairs }) })) later there.1
       in (own.0, (pairs, own.1))
+
+  pub added_of : (name : List ℕ) (pairs : List PairRow) (read : Result (List PairRow) PairFault) → read ≡ Ok pairs → after_pairs read (role_added policy name) ≡ Ok later → okay (record { users = policy.users; roles = with_role policy.roles (record { name = name; pairs = pairs }) }) ≡ Ok later
+  unfolding added
+  added_of name pairs (Err fault) is e = cc
+  added_of name pairs (Ok others) is e =
+      let same : others ≡ pairs = cc
+      in subst (λ own. okay (record { users = policy.users; roles = with_role policy.roles (record { name = name; pairs = own }) }) ≡ Ok later) same (added name (Ok others) e).1.1
+
+  pub set_of : (name : List ℕ) (pairs : List PairRow) (read : Result (List PairRow) PairFault) → read ≡ Ok pairs → after_pairs read (role_set policy name) ≡ Ok later → okay (record { users = policy.users; roles = with_role policy.roles (record { name = name; pairs = pairs }) }) ≡ Ok later
+  unfolding is_set
+  set_of name pairs (Err fault) is e = cc
+  set_of name pairs (Ok others) is e =
+      let same : others ≡ pairs = cc
+      in subst (λ own. okay (record { users = policy.users; roles = with_role policy.roles (record { name = name; pairs = own }) }) ≡ Ok later) same (is_set name (Ok others) e).1.1
 
   roles_to : (other : List ℕ) (roles : List RoleRow) → found_role roles other ≡ found_role policy.roles other → okay (record { users = policy.users; roles = roles }) ≡ Ok later → (later.users ≡ policy.users) × (found_role later.roles other ≡ found_role policy.roles other)
   roles_to other roles same e =
@@ -135,18 +148,10 @@ one_role-touched policy later (DropRole gone) name other is apart e =
 pub default_roles-stay : DefaultRolesStay
 default_roles-stay policy later input e = (is_set policy later input.name (pairs_read input.actions) e).0
 
-new_one : (policy later : PolicyRows) (user : UserRow) (unknown : Option (List ℕ)) → unless_unknown unknown (new_user policy user) ≡ Ok later → (has_user policy.users user.name || has_digest policy.users user.digest) ≡ false
+pub new_one : (policy later : PolicyRows) (user : UserRow) (unknown : Option (List ℕ)) → unless_unknown unknown (new_user policy user) ≡ Ok later → (has_user policy.users user.name || has_digest policy.users user.digest) ≡ false
 new_one policy later user (Some name) e = cc
 new_one policy later user None e =
     (unless (has_user policy.users user.name || has_digest policy.users user.digest) Exists (cond (nat_le most_users (length policy.users)) (Err TooMany) (Ok (record { users = with_user policy.users user; roles = policy.roles }))) later e).0
-
-pub nothing-doubled : NothingIsDoubled
-nothing-doubled = (
-  λ policy later input e. (added policy later input.name (pairs_read input.actions) e).0,
-  λ policy later user e.
-      let free = new_one policy later user (unknown_role policy.roles user.roles) e
-      in (or-false_left (has_user policy.users user.name) (has_digest policy.users user.digest) free, or-false_right (has_user policy.users user.name) (has_digest policy.users user.digest) free),
-)
 
 pub removed_token-nobodys : RemovedTokenIsNobodys
 removed_token-nobodys policy later name token user is found hashed e =

@@ -1,11 +1,13 @@
 -- How often a role is counted after a change, and how often users name it.
-use Rattle.std.proofs.Common.{◌≡◌, ℕ, ◌+◌, ◌-◌, ◌<◌, length, take, get_or, List, [], ◌∷◌, Bool, true, false, not, ◌&&◌, ◌||◌, cond, Some, None, refl, sym, ap, ◌∙◌, eqb, arith}
+use Rattle.std.proofs.Common.{◌≡◌, ℕ, ◌+◌, ◌-◌, ◌<◌, length, take, get_or, List, [], ◌∷◌, Bool, true, false, not, ◌&&◌, ◌||◌, cond, Some, None, refl, sym, ap, ◌∙◌, eqb, map, unwrap_or, arith}
 use Rattle.std.specs.List.{find, list_all, list_any}
 use Rattle.std.specs.Option.{option_map_or}
 use Rattle.std.specs.Ordering.{nat_cmp, match_ordering}
 use Rattle.std.specs.declared.cmp.Ordering.{Ordering}
 use Rattle.std.specs.declared.cmp.Ordering.TheVariants.{Less, Equal, Greater}
-use Rattle.std.specs.Cmp.Lexicographic.{slice_cmp, bytes_decides, nat_list_eq_equiv}
+use Rattle.std.specs.Cmp.Lexicographic.{slice_cmp, bytes_decides, nat_list_eq_equiv, texts_ties}
+use Rattle.std.specs.BTreeMap.{BTreeMap, get, is_at}
+use Rattle.std.specs.Map.{keys_of, lookup}
 use Rattle.std.proofs.lemmas.List.Sums.{sum_by-cons, sum_by-append}
 use Rattle.std.proofs.lemmas.List.Folds.{sum_by-zero}
 use Rattle.std.proofs.lemmas.Bool.Decides.{Decides-eqb}
@@ -13,7 +15,7 @@ use Rattle.std.specs.Cmp.{both_ways}
 use Rattle.std.proofs.lemmas.Map.Keys.{sorted_tail}
 use Rattle.af_role.proofs.AccessLemmas.{take_more}
 use Rattle.af_policy.specs.Rows.{NamesAscend, UserRow, found_user, has_user, role_in_use, same_name, user_names, with_user, without_user}
-use Rattle.af_policy.specs.Uses.{UseRow, count_at, mentions, uses_in}
+use Rattle.af_policy.specs.Uses.{UseRow, count_at, count_in, mentions, use_rows, uses_in}
 use Rattle.af_policy.proofs.NameLemmas.{fresh, is_some-find}
 use Rattle.af_policy.proofs.FoundLemmas.{found_with, found_without}
 use Rattle.af_policy.proofs.OrderLemmas.{none_from, none_without}
@@ -63,6 +65,34 @@ count_removed g uses made gone name out is counts other =
     ∙ (λ i. cond (same_name other (is i)) (counts i) (count_at uses other))
     ∙ at_same (count_at uses) other name (count_at uses other) g
 
+-- one more counted at a name of a map
+pub counted_in : (counts made : BTreeMap (List ℕ) ℕ) (name other : List ℕ) (more : ℕ) → ((q : List ℕ) → get (slice_cmp nat_cmp) made q ≡ cond (is_at (slice_cmp nat_cmp name) q) (Some more) (get (slice_cmp nat_cmp) counts q)) → more ≡ count_in counts name + 1 → count_in made other ≡ cond (same_name other name) (count_in counts other + 1) (count_in counts other)
+counted_in counts made name other more put is =
+    ap (λ o. unwrap_or o 0) (put other)
+    ∙ ap (λ b. unwrap_or (cond b (Some more) (get (slice_cmp nat_cmp) counts other)) 0) (sym (texts_ties name other) ∙ nat_list_eq_equiv.symm name other)
+    ∙ step (same_name other name)
+    ∙ (λ i. cond (same_name other name) (is i) (count_in counts other))
+    ∙ at_same (count_in counts) other name (count_in counts other) (λ n. n + 1)
+  where
+    step : (b : Bool) → unwrap_or (cond b (Some more) (get (slice_cmp nat_cmp) counts other)) 0 ≡ cond b more (count_in counts other)
+    step true = refl
+    step false = refl
+
+-- the rows of a map of counts have its names and its counts
+pub names_of-use_rows : (es : List (List ℕ × ℕ)) → map (λ (row : UseRow). row.name) (use_rows es) ≡ keys_of es
+names_of-use_rows [] = refl
+names_of-use_rows (e ∷ es) = ap (λ names. e.0 ∷ names) (names_of-use_rows es)
+
+pub count_at-use_rows : (name : List ℕ) (es : List (List ℕ × ℕ)) → count_at (use_rows es) name ≡ unwrap_or (lookup (is_at (slice_cmp nat_cmp name)) es) 0
+count_at-use_rows name [] = refl
+count_at-use_rows name (e ∷ es) =
+    step (same_name name e.0) (count_at-use_rows name es)
+    ∙ ap (λ b. unwrap_or (cond b (Some e.1) (lookup (is_at (slice_cmp nat_cmp name)) es)) 0) (texts_ties name e.0)
+  where
+    step : (b : Bool) → count_at (use_rows es) name ≡ unwrap_or (lookup (is_at (slice_cmp nat_cmp name)) es) 0 → option_map_or (λ (entry : UseRow). entry.count) (cond b (Some (record { name = e.0; count = e.1 })) (find (λ (entry : UseRow). same_name name entry.name) (use_rows es))) 0 ≡ unwrap_or (cond b (Some e.1) (lookup (is_at (slice_cmp nat_cmp name)) es)) 0
+    step true later = refl
+    step false later = later
+
 -- one name more among these
 uses_in-more : (names : List (List ℕ)) (i : ℕ) (name other : List ℕ) → name ≡ get_or names i name → i < length names → uses_in (take (i + 1) names) other ≡ uses_in (take i names) other + cond (same_name other name) 1 0
 uses_in-more names i name other is below =
@@ -85,6 +115,15 @@ counted_less names i name other start now after is below so then_after =
     step : (b : Bool) → cond b (now - 1) now ≡ start - (uses_in (take i names) other + cond b 1 0)
     step true = omega (arith, so)
     step false = omega (arith, so)
+
+-- one user more among these
+pub mentions_more : (users : List UserRow) (i : ℕ) (user : UserRow) (role : List ℕ) (now after : ℕ) → user ≡ get_or users i user → i < length users → now ≡ mentions (take i users) role → after ≡ now + uses_in user.roles role → after ≡ mentions (take (i + 1) users) role
+mentions_more users i user role now after is below so then_after =
+    then_after
+    ∙ (λ j. so j + uses_in user.roles role)
+    ∙ sym (ap (λ some. mentions some role) (take_more users i user is below)
+    ∙ sum_by-append (λ one. uses_in one.roles role) (take i users) (user ∷ [])
+    ∙ ap (λ n. mentions (take i users) role + n) (sum_by-cons (λ one. uses_in one.roles role) user [] ∙ omega arith))
 
 -- a user more
 pub mentions-with_user : (row : UserRow) (name : List ℕ) (users : List UserRow) → has_user users row.name ≡ false → mentions (with_user users row) name ≡ mentions users name + uses_in row.roles name

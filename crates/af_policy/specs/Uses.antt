@@ -1,7 +1,10 @@
 -- How often the users of a policy name a role.
-use Rattle.std.specs.Prelude.{◌≡◌, ℕ, List, true, sum_by, count_by}
+use Rattle.std.specs.Prelude.{◌≡◌, ℕ, List, true, sum_by, count_by, map, unwrap_or}
 use Rattle.std.specs.List.{find}
 use Rattle.std.specs.Option.{option_map_or}
+use Rattle.std.specs.Ordering.{nat_cmp}
+use Rattle.std.specs.Cmp.Lexicographic.{slice_cmp}
+use Rattle.std.specs.BTreeMap.{BTreeMap, get}
 use Rattle.af_role.specs.Roles.{RoleRow}
 use Rattle.af_policy.specs.Rows.{UserRow, roles_exist, same_name}
 
@@ -12,6 +15,14 @@ pub record UseRow : Type 0 where
 -- how often a name is counted
 abbrev pub count_at : List UseRow → List ℕ → ℕ
 count_at uses name = option_map_or (λ entry. entry.count) (find (λ entry. same_name name entry.name) uses) 0
+
+-- how often a name is counted in a map of counts
+abbrev pub count_in : BTreeMap (List ℕ) ℕ → List ℕ → ℕ
+count_in counts name = unwrap_or (get (slice_cmp nat_cmp) counts name) 0
+
+-- the counts of such a map as rows
+abbrev pub use_rows : List (List ℕ × ℕ) → List UseRow
+use_rows entries = map (λ e. record { name = e.0; count = e.1 }) entries
 
 -- how often a name stands among these
 abbrev pub uses_in : List (List ℕ) → List ℕ → ℕ

@@ -6,13 +6,16 @@ mod bad_input;
 mod change;
 mod change_fault;
 mod change_kind;
+mod change_reply;
 mod changing;
 mod draft;
 mod finish_fault;
+mod fronted;
 mod identity;
 mod laws;
 mod me;
 mod me_fault;
+mod mentions;
 mod page;
 mod policy;
 mod policy_read;
@@ -21,6 +24,7 @@ mod read_fault;
 mod read_kind;
 mod reader;
 mod reading;
+mod replying;
 mod role_names;
 mod role_rows;
 mod role_shown;
@@ -47,13 +51,15 @@ pub use bad_input::{BadInput, Member, Parameter};
 pub use change::{Change, DagAccess, RoleInput, UserPatch};
 pub use change_fault::ChangeFault;
 pub use change_kind::ChangeKind;
+pub use change_reply::ChangeReply;
 pub use draft::PolicyDraft;
 pub use finish_fault::FinishFault;
 pub use laws::{
-    default_roles_stay, grants_by_roles, lack_decides, me_shows_grants, nothing_is_doubled,
-    one_role_is_touched, one_user_is_touched, only_users_are_granted, removed_token_is_nobodys,
-    some_admin_stays, sync_adds_nothing_elsewhere, sync_is_exact, sync_keeps_the_rest,
-    sync_lists_exactly, used_roles_stay,
+    changes_are_told, default_roles_stay, grants_by_roles, lack_decides, me_shows_grants,
+    named_row_stands, nothing_is_doubled, one_role_is_touched, one_user_is_touched,
+    only_users_are_granted, removed_token_is_nobodys, some_admin_stays,
+    sync_adds_nothing_elsewhere, sync_is_exact, sync_keeps_the_rest, sync_lists_exactly,
+    used_roles_stay,
 };
 pub use me::Me;
 pub use me_fault::MeFault;
@@ -67,7 +73,7 @@ pub use reader::Reader;
 pub use role_names::RoleNames;
 pub use role_shown::RoleShown;
 pub use row_fault::RowFault;
-pub use shared::{Row, Table};
+pub use shared::{Row, Table, front};
 pub use span::Span;
 pub use submit_fault::SubmitFault;
 pub use told::Told;

@@ -1,32 +1,40 @@
 ghost use Rattle.std.specs.Prelude.{◌≡◌};
 ghost use Rattle.std.specs.Arc.{arc_value};
 
-use crate::shared::Row;
+use crate::shared::{Row, front};
 use af_role::{Permissions, Role};
 use std::alloc::AllocError;
 use std::marker::Model;
 use std::sync::Arc;
 
-/// A role, found by name. Contracts see it as the role.
+/// A role, found by name, whose front stands beside it. Contracts see it as the role.
 #[derive(Drop)]
 pub(crate) struct RoleByName {
+    front: u64,
     role: Arc<Role>,
 }
 
 impl Model for RoleByName {
+    ghost use Rattle.std.specs.Prelude.{◌≡◌};
     ghost use Rattle.std.specs.Arc.{arc_value};
+    ghost use Rattle.af_policy.specs.Fronts.{front_of};
     ghost use Rattle.af_role.specs.Roles.{RoleRow};
 
     ghost Value = { RoleRow };
 
     ghost view = { λ row. arc_value row.role };
+
+    ghost invariant = { λ row. row.front ≡ front_of (arc_value row.role).name };
 }
 
 impl RoleByName {
     pub(crate) fn new(role: Arc<Role>) -> RoleByName
         ensures { result ≡ arc_value role }
     {
-        RoleByName { role }
+        RoleByName {
+            front: front(role.name().as_str().as_bytes()),
+            role,
+        }
     }
 
     /// The role.
@@ -51,8 +59,15 @@ impl Row for RoleByName {
         self.role.name().as_str().as_bytes()
     }
 
+    fn front(&self) -> u64 {
+        self.front
+    }
+
     fn copied(&self) -> Result<RoleByName, AllocError> {
         let role = Arc::try_clone(&self.role)?;
-        Ok(RoleByName { role })
+        Ok(RoleByName {
+            front: self.front,
+            role,
+        })
     }
 }

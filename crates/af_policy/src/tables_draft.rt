@@ -5,29 +5,26 @@ use crate::User;
 use crate::role_table::RoleTable;
 use crate::tables::Tables;
 use crate::user_draft::UserDraft;
-use crate::uses::Uses;
 use af_role::Role;
 use std::alloc::{AllocError, Global};
 use std::marker::Model;
 
-/// The tables of a policy that is put together: its users, its roles, and how often the users name each role. Contracts see
-/// them as the rows of users and roles.
+/// The tables of a policy that is put together: its users and its roles. Contracts see them as the rows of users and roles.
 #[derive(Drop)]
 pub(crate) struct TablesDraft {
     pub(crate) users: UserDraft,
     pub(crate) roles: RoleTable,
-    uses: Uses,
 }
 
 impl Model for TablesDraft {
-    ghost use Rattle.af_policy.specs.Rows.{PolicyRows};
-    ghost use Rattle.af_policy.specs.Uses.{IsTables};
+    ghost use Rattle.std.specs.Prelude.{◌≡◌, true};
+    ghost use Rattle.af_policy.specs.Rows.{PolicyRows, roles_exist};
 
     ghost Value = { PolicyRows };
 
     ghost view = { λ tables. record { users = tables.users; roles = tables.roles } };
 
-    ghost invariant = { λ tables. IsTables tables.users tables.roles tables.uses };
+    ghost invariant = { λ tables. roles_exist (record { users = tables.users; roles = tables.roles }) ≡ true };
 }
 
 impl TablesDraft {
@@ -38,7 +35,6 @@ impl TablesDraft {
         TablesDraft {
             users: UserDraft::new(alloc),
             roles,
-            uses: Uses::new(),
         }
     }
 
@@ -59,10 +55,7 @@ impl TablesDraft {
         ensures ok { OnOk result (self.new ≡ record self.old { users = with_user self.old.users user }) }
         ensures err { OnErr result (self.new ≡ self.old) }
     {
-        let mut uses = self.uses.copied()?;
-        uses.add_all(alloc, user.roles())?;
         self.users.insert(alloc, user)?;
-        self.uses = uses;
         Ok(())
     }
 
@@ -70,15 +63,15 @@ impl TablesDraft {
     pub(crate) fn has_admin(&self) -> bool
         ensures { result ≡ has_admin self.now.users }
     {
-        self.uses.count("Admin") != 0
+        self.users.has_admin()
     }
 
     /// The tables of these rows.
     pub(crate) fn finish(self, alloc: Global) -> Result<Tables, AllocError>
         ensures { IfOk result (λ tables. tables ≡ self) }
     {
-        let TablesDraft { users, roles, uses } = self;
-        let users = users.finish(alloc)?;
+        let TablesDraft { users, roles } = self;
+        let (users, uses) = users.finish(alloc)?;
         Ok(Tables::of_parts(users, roles, uses))
     }
 }

@@ -1,11 +1,15 @@
-ghost use Rattle.std.specs.Prelude.{◌≡◌, [], false, length, IfOk, OnOk, OnErr};
+ghost use Rattle.std.specs.Prelude.{◌≡◌, List, ℕ, [], false, length, IfOk, OnOk, OnErr};
 ghost use Rattle.std.specs.BTreeMap.{IsOrdered, values};
-ghost use Rattle.af_policy.specs.Rows.{has_digest, has_user, with_user};
+ghost use Rattle.af_policy.specs.Rows.{has_admin, has_digest, has_user, with_user};
+ghost use Rattle.af_policy.specs.Uses.{count_at, mentions};
 
 use crate::User;
+use crate::fronted::Fronted;
+use crate::mentions::mentions_of;
 use crate::shared::Row;
 use crate::user_rows::{ByDigest, ByName};
 use crate::user_table::UserTable;
+use crate::uses::Uses;
 use af_names::UserName;
 use std::alloc::{AllocError, Global};
 use std::collections::BTreeMap;
@@ -16,8 +20,8 @@ use std::sync::Arc;
 /// become a table, which looks at each once. Contracts see it as the users' rows, in byte order of their names.
 #[derive(Drop)]
 pub(crate) struct UserDraft {
-    by_name: BTreeMap<UserName, ByName>,
-    by_digest: BTreeMap<[u8; 32], ByDigest>,
+    by_name: BTreeMap<Fronted<UserName>, ByName>,
+    by_digest: BTreeMap<Fronted<[u8; 32]>, ByDigest>,
 }
 
 impl Model for UserDraft {
@@ -51,11 +55,12 @@ impl UserDraft {
         ensures ok { OnOk result (self.new ≡ with_user self.old user) }
         ensures err { OnErr result (self.new ≡ self.old) }
     {
-        let name = user.name().copied(alloc)?;
-        let digest = user.digest();
+        let name = user.fronted_name().copied(alloc)?;
+        let digest = user.digest_key();
+        let key = user.digest_key();
         let user = Arc::new(alloc, user)?;
         let other = Arc::try_clone(&user)?;
-        self.by_digest.insert(digest, ByDigest::new(other))?;
+        self.by_digest.insert(key, ByDigest::new(other))?;
         match self.by_name.insert(name, ByName::new(user)) {
             Ok(_) => Ok(()),
             Err(_) => {
@@ -72,29 +77,39 @@ impl UserDraft {
         self.by_name.len()
     }
 
-    /// Whether there is a user of that name.
-    pub(crate) fn has(&self, name: &UserName) -> bool
-        ensures { result ≡ has_user self.now name.now }
+    /// Whether there is a user of the name of this one.
+    pub(crate) fn has_name_of(&self, user: &User) -> bool
+        ensures { result ≡ has_user self.now user.now.name }
     {
-        self.by_name.contains_key(name)
+        self.by_name.contains_key(user.fronted_name())
     }
 
-    /// Whether some user has that digest.
-    pub(crate) fn has_digest(&self, digest: &[u8; 32]) -> bool
-        ensures { result ≡ has_digest self.now digest.now }
+    /// Whether some user has the digest of this one.
+    pub(crate) fn has_digest_of(&self, user: &User) -> bool
+        ensures { result ≡ has_digest self.now user.now.digest }
     {
-        self.by_digest.contains_key(digest)
+        self.by_digest.contains_key(user.fronted_digest())
     }
 
-    /// The table of these users.
-    pub(crate) fn finish(self, alloc: Global) -> Result<UserTable, AllocError>
-        ensures { IfOk result (λ table. table ≡ self) }
+    /// Whether some user has the role Admin.
+    pub(crate) fn has_admin(&self) -> bool
+        ensures { result ≡ has_admin self.now }
+    {
+        self.by_name.values().any(|row| row.user().is_admin())
+    }
+
+    /// The table of these users, and how often they name each role.
+    pub(crate) fn finish(self, alloc: Global) -> Result<(UserTable, Uses), AllocError>
+        ensures table { IfOk result (λ made. made.0 ≡ self) }
+        ensures uses { IfOk result (λ made. (role : List ℕ) → count_at made.1 role ≡ mentions self role) }
     {
         let UserDraft { by_name, by_digest } = self;
         let names = in_order(alloc, by_name)?;
         let digests = in_order(alloc, by_digest)?;
+        let counts = mentions_of(alloc, names.as_slice())?;
+        let uses = Uses::of_counts(alloc, counts)?;
         let table = UserTable::of_rows(alloc, names, digests)?;
-        Ok(table)
+        Ok((table, uses))
     }
 }
 

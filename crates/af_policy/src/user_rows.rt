@@ -7,26 +7,34 @@ use std::alloc::AllocError;
 use std::marker::Model;
 use std::sync::Arc;
 
-/// A user, found by name. Contracts see it as the user.
+/// A user, found by name, whose front stands beside it. Contracts see it as the user.
 #[derive(Drop)]
 pub(crate) struct ByName {
+    front: u64,
     user: Arc<User>,
 }
 
 impl Model for ByName {
+    ghost use Rattle.std.specs.Prelude.{◌≡◌};
     ghost use Rattle.std.specs.Arc.{arc_value};
+    ghost use Rattle.af_policy.specs.Fronts.{front_of};
     ghost use Rattle.af_policy.specs.Rows.{UserRow};
 
     ghost Value = { UserRow };
 
     ghost view = { λ row. arc_value row.user };
+
+    ghost invariant = { λ row. row.front ≡ front_of (arc_value row.user).name };
 }
 
 impl ByName {
     pub(crate) fn new(user: Arc<User>) -> ByName
         ensures { result ≡ arc_value user }
     {
-        ByName { user }
+        ByName {
+            front: user.fronted_name().front(),
+            user,
+        }
     }
 
     /// The user.
@@ -44,16 +52,24 @@ impl Row for ByName {
         self.user.name().as_str().as_bytes()
     }
 
+    fn front(&self) -> u64 {
+        self.front
+    }
+
     fn copied(&self) -> Result<ByName, AllocError> {
         let user = Arc::try_clone(&self.user)?;
-        Ok(ByName { user })
+        Ok(ByName {
+            front: self.front,
+            user,
+        })
     }
 }
 
-/// A user, found by the digest of the token, which stands beside it, so that a search reads no other place. Contracts see
+/// A user, found by the digest of the token, which stands beside it with its front, so that a search reads no other place. Contracts see
 /// it as the user.
 #[derive(Drop)]
 pub(crate) struct ByDigest {
+    front: u64,
     digest: [u8; 32],
     user: Arc<User>,
 }
@@ -61,13 +77,14 @@ pub(crate) struct ByDigest {
 impl Model for ByDigest {
     ghost use Rattle.std.specs.Prelude.{◌≡◌};
     ghost use Rattle.std.specs.Arc.{arc_value};
+    ghost use Rattle.af_policy.specs.Fronts.{front_of};
     ghost use Rattle.af_policy.specs.Rows.{UserRow};
 
     ghost Value = { UserRow };
 
     ghost view = { λ row. arc_value row.user };
 
-    ghost invariant = { λ row. row.digest ≡ (arc_value row.user).digest };
+    ghost invariant = { λ row. (row.digest ≡ (arc_value row.user).digest) × (row.front ≡ front_of (arc_value row.user).digest) };
 }
 
 impl ByDigest {
@@ -75,6 +92,7 @@ impl ByDigest {
         ensures { result ≡ arc_value user }
     {
         ByDigest {
+            front: user.fronted_digest().front(),
             digest: user.digest(),
             user,
         }
@@ -95,9 +113,14 @@ impl Row for ByDigest {
         self.digest.as_slice()
     }
 
+    fn front(&self) -> u64 {
+        self.front
+    }
+
     fn copied(&self) -> Result<ByDigest, AllocError> {
         let user = Arc::try_clone(&self.user)?;
         Ok(ByDigest {
+            front: self.front,
             digest: self.digest,
             user,
         })

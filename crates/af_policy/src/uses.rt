@@ -1,32 +1,47 @@
 ghost use Rattle.std.specs.Prelude.{◌≡◌, ◌+◌, ◌-◌, [], List, ℕ, cond, IfOk, OnOk};
 ghost use Rattle.std.specs.Option.{option_copied};
 ghost use Rattle.af_policy.specs.Rows.{same_name};
-ghost use Rattle.af_policy.specs.SharedRows.{found};
-ghost use Rattle.af_policy.specs.Uses.{count_at, uses_in};
+ghost use Rattle.af_policy.specs.SharedRows.{Ascend, found};
+ghost use Rattle.af_policy.specs.Uses.{count_at, count_in, use_rows, uses_in};
 
-use crate::shared::{Row, Table};
+use crate::shared::{Row, Table, front};
 use af_names::RoleName;
 use std::alloc::{AllocError, Global};
+use std::collections::BTreeMap;
 use std::marker::Model;
 use std::sync::Arc;
 
 /// How often the users of a policy name one role.
 #[derive(Drop)]
 struct RoleUse {
+    front: u64,
     name: Arc<RoleName>,
     count: usize,
 }
 
 impl Model for RoleUse {
+    ghost use Rattle.std.specs.Prelude.{◌≡◌};
     ghost use Rattle.std.specs.Arc.{arc_value};
+    ghost use Rattle.af_policy.specs.Fronts.{front_of};
     ghost use Rattle.af_policy.specs.Uses.{UseRow};
 
     ghost Value = { UseRow };
 
     ghost view = { λ row. record { name = arc_value row.name; count = row.count } };
+
+    ghost invariant = { λ row. row.front ≡ front_of (arc_value row.name) };
 }
 
 impl RoleUse {
+    /// The role of a name, named so often.
+    fn new(alloc: Global, name: RoleName, count: usize) -> Result<RoleUse, AllocError>
+        ensures { IfOk result (λ row. row ≡ record { name = name; count = count }) }
+    {
+        let front = front(name.as_str().as_bytes());
+        let name = Arc::new(alloc, name)?;
+        Ok(RoleUse { front, name, count })
+    }
+
     /// The role's name, which is shared.
     fn name(&self) -> Result<Arc<RoleName>, AllocError>
         ensures { IfOk result (λ name. name.value ≡ self.now.name) }
@@ -50,9 +65,14 @@ impl Row for RoleUse {
         self.name.as_str().as_bytes()
     }
 
+    fn front(&self) -> u64 {
+        self.front
+    }
+
     fn copied(&self) -> Result<RoleUse, AllocError> {
         let name = Arc::try_clone(&self.name)?;
         Ok(RoleUse {
+            front: self.front,
             name,
             count: self.count,
         })
@@ -76,13 +96,16 @@ impl Model for Uses {
 }
 
 impl Uses {
-    /// No role is named.
-    pub(crate) fn new() -> Uses
-        ensures { result ≡ [] }
+    /// The counts of a map.
+    pub(crate) fn of_counts(
+        alloc: Global,
+        counts: BTreeMap<RoleName, usize>,
+    ) -> Result<Uses, AllocError>
+        ensures { IfOk result (λ uses. (role : List ℕ) → count_at uses role ≡ count_in counts role) }
     {
-        Uses {
-            counts: Table::new(),
-        }
+        let rows = use_rows(alloc, counts)?;
+        let counts = Table::of_rows(alloc, rows)?;
+        Ok(Uses { counts })
     }
 
     /// The counts once more, which are shared.
@@ -107,8 +130,7 @@ impl Uses {
     fn row(&self, alloc: Global, name: &RoleName, count: usize) -> Result<RoleUse, AllocError>
         ensures { IfOk result (λ row. row ≡ record { name = name.now; count = count }) }
     {
-        let name = Arc::new(alloc, name.copied(alloc)?)?;
-        Ok(RoleUse { name, count })
+        RoleUse::new(alloc, name.copied(alloc)?, count)
     }
 
     /// Counts a role once more.
@@ -156,4 +178,16 @@ impl Uses {
         }
         Ok(())
     }
+}
+
+/// The rows of a map of counts, in the order of their names.
+fn use_rows(alloc: Global, counts: BTreeMap<RoleName, usize>) -> Result<Vec<RoleUse>, AllocError>
+    ensures rows { IfOk result (λ rows. rows.items ≡ use_rows counts.entries) }
+    ensures ascend { IfOk result (λ rows. Ascend (λ row. row.name) rows.items) }
+{
+    let mut rows = Vec::with_capacity(alloc, counts.len())?;
+    for (name, count) in counts {
+        rows.push(RoleUse::new(alloc, name, count)?)?;
+    }
+    Ok(rows)
 }

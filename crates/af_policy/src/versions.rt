@@ -1,4 +1,4 @@
-ghost use Rattle.std.specs.Prelude.{◌≡◌, ◌⊎◌, ◌<◌, [], length, slice_get, None, Some, Ok, Err, IfOk, OnOk, OnErr};
+ghost use Rattle.std.specs.Prelude.{◌≡◌, ◌⊎◌, ◌<◌, [], length, nat_le, slice_get, None, Some, Ok, Err, IfOk, OnOk, OnErr};
 ghost use Rattle.std.specs.Option.{option_copied};
 ghost use Rattle.af_policy.specs.Versions.{Follows, all_versions, asked_by, decided, permitted, submitted, told_as, with_version};
 ghost use Rattle.af_policy.specs.Reads.{MemoryLast, me_of, read_of};
@@ -81,10 +81,10 @@ impl Versions {
         ensures err { OnErr result (self.new ≡ self.old) }
     {
         let policy = self.latest.decide(alloc, token, ask)?;
-        if self.current() >= self.last {
+        if self.is_full() {
             return Err(SubmitFault::Full);
         }
-        self.push(policy)?;
+        self.publish(policy)?;
         Ok(self.current())
     }
 
@@ -115,8 +115,16 @@ impl Versions {
         }
     }
 
-    /// Puts a policy behind the latest, which it follows.
-    fn push(&mut self, policy: Policy) -> Result<(), AllocError>
+    /// Whether the latest version has the greatest number that one may have.
+    pub fn is_full(&self) -> bool
+        ensures { result ≡ nat_le self.now.last (length self.now.earlier) }
+    {
+        self.current() >= self.last
+    }
+
+    /// Puts a policy behind the latest, which it follows. `AllocError` only where a growth was refused; then there is no
+    /// further version.
+    pub fn publish(&mut self, policy: Policy) -> Result<(), AllocError>
         requires room { length self.old.earlier < self.old.last }
         requires follows { Follows self.old.latest policy }
         ensures ok { OnOk result (self.new ≡ with_version self.old policy) }

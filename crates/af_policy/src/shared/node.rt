@@ -5,6 +5,7 @@ ghost use Rattle.af_policy.specs.declared.shared.node.Node.{out-Node};
 ghost use Rattle.af_policy.specs.SharedTrees.{rows, link_rows};
 
 use crate::shared::Row;
+use crate::shared::sought::{Sought, row_order};
 use std::alloc::{AllocError, Global};
 use std::cmp::Ordering;
 use std::sync::Arc;
@@ -208,7 +209,7 @@ pub(crate) fn with<T: Row>(
 ) -> Result<Arc<Node<T>>, AllocError>
     ensures { IfOk result (λ made. Ascend T.key (rows node.now) → rows made.value ≡ with_row T.key (rows node.now) row) }
 {
-    match row.key().cmp(node.row.key()) {
+    match row_order(&row, &node.row) {
         Ordering::Less => match &node.left {
             Some(left) => {
                 let left = with(alloc, left, row)?;
@@ -246,11 +247,11 @@ pub(crate) fn with<T: Row>(
 pub(crate) fn without<T: Row>(
     alloc: Global,
     node: &Node<T>,
-    key: &[u8],
+    key: &Sought<'_>,
 ) -> Result<Link<T>, AllocError>
     ensures { IfOk result (λ made. Ascend T.key (rows node.now) → link_rows made ≡ without T.key (rows node.now) key.now) }
 {
-    match key.cmp(node.row.key()) {
+    match key.order(&node.row) {
         Ordering::Less => match &node.left {
             Some(left) => {
                 let left = without(alloc, left, key)?;
@@ -305,7 +306,7 @@ pub(crate) fn with_link<T: Row>(
 pub(crate) fn without_link<T: Row>(
     alloc: Global,
     link: &Link<T>,
-    key: &[u8],
+    key: &Sought<'_>,
 ) -> Result<Link<T>, AllocError>
     requires { Ascend T.key (link_rows link.now) }
     ensures { IfOk result (λ made. link_rows made ≡ without T.key (link_rows link.now) key.now) }
@@ -318,10 +319,10 @@ pub(crate) fn without_link<T: Row>(
 
 /// The row of a key.
 #[tactic(auto, using(crate::proofs::ShapeLemmas::found_in_middle))]
-pub(crate) fn find<'a, T: Row>(node: &'a Node<T>, key: &[u8]) -> Option<&'a T>
+pub(crate) fn find<'a, T: Row>(node: &'a Node<T>, key: &Sought<'_>) -> Option<&'a T>
     ensures { Ascend T.key (rows node.now) → option_copied result ≡ found T.key (rows node.now) key.now }
 {
-    match key.cmp(node.row.key()) {
+    match key.order(&node.row) {
         Ordering::Less => match &node.left {
             Some(left) => find(left, key),
             None => None,

@@ -1,11 +1,10 @@
 ghost use Rattle.std.specs.Prelude.{◌≡◌, ◌+◌, [], length, cond, take, IfOk, OnOk, OnErr};
-ghost use Rattle.std.specs.List.{list_any};
 ghost use Rattle.std.specs.Option.{option_copied, is_some};
 ghost use Rattle.af_policy.specs.SharedRows.{Ascend, found, seen, with_row, without};
 
 use crate::shared::node::{self, Link};
-use crate::shared::some::some_row;
-use crate::shared::{Row, Test, building, listing};
+use crate::shared::sought::Sought;
+use crate::shared::{Row, building, listing};
 use std::alloc::{AllocError, Global};
 use std::marker::Model;
 
@@ -60,7 +59,7 @@ impl<T: Row> Table<T> {
         ensures { option_copied result ≡ found T.key self.now key.now }
     {
         match &self.root {
-            Some(root) => node::find(root, key),
+            Some(root) => node::find(root, &Sought::new(key)),
             None => None,
         }
     }
@@ -109,7 +108,7 @@ impl<T: Row> Table<T> {
         ensures { IfOk result (λ table. table ≡ without T.key self.now key.now) }
     {
         if self.has(key) {
-            let root = node::without_link(alloc, &self.root, key)?;
+            let root = node::without_link(alloc, &self.root, &Sought::new(key))?;
             let len = self.len - 1;
             Ok(Table { root, len })
         } else {
@@ -156,16 +155,6 @@ impl<T: Row> Table<T> {
             listing::fill(root, bound, &mut list)?;
         }
         Ok(list)
-    }
-
-    /// Whether some row passes a test.
-    pub fn some<P: Test<T>>(&self) -> bool
-        ensures { result ≡ list_any P.passes self.now }
-    {
-        match &self.root {
-            Some(root) => some_row::<T, P>(root),
-            None => false,
-        }
     }
 
     /// How many rows a search looks at, at most.

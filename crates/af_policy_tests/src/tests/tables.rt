@@ -1,5 +1,5 @@
 //! Tables that share rows: what a change leaves of the table before it, and how long a search is.
-use af_policy::{Row, Table};
+use af_policy::{Row, Table, front};
 use std::alloc::{AllocError, Global};
 use std::test::Fail;
 
@@ -14,6 +14,10 @@ impl Row for Word {
 
     fn key(&self) -> &[u8] {
         self.bytes.as_slice()
+    }
+
+    fn front(&self) -> u64 {
+        front(self.key())
     }
 
     fn copied(&self) -> Result<Word, AllocError> {

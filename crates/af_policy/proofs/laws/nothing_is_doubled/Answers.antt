@@ -1,4 +1,4 @@
-use Rattle.af_policy.proofs.TouchLemmas.{nothing-doubled}
+use Rattle.af_policy.proofs.StandLemmas.{nothing-doubled}
 use Rattle.af_policy.proofs.laws.nothing_is_doubled.Goals as goal
 
 pub returns : goal.returns

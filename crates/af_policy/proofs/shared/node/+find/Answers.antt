@@ -1,5 +1,4 @@
-use Rattle.std.proofs.Common.{◌∙◌, sym, ap, nat_cmp}
-use Rattle.std.specs.Cmp.Lexicographic.{slice_cmp}
+use Rattle.std.proofs.Common.{◌∙◌, sym}
 use Rattle.af_policy.proofs.ShapeLemmas.{ascend_at_left, ascend_at_right, found_at_left, found_at_no_left, found_at_right, found_at_no_right}
 use Rattle.af_policy.proofs.shared.node.+find.Goals as goal
 
@@ -7,20 +6,20 @@ pub returns-in-Some : goal.returns-in-Some
 returns-in-Some g t c = λ s.
     c.find.ensures (ascend_at_left g.T.Row.key c.args.node.now s c.in-Some.left c.deref.result.now c.in-Some.is c.deref.ensures)
     ∙ found_at_left g.T.Row.key c.args.node.now s c.args.key.now c.in-Some.left c.deref.result.now c.in-Some.is c.deref.ensures
-    (ap (slice_cmp nat_cmp c.args.key.now) (sym c.key.ensures) ∙ sym (c.in-Less.ensures))
+    (sym c.in-Less.ensures)
 
 pub returns-in-None : goal.returns-in-None
 returns-in-None g t c = λ s.
     found_at_no_left g.T.Row.key c.args.node.now s c.args.key.now c.in-None.is
-    (ap (slice_cmp nat_cmp c.args.key.now) (sym c.key.ensures) ∙ sym (c.in-Less.ensures))
+    (sym c.in-Less.ensures)
 
 pub returns-in-Some-right : goal.returns-in-Some-right
 returns-in-Some-right g t c = λ s.
     c.find-in-Some-right.ensures (ascend_at_right g.T.Row.key c.args.node.now s c.in-Some-right.right c.deref-in-Some-right.result.now c.in-Some-right.is c.deref-in-Some-right.ensures)
     ∙ found_at_right g.T.Row.key c.args.node.now s c.args.key.now c.in-Some-right.right c.deref-in-Some-right.result.now c.in-Some-right.is c.deref-in-Some-right.ensures
-    (ap (slice_cmp nat_cmp c.args.key.now) (sym c.key.ensures) ∙ sym (c.in-Greater.ensures))
+    (sym c.in-Greater.ensures)
 
 pub returns-in-None-right : goal.returns-in-None-right
 returns-in-None-right g t c = λ s.
     found_at_no_right g.T.Row.key c.args.node.now s c.args.key.now c.in-None-right.is
-    (ap (slice_cmp nat_cmp c.args.key.now) (sym c.key.ensures) ∙ sym (c.in-Greater.ensures))
+    (sym c.in-Greater.ensures)

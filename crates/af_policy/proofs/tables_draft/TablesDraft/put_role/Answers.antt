@@ -2,7 +2,4 @@ use Rattle.af_policy.proofs.DraftLemmas.{roles_exist-with_role}
 use Rattle.af_policy.proofs.tables_draft.TablesDraft.put_role.Goals as goal
 
 pub invariant_of-self-2 : goal.invariant_of-self-2
-invariant_of-self-2 c = record {
-  exist = rw c.in_ok-put.ensures.ok (roles_exist-with_role c.self.inside.users c.self.inside.roles c.args.role c.self.invariant.exist);
-  counted = c.self.invariant.counted;
-}
+invariant_of-self-2 c = rw c.in_ok-put.ensures.ok (roles_exist-with_role c.self.inside.users c.self.inside.roles c.args.role c.self.invariant)

@@ -12,9 +12,10 @@ invariant_of-result g c =
     in let fewer : suc (length (without key rows k)) ≡ length rows =
     length_without key k rows c.self.invariant.0 (ap (λ rs. is_some (found key rs k)) c.self.view_is ∙ sym c.if-has.ensures)
     in let len : c.self.inside.len ≡ length rows = c.self.invariant.1
-    in let made : length (link_rows c.in_ok-root.root) ≡ length (without key rows k) = ap length c.in_ok-root.ensures
+    in let left = c.in_ok-root.ensures ∙ ap (without key rows) c.new.ensures
+    in let made : length (link_rows c.in_ok-root.root) ≡ length (without key rows k) = ap length left
     in (
-      subst (Ascend key) (sym c.in_ok-root.ensures) (ascend_without key k rows c.self.invariant.0),
+      subst (Ascend key) (sym left) (ascend_without key k rows c.self.invariant.0),
       omega (arith, fewer, len, made),
     )
 

@@ -1,7 +1,7 @@
 use Rattle.std.proofs.Common.{◌≡◌, ◌<◌, ◌∷◌, ◌++◌, [], length, length-append, sym, ap, subst, ◌∙◌, arith}
 use Rattle.af_policy.specs.Versions.{Follows, IsHistory, VersionRows}
 use Rattle.af_policy.proofs.VersionLemmas.{history_more}
-use Rattle.af_policy.proofs.versions.Versions.push.Goals as goal
+use Rattle.af_policy.proofs.versions.Versions.publish.Goals as goal
 
 pub invariant_of-self-2 : goal.invariant_of-self-2
 invariant_of-self-2 c =
