@@ -1,2 +1,5 @@
-pub mod ReplayLemmas
 pub mod EntryLemmas
+pub mod LedgerLemmas
+pub mod OperatedLemmas
+pub mod ReplayLemmas
+pub mod TickedLemmas

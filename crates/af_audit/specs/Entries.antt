@@ -1,6 +1,6 @@
 -- The audit: entries under their numbers, and the state that they make of another (Airflow 2, "Audit Logs"; that the entries
 -- make the state is this product's own rule).
-use Rattle.std.specs.Prelude.{ℕ, ◌≡◌, ◌≤◌, ◌+◌, List, [], ◌∷◌, ◌++◌, map, length, nat_lt, Option, Some, None, if◌then◌else◌}
+use Rattle.std.specs.Prelude.{ℕ, ◌≡◌, ◌≤◌, ◌+◌, List, [], ◌∷◌, ◌++◌, map, length, nat_lt, Bool, Option, Some, None, if◌then◌else◌}
 use Rattle.std.specs.List.{range_with_len}
 use Rattle.af_sched.specs.State.{StateRows}
 use Rattle.af_audit.specs.declared.entry.Entry.{Entry}
@@ -20,9 +20,13 @@ pub record IsAudit (audit : AuditRows) : Type 0 where
   pub numbered : AreNumbered audit.entries
   pub within : length audit.entries ≤ audit.limit
 
+-- whether there may be one entry more
+abbrev pub has_room : AuditRows → Bool
+has_room audit = nat_lt (length audit.entries) audit.limit
+
 -- the number of the next entry, or none where there are as many as there may be
 abbrev pub next_seq : AuditRows → Option ℕ
-next_seq audit = if nat_lt (length audit.entries) audit.limit then Some (length audit.entries + 1) else None
+next_seq audit = if has_room audit then Some (length audit.entries + 1) else None
 
 -- with one entry more, the last
 abbrev pub with_entry : AuditRows → Entry → AuditRows

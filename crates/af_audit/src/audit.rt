@@ -1,8 +1,11 @@
-ghost use Rattle.std.specs.Prelude.{◌≡◌, ◌≤◌, ◌+◌, [], ◌∷◌, ◌++◌, length, Err, None, Some, OnErr, OnOk, if◌then◌else◌};
-ghost use Rattle.af_audit.specs.Entries.{AreNumbered, next_seq, with_entry};
+ghost use Rattle.std.specs.Prelude.{◌≡◌, ◌≤◌, ◌+◌, [], ◌∷◌, ◌++◌, length, Err, OnErr, OnOk, false, true};
+ghost use Rattle.af_audit.specs.Entries.{AreNumbered, has_room, next_seq, with_entry};
 
+use crate::act::Act;
+use crate::actor::Actor;
 use crate::audit_fault::AuditFault;
 use crate::entry::Entry;
+use af_names::Instant;
 use std::alloc::Global;
 use std::marker::Model;
 
@@ -67,14 +70,21 @@ impl Audit {
         if count < limit { Some(count + 1) } else { None }
     }
 
+    /// Whether there may be one entry more.
+    pub fn has_room(&self) -> bool
+        ensures { result ≡ has_room self.now }
+    {
+        self.count() < self.limit
+    }
+
     /// Adds an entry, whose number is the next one. `HistoryFull` exactly where there are as many as there may be;
     /// `OutOfMemory` only where a growth was refused. A fault leaves the audit as it was, and the entry is given up.
     pub fn push(&mut self, entry: Entry) -> Result<(), AuditFault>
         requires { entry.seq ≡ length self.old.entries + 1 }
         ensures ok { OnOk result (self.new ≡ with_entry self.old entry) }
-        ensures room { OnOk result (next_seq self.old ≡ Some entry.seq) }
-        ensures full { next_seq self.old ≡ None → result ≡ Err AuditFault.HistoryFull }
-        ensures full_only { result ≡ Err AuditFault.HistoryFull → next_seq self.old ≡ None }
+        ensures room { OnOk result (has_room self.old ≡ true) }
+        ensures full { has_room self.old ≡ false → result ≡ Err AuditFault.HistoryFull }
+        ensures full_only { result ≡ Err AuditFault.HistoryFull → has_room self.old ≡ false }
         ensures err { OnErr result (self.new ≡ self.old) }
     {
         if self.count() >= self.limit {
@@ -82,5 +92,38 @@ impl Audit {
         }
         self.entries.push(entry)?;
         Ok(())
+    }
+
+    /// Adds the entry of an act of an actor at a moment, under a policy version and the next number. Its faults are those of
+    /// `push`.
+    pub fn enter(
+        &mut self,
+        moment: Instant,
+        actor: Actor,
+        version: u32,
+        act: Act,
+    ) -> Result<(), AuditFault>
+        ensures ok { OnOk result (self.new ≡ with_entry self.old (record {
+          seq = length self.old.entries + 1;
+          moment = moment;
+          actor = actor;
+          version = version;
+          act = act;
+        })) }
+        ensures room { OnOk result (has_room self.old ≡ true) }
+        ensures full { has_room self.old ≡ false → result ≡ Err AuditFault.HistoryFull }
+        ensures full_only { result ≡ Err AuditFault.HistoryFull → has_room self.old ≡ false }
+        ensures err { OnErr result (self.new ≡ self.old) }
+    {
+        let Some(seq) = self.next_seq() else {
+            return Err(AuditFault::HistoryFull);
+        };
+        self.push(Entry {
+            seq,
+            moment,
+            actor,
+            version,
+            act,
+        })
     }
 }

@@ -1,4 +1,5 @@
 use crate::entry::Entry;
+use af_ops::OpFault;
 use std::alloc::{AllocError, AllocFailed};
 
 /// Why no entry is added, in the order in which the reasons are told.
@@ -29,5 +30,19 @@ impl From<AllocFailed<Entry>> for AuditFault {
 
     fn from(_error: AllocFailed<Entry>) -> AuditFault {
         AuditFault::OutOfMemory
+    }
+}
+
+impl From<AuditFault> for OpFault {
+    ghost use Rattle.std.specs.Prelude.{◌≡◌};
+    ghost use Rattle.af_audit.specs.Operated.{op_fault};
+
+    ghost from_gives = { λ fault why. why ≡ op_fault fault };
+
+    fn from(fault: AuditFault) -> OpFault {
+        match fault {
+            AuditFault::HistoryFull => OpFault::HistoryFull,
+            AuditFault::OutOfMemory => OpFault::OutOfMemory,
+        }
     }
 }

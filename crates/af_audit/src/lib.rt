@@ -9,6 +9,7 @@ mod audit_fault;
 mod copying;
 mod entry;
 pub mod laws;
+mod ledger;
 mod nobody;
 mod replaying;
 
@@ -17,4 +18,5 @@ pub use actor::Actor;
 pub use audit::Audit;
 pub use audit_fault::AuditFault;
 pub use entry::Entry;
+pub use ledger::Ledger;
 pub use replaying::replay;
