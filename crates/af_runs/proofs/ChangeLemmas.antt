@@ -40,15 +40,6 @@ pub enumerated-at : {X : Type 0} (f : ℕ × X → X) (xs : List X) (k : ℕ) (d
 enumerated-at f xs k d within =
     get_or-map f (enumerate_from 0 xs) k (0, d) d (omega (arith, within, length-enumerate_from 0 xs)) ∙ ap f (get_or-enumerate_from 0 xs k (0, d) within ∙ zero-plus k (get_or xs k d))
 
--- ---- one that all were left by was left
-pub left-at : (f : ℕ × Instance → Instance) (xs : List Instance) (k : ℕ) (x : Instance) → k < length xs → x ≡ get_or xs k x → map f (enumerate_from 0 xs) ≡ xs → f (k, x) ≡ x
-left-at f xs k x inside is all =
-    (λ i. f (k, is i)) ∙ sym (enumerated-at f xs k x inside) ∙ ap (λ (l : List Instance). get_or l k x) all ∙ sym is
-
-pub left-run : (f : Run → Run) (runs : List Run) (k : ℕ) (run : Run) → k < length runs → run ≡ get_or runs k run → map f runs ≡ runs → f run ≡ run
-left-run f runs k run inside is all =
-    ap f is ∙ sym (get_or-map f runs k run run inside) ∙ ap (λ (l : List Run). get_or l k run) all ∙ sym is
-
 -- ---- a run that is marked
 pub with_marked-is_set : (runs : List Run) (number place : ℕ) → StandsAt runs number place → (mark : Mark) (t : ℕ) (d : Run) → with_marked runs number mark t ≡ set runs place (marked_run mark t (get_or runs place d))
 with_marked-is_set runs number place stands mark t d = map-only (is_numbered number) (marked_run mark t) runs place d stands.within stands.here stands.alone

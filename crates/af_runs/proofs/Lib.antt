@@ -1,6 +1,7 @@
 pub mod BusyLemmas
 pub mod ChainLemmas
 pub mod ChangeLemmas
+pub mod ClearLemmas
 pub mod DagListLemmas
 pub mod FindLemmas
 pub mod IndexLemmas

@@ -86,7 +86,7 @@ ended_holds_none task_state.Skipped ended = refl
 ended_holds_none task_state.UpstreamFailed ended = refl
 ended_holds_none task_state.UpForRetry ended = absurd (cc)
 
-both : (a b : Bool) → (a && b) ≡ true → (a ≡ true) × (b ≡ true)
+pub both : (a b : Bool) → (a && b) ≡ true → (a ≡ true) × (b ≡ true)
 both true true is = (refl, refl)
 both true false is = absurd (cc)
 both false b is = absurd (cc)

@@ -1,9 +1,10 @@
 -- Clearing task instances, so that they are run again (Airflow 2's REST API, "Clear a set of task instances"). That one which is
 -- running is cleared too, and that a run which has ended is queued again, is this product's own rule.
-use Rattle.std.specs.Prelude.{ℕ, ◌+◌, ◌&&◌, not, Bool, true, false, List, map, filter, flat_map, nat_le, Option, Some, None, is_some, slice_index_or, if◌then◌else◌}
-use Rattle.std.specs.List.{enumerate_from, list_any}
+use Rattle.std.specs.Prelude.{ℕ, ◌+◌, ◌==◌, ◌&&◌, not, Bool, true, false, List, map, filter, flat_map, nat_le, Option, Some, None, is_none, is_some, slice_index_or, if◌then◌else◌}
+use Rattle.std.specs.List.{enumerate_from, list_all, list_any}
 use Rattle.std.specs.Option.{option_map_or}
 use Rattle.af_graph.specs.Graph.{same_name}
+use Rattle.af_graph.specs.States.{same_state}
 use Rattle.af_graph.specs.declared.task_spec.TaskSpec.{TaskSpec}
 use Rattle.af_graph.specs.declared.task_state.TaskState.{TaskState}
 use Rattle.af_graph.specs.declared.task_state.TaskState.TheVariants as task_state
@@ -89,6 +90,28 @@ run_after asked selection run = if admits asked run then cleared_run selection r
 -- the runs after the chosen instances of those that a filter admits are cleared
 abbrev pub with_cleared : List Run → RunFilter → Selection → List Run
 with_cleared runs asked selection = map (run_after asked selection) runs
+
+-- whether an instance is as one that is cleared with these retries
+abbrev pub is_cleared : ℕ → Instance → Bool
+is_cleared retries instance =
+    same_state instance.state task_state.NoStatus
+    && (instance.max_tries == instance.try_number + retries)
+    && is_none instance.start_date
+    && is_none instance.end_date
+    && is_none instance.retry_at
+
+-- whether an instance, told with its place, stays whole in a clear: it is not chosen, or is as one that is cleared
+abbrev pub stays_in_clear : Selection → ℕ × Instance → Bool
+stays_in_clear selection row = option_map_or (λ retries. is_cleared retries row.1) (chosen_with selection row) true
+
+-- whether a clear leaves a run as it is: it is not queued again, and each of its instances stays whole
+abbrev pub is_left_by : Selection → Run → Bool
+is_left_by selection run =
+    not (is_requeued selection run) && list_all (stays_in_clear selection) (enumerate_from 0 run.instances)
+
+-- whether a clear leaves all runs as they are: each of those that its filter admits
+abbrev pub are_left_by : RunFilter → Selection → List Run → Bool
+are_left_by asked selection runs = list_all (is_left_by selection) (filter (admits asked) runs)
 
 -- an instance that a clear touches: its run, and its place there
 pub record ChosenRow : Type 0 where

@@ -2,7 +2,7 @@
 use Rattle.std.specs.Prelude.{ℕ, ◌≡◌, ◌≢◌, ◌<◌, ◌↔◌, List, [], All, true, false, Some, None, length, slice_index_or}
 use Rattle.af_graph.specs.declared.task_state.TaskState.TheVariants as task_state
 use Rattle.af_runs.specs.Busy.{is_busy}
-use Rattle.af_runs.specs.Clears.{admits, chosen_in, cleared_run, is_chosen, run_after, with_cleared}
+use Rattle.af_runs.specs.Clears.{admits, are_left_by, chosen_in, cleared_run, is_chosen, is_left_by, run_after, with_cleared}
 use Rattle.af_runs.specs.Marks.{is_marked, marked_run, marked_state, with_marked}
 use Rattle.af_runs.specs.Runs.{Adds, AreRuns, RunRows, is_finished, is_numbered, run_at, without_run}
 use Rattle.af_runs.specs.declared.instance.Instance.{Instance}
@@ -46,6 +46,15 @@ ClearsTouchChosenAlone = (selection : Selection) (run : Run) → TouchesChosenAl
 -- where no instance is chosen a clear leaves all runs as they are
 abbrev pub ClearingNothingIsNoChange : Type 0
 ClearingNothingIsNoChange = (runs : List Run) (asked : RunFilter) (selection : Selection) → chosen_in runs asked selection ≡ [] → with_cleared runs asked selection ≡ runs
+
+-- a run that is told to be left by a clear is the one that the clear leaves as it is
+abbrev pub ClearingWhatStandsIsNoChange : Type 0
+ClearingWhatStandsIsNoChange = (selection : Selection) (run : Run) → (is_left_by selection run ≡ true) ↔ (cleared_run selection run ≡ run)
+
+-- and runs that are told to be left by it are those that it leaves as they are
+abbrev pub ClearingRunsThatStandIsNoChange : Type 0
+ClearingRunsThatStandIsNoChange =
+    (runs : List Run) (asked : RunFilter) (selection : Selection) → (are_left_by asked selection runs ≡ true) ↔ (with_cleared runs asked selection ≡ runs)
 
 -- once a run is taken out no run has its number, and a run that is added gets another
 abbrev pub RemovedNumbersStayAway : Type 0

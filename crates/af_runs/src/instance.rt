@@ -1,4 +1,4 @@
-ghost use Rattle.std.specs.Prelude.{◌≡◌, ◌↔◌, true};
+ghost use Rattle.std.specs.Prelude.{◌≡◌};
 ghost use Rattle.af_runs.specs.Instances.{new_instance};
 
 use af_graph::{TaskSpec, TaskState};
@@ -33,12 +33,5 @@ impl Instance {
             end_date: None,
             retry_at: None,
         }
-    }
-
-    /// Whether it is the same instance as another.
-    pub(crate) fn is_same(&self, other: &Instance) -> bool
-        ensures { (result ≡ true) ↔ (self.now ≡ other.now) }
-    {
-        *self == *other
     }
 }

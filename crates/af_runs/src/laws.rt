@@ -1,4 +1,4 @@
-ghost use Rattle.af_runs.specs.Laws.{ClearingNothingIsNoChange, ClearsTouchChosenAlone, MarkedRunsThatEndAreNotBusy, MarkingSuccessLeavesSuccess, MarkingWhatStandsIsNoChange, MarksTouchOneRun, RemovedNumbersStayAway};
+ghost use Rattle.af_runs.specs.Laws.{ClearingNothingIsNoChange, ClearingRunsThatStandIsNoChange, ClearingWhatStandsIsNoChange, ClearsTouchChosenAlone, MarkedRunsThatEndAreNotBusy, MarkingSuccessLeavesSuccess, MarkingWhatStandsIsNoChange, MarksTouchOneRun, RemovedNumbersStayAway};
 
 /// A run that is marked success has ended well, and so has each of its instances.
 pub fn marking_success_leaves_success()
@@ -28,6 +28,16 @@ pub fn clears_touch_chosen_alone()
 /// Where no instance is chosen a clear leaves all runs as they are.
 pub fn clearing_nothing_is_no_change()
     ensures { ClearingNothingIsNoChange }
+{}
+
+/// A clear leaves a run as it is exactly where that is told.
+pub fn clearing_what_stands_is_no_change()
+    ensures { ClearingWhatStandsIsNoChange }
+{}
+
+/// A clear leaves all runs as they are exactly where that is told.
+pub fn clearing_runs_that_stand_is_no_change()
+    ensures { ClearingRunsThatStandIsNoChange }
 {}
 
 /// Once a run is taken out no run has its number, and a run that is added gets another.

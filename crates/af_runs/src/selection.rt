@@ -1,5 +1,5 @@
-ghost use Rattle.std.specs.Prelude.{◌≡◌, ◌↔◌, true};
-ghost use Rattle.af_runs.specs.Clears.{after_clear, chosen_with, cleared_instance, has_failed, is_chosen};
+ghost use Rattle.std.specs.Prelude.{◌≡◌};
+ghost use Rattle.af_runs.specs.Clears.{after_clear, chosen_with, cleared_instance, has_failed, is_chosen, is_cleared, stays_in_clear};
 
 use crate::chosen_tasks::ChosenTasks;
 use crate::instance::Instance;
@@ -22,12 +22,14 @@ impl Selection {
         self.chosen_with(place, instance).is_some()
     }
 
-    /// Whether a clear leaves an instance, at its place in its run, as it is.
+    /// Whether a clear leaves an instance, at its place in its run, as it is: it is not chosen, or is as one that is cleared.
     pub(crate) fn leaves(&self, place: usize, instance: &Instance) -> bool
-        ensures { (result ≡ true) ↔ (after_clear self.now (place, instance.now) ≡ instance.now) }
+        ensures { result ≡ stays_in_clear self.now (place, instance.now) }
     {
-        let after = self.after(place, instance);
-        after.is_same(instance)
+        match self.chosen_with(place, instance) {
+            Some(retries) => is_cleared(instance, retries),
+            None => true,
+        }
     }
 
     /// The retries with which an instance at a place is cleared, where it is chosen.
@@ -73,4 +75,15 @@ fn cleared(instance: &Instance, retries: u32) -> Instance
         end_date: None,
         retry_at: None,
     }
+}
+
+/// Whether an instance is as one that is cleared, of a task with so many retries.
+fn is_cleared(instance: &Instance, retries: u32) -> bool
+    ensures { result ≡ is_cleared retries instance.now }
+{
+    instance.state == TaskState::NoStatus
+        && instance.max_tries == u64::from(instance.try_number) + u64::from(retries)
+        && instance.start_date.is_none()
+        && instance.end_date.is_none()
+        && instance.retry_at.is_none()
 }

@@ -1,6 +1,6 @@
-ghost use Rattle.std.specs.Prelude.{◌≡◌, ◌↔◌, ◌++◌, ◌∷◌, [], OnOk, true, if◌then◌else◌};
-ghost use Rattle.std.specs.List.{enumerate_from, list_any};
-ghost use Rattle.af_runs.specs.Clears.{chosen_of, cleared_instances, cleared_run, is_chosen, is_requeued};
+ghost use Rattle.std.specs.Prelude.{◌≡◌, ◌++◌, ◌∷◌, [], OnOk, if◌then◌else◌};
+ghost use Rattle.std.specs.List.{enumerate_from, list_all, list_any};
+ghost use Rattle.af_runs.specs.Clears.{chosen_of, cleared_run, is_chosen, is_left_by, is_requeued, stays_in_clear};
 
 use crate::chosen_instance::ChosenInstance;
 use crate::instance::Instance;
@@ -22,9 +22,10 @@ impl Run {
         self.instances.clear(selection);
     }
 
-    /// Whether clearing those of its instances that are chosen leaves it as it is.
+    /// Whether clearing those of its instances that are chosen leaves it as it is: it is not queued again, and each instance
+    /// stays whole.
     pub fn is_left_by(&self, selection: &Selection) -> bool
-        ensures { (result ≡ true) ↔ (cleared_run selection.now self.now ≡ self.now) }
+        ensures { result ≡ is_left_by selection.now self.now }
     {
         !self.is_requeued(selection) && are_left(self.instances.as_slice(), selection)
     }
@@ -49,14 +50,12 @@ fn is_any_chosen(instances: &[Instance], selection: &Selection) -> bool
 
 /// Whether clearing those of these instances of a run that are chosen leaves all as they are.
 fn are_left(instances: &[Instance], selection: &Selection) -> bool
-    ensures { (result ≡ true) ↔ (cleared_instances selection.now instances.now ≡ instances.now) }
+    ensures { result ≡ list_all (stays_in_clear selection.now) (enumerate_from 0 instances.now) }
 {
-    for place in 0..instances.len() {
-        if !selection.leaves(place, &instances[place]) {
-            return false;
-        }
-    }
-    true
+    instances
+        .iter()
+        .enumerate()
+        .all(|(place, instance)| selection.leaves(place, instance))
 }
 
 /// Puts the chosen instances of a run after others. `AllocError` only where a growth was refused.

@@ -1,5 +1,5 @@
 ghost use Rattle.std.specs.Prelude.{◌≡◌, ◌↔◌, ◌<◌, ◌++◌, [], IfOk, OnOk, length, slice_index_or, slice_set, true, if◌then◌else◌};
-ghost use Rattle.af_runs.specs.Clears.{admits, chosen_in, chosen_of, run_after, with_cleared, with_cleared_run};
+ghost use Rattle.af_runs.specs.Clears.{admits, are_left_by, chosen_in, chosen_of, run_after, with_cleared, with_cleared_run};
 
 use crate::chosen_instance::ChosenInstance;
 use crate::run::{Run, list_chosen};
@@ -29,7 +29,8 @@ impl Runs {
 
     /// Whether clearing the chosen instances of the runs that the filter admits leaves all runs as they are.
     pub fn are_left_by(&self, filter: &RunFilter, selection: &Selection) -> bool
-        ensures { (result ≡ true) ↔ (with_cleared self.now.rows filter.now selection.now ≡ self.now.rows) }
+        ensures told { result ≡ are_left_by filter.now selection.now self.now.rows }
+        ensures left { (result ≡ true) ↔ (with_cleared self.now.rows filter.now selection.now ≡ self.now.rows) }
     {
         are_left(self.rows.as_slice(), filter, selection)
     }
@@ -73,24 +74,11 @@ fn clear_all(runs: &mut Runs, filter: &RunFilter, selection: &Selection)
 
 /// Whether clearing the chosen instances of those of these runs that the filter admits leaves all as they are.
 fn are_left(runs: &[Run], filter: &RunFilter, selection: &Selection) -> bool
-    ensures { (result ≡ true) ↔ (with_cleared runs.now filter.now selection.now ≡ runs.now) }
+    ensures { result ≡ are_left_by filter.now selection.now runs.now }
 {
-    for place in 0..runs.len() {
-        if !leaves(filter, selection, &runs[place]) {
-            return false;
-        }
-    }
-    true
-}
-
-/// Whether clearing its chosen instances, where the filter admits it, leaves a run as it is.
-fn leaves(filter: &RunFilter, selection: &Selection, run: &Run) -> bool
-    ensures { (result ≡ true) ↔ (run_after filter.now selection.now run.now ≡ run.now) }
-{
-    if !filter.admits(run) {
-        return true;
-    }
-    run.is_left_by(selection)
+    runs.iter()
+        .filter(|run| filter.admits(run))
+        .all(|run| run.is_left_by(selection))
 }
 
 /// The chosen instances of those of these runs that the filter admits. `AllocError` only where a growth was refused.
