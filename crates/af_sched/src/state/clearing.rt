@@ -44,7 +44,8 @@ impl State {
 
     /// Whether clearing the chosen instances of the runs that the filter admits leaves all runs as they are.
     pub fn are_left_by(&self, filter: &RunFilter, selection: &Selection) -> bool
-        ensures { (result ≡ true) ↔ (clears.with_cleared self.now.rows.runs filter.now selection.now ≡ self.now.rows.runs) }
+        ensures told { result ≡ clears.are_left_by filter.now selection.now self.now.rows.runs }
+        ensures left { (result ≡ true) ↔ (clears.with_cleared self.now.rows.runs filter.now selection.now ≡ self.now.rows.runs) }
     {
         self.runs.are_left_by(filter, selection)
     }
