@@ -18,7 +18,7 @@ use Rattle.af_ops.specs.declared.op.Op.{Op}
 use Rattle.af_ops.specs.declared.op.Op.TheVariants as op
 use Rattle.af_ops.specs.declared.place.Place.{Place}
 use Rattle.af_ops.specs.declared.place.Place.TheVariants as place
-use Rattle.af_ops.specs.Bodies.{mark_in, pause_in, trigger_in}
+use Rattle.af_ops.specs.Bodies.{clear_in, clear_run_in, mark_in, pause_in, trigger_in}
 use Rattle.af_ops.specs.Endpoints.{are_names, both, dag_id_in, is_all, is_get, op_of_row, run_id_in, task_id_in}
 use Rattle.af_ops.specs.Methods.{method_of}
 use Rattle.af_ops.specs.Table.{Segment, Text, Part, endpoint_at, methods_at, segments_of}
@@ -129,8 +129,10 @@ few_segments place.Dag = omega arith
 few_segments place.Tasks = omega arith
 few_segments place.Runs = omega arith
 few_segments place.Run = omega arith
+few_segments place.RunClear = omega arith
 few_segments place.Instances = omega arith
 few_segments place.Instance = omega arith
+few_segments place.Clear = omega arith
 
 no_name : (grammar : Grammar) (text : List ℕ) → nat_lt grammar.longest (length text) ≡ true → result_ok (name_in grammar text) ≡ None
 no_name grammar text long = by (not (is_spelled grammar text) || grammar.reserved text)
@@ -219,8 +221,10 @@ no_names method place.Runs (t ∷ []) few long =
     ∙ both_false (is_get method)
 no_names method place.Runs (t ∷ u ∷ ts) few long = absurd (omega (arith, few))
 no_names method place.Run texts few long = no_two texts few long
+no_names method place.RunClear texts few long = no_two texts few long
 no_names method place.Instances texts few long = no_two texts few long
 no_names method place.Instance texts few long = no_three texts few long
+no_names method place.Clear texts few long = no_one texts few long
 
 -- so there is no such path
 pub unfit_path : (method body : List ℕ) (p : Place) (path : List ℕ) → IsUnfit (parts_in (segments_of p) path) → with_parts method body p (parts_in (segments_of p) path) ≡ Err fault.NoPath
@@ -286,6 +290,10 @@ agrees Get place.Run parts body = some_both (λ ids. op.GetRun ids.0 ids.1) (dag
 agrees Post place.Run parts body = tt
 agrees Patch place.Run parts body = some_both (λ ids. op.MarkRun ids.0 ids.1 (mark_in body)) (dag_id_in parts) (run_id_in parts)
 agrees Delete place.Run parts body = tt
+agrees Get place.RunClear parts body = tt
+agrees Post place.RunClear parts body = some_both (λ ids. op.ClearRun ids.0 ids.1 (clear_run_in body)) (dag_id_in parts) (run_id_in parts)
+agrees Patch place.RunClear parts body = tt
+agrees Delete place.RunClear parts body = tt
 agrees Get place.Instances parts body = some_both (λ ids. op.ListInstances ids.0 ids.1) (dag_id_in parts) (run_id_in parts)
 agrees Post place.Instances parts body = tt
 agrees Patch place.Instances parts body = tt
@@ -294,6 +302,10 @@ agrees Get place.Instance parts body = some_three (λ ids. op.GetInstance ids.0.
 agrees Post place.Instance parts body = tt
 agrees Patch place.Instance parts body = tt
 agrees Delete place.Instance parts body = tt
+agrees Get place.Clear parts body = tt
+agrees Post place.Clear parts body = some_map (λ dag_id. op.ClearInstances dag_id (clear_in body)) (dag_id_in parts)
+agrees Patch place.Clear parts body = tt
+agrees Delete place.Clear parts body = tt
 
 reads_if_named : (o : Option Op) (b : Bool) → b ≡ is_some o → (if b then ok_or o fault.NoPath else Err fault.NoPath) ≡ ok_or o fault.NoPath
 reads_if_named None true is = refl

@@ -88,8 +88,10 @@ ranked place.Dag = refl
 ranked place.Tasks = refl
 ranked place.Runs = refl
 ranked place.Run = refl
+ranked place.RunClear = refl
 ranked place.Instances = refl
 ranked place.Instance = refl
+ranked place.Clear = refl
 
 -- the place is in the list, and those before it are apart from it
 abbrev is_first : List Place → Place → Bool
@@ -103,8 +105,10 @@ first_place place.Dag = refl
 first_place place.Tasks = refl
 first_place place.Runs = refl
 first_place place.Run = refl
+first_place place.RunClear = refl
 first_place place.Instances = refl
 first_place place.Instance = refl
+first_place place.Clear = refl
 
 abbrev Finds : List Place → List ℕ → Place → Type 0
 Finds ps path p = find (λ q. has_form (segments_of q) path) ps ≡ Some p

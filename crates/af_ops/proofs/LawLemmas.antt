@@ -1,15 +1,19 @@
 -- Listings, and what operations leave.
-use Rattle.std.proofs.Common.{◌≡◌, ◌∙◌, ◌++◌, ℕ, Bool, true, false, cond, not, List, [], ◌∷◌, refl, sym, ap, subst}
-use Rattle.std.specs.Prelude.{Option, Some, None, Result, Ok, Err, filter, map, ok_or, unwrap_or, if◌then◌else◌}
+use Rattle.std.proofs.Common.{◌≡◌, ◌∙◌, ◌++◌, ℕ, Bool, true, false, cond, not, List, [], ◌∷◌, get_or, refl, sym, ap, subst}
+use Rattle.std.specs.Prelude.{Option, Some, None, Result, Ok, Err, filter, map, ok_or, unwrap_or, if◌then◌else◌, ◌||◌, ⊤}
 use Rattle.std.proofs.lemmas.Bool.{and_parts}
 use Rattle.af_graph.specs.Graph.{same_name}
+use Rattle.af_graph.specs.declared.task_spec.TaskSpec.{TaskSpec}
 use Rattle.std.specs.Cmp.Lexicographic.{bytes_decides, nat_list_cmp_total}
 use Rattle.serde_json.specs.Data.{Data}
 use Rattle.af_base.specs.Readings.{◌>>=◌}
 use Rattle.af_names.proofs.OrderLemmas.{order-filter, order-take}
+use Rattle.af_runs.specs.Clears.{are_left_by}
 use Rattle.af_runs.specs.Marks.{is_marked, marked_run}
 use Rattle.af_runs.specs.Runs.{add_fault, is_of, is_run, queued_run, run_of, runs_of}
 use Rattle.af_runs.specs.declared.mark.Mark.{Mark}
+use Rattle.af_runs.specs.declared.run_filter.RunFilter.{RunFilter}
+use Rattle.af_runs.specs.declared.selection.Selection.{Selection}
 use Rattle.af_runs.specs.declared.run_fault.RunFault.{RunFault}
 use Rattle.af_runs.specs.declared.run_fault.RunFault.TheVariants as run_fault
 use Rattle.af_runs.specs.declared.run.Run.{Run}
@@ -19,15 +23,18 @@ use Rattle.af_sched.specs.declared.dag_row.DagRow.{DagRow}
 use Rattle.af_ops.specs.declared.answer.OpFault.{OpFault}
 use Rattle.af_ops.specs.declared.answer.OpFault.TheVariants.{NoSuchDag, NoSuchRun, NoSuchTask}
 use Rattle.af_ops.specs.declared.body_fault.BodyFault.{BodyFault}
+use Rattle.af_ops.specs.declared.clear.Clear.{Clear}
 use Rattle.af_ops.specs.declared.op.Op.TheVariants as op
 use Rattle.af_ops.specs.declared.trigger.Trigger.{Trigger}
-use Rattle.af_ops.specs.Edits.{with_run}
-use Rattle.af_ops.specs.Effects.{Effect, added_run, differs, free_by, free_id, id_or, input_or, instance_of, instances_data, kept, listed_runs, marking, new_run, paused_dag, pausing, run_marked, runs_data, tasks_data, triggered_run, with_marked_run}
-use Rattle.af_ops.specs.Laws.{ListingsGoById, ReadingsLeaveTheState, ChangesLeaveAnotherState, ChangesStayAtTheirDag, LeavesOthers}
+use Rattle.af_ops.specs.Edits.{with_clear, with_run}
+use Rattle.af_ops.specs.Effects.{Effect, added_run, all_tasks, clearing, differs, filter_of, free_by, free_id, id_or, input_or, instance_of, instances_cleared, instances_data, kept, known_run, known_tasks, listed_runs, marking, new_run, one_run, paused_dag, pausing, run_cleared, run_marked, runs_data, selection_of, tasks_data, triggered_run, with_marked_run}
+use Rattle.af_runs.proofs.MarkLemmas.{chosen_alone}
+use Rattle.af_ops.specs.Laws.{ClearsTouchChosenAlone, DryRunsLeaveTheState, ListingsGoById, ReadingsLeaveTheState, ChangesLeaveAnotherState, ChangesStayAtTheirDag, LeavesOthers}
 use Rattle.af_ops.specs.Listings.{read_rows}
 use Rattle.af_ops.specs.Replies.{dag_data, instance_data, run_data}
 use Rattle.af_ops.specs.Rows.{InstanceTold}
 use Rattle.af_ops.proofs.EditLemmas.{paused_apart, run_apart}
+use Rattle.af_ops.proofs.ClearingLemmas.{cleared_apart, clears_stay}
 use Rattle.af_ops.proofs.MarkingLemmas.{marked_apart}
 
 none_some : {X : Type 0} {x : X} → None ≡ Some x → ⊥
@@ -106,6 +113,8 @@ readings_keep reads state (op.ListRuns dag) now effect get is = listed_kept read
 readings_keep reads state (op.TriggerRun dag_id input) now effect get is = cc
 readings_keep reads state (op.GetRun dag_id run_id) now effect get is = run_kept (sched.dag_of state.dags dag_id) (run_of state.runs dag_id run_id) effect is
 readings_keep reads state (op.MarkRun dag_id run_id input) now effect get is = cc
+readings_keep reads state (op.ClearRun dag_id run_id input) now effect get is = cc
+readings_keep reads state (op.ClearInstances dag_id input) now effect get is = cc
 readings_keep reads state (op.ListInstances dag_id run_id) now effect get is = instances_kept (sched.dag_of state.dags dag_id) (run_of state.runs dag_id run_id) effect is
 readings_keep reads state (op.GetInstance dag_id run_id task_id) now effect get is = instance_kept (sched.dag_of state.dags dag_id) (run_of state.runs dag_id run_id) task_id effect is
 
@@ -209,6 +218,114 @@ marks state dag_id run_id (Err why) now effect next is changes = cc
 marks state dag_id run_id (Ok mark) now effect next is changes =
     marks_found (sched.dag_of state.dags dag_id) (run_of state.runs dag_id run_id) state dag_id run_id mark now effect next refl is changes
 
+-- instances that are cleared: this was asked for, and not as a dry run, they did not all stand so already, and this is the next state
+pub record Clears (state : StateRows) (dag_id : List ℕ) (next : StateRows) : Type 0 where
+  pub asked : RunFilter
+  pub selection : Selection
+  pub of_dag : asked.dag_id ≡ dag_id
+  pub differ : are_left_by asked selection state.runs ≡ false
+  pub next_is : next ≡ with_clear state asked selection
+
+clearing_next : (dry left : Bool) (state : StateRows) (asked : RunFilter) (selection : Selection) (next : StateRows) → are_left_by asked selection state.runs ≡ left → (if dry || left then None else Some (with_clear state asked selection)) ≡ Some next → Clears state asked.dag_id next
+clearing_next true left state asked selection next differ is = cc
+clearing_next false true state asked selection next differ is = cc
+clearing_next false false state asked selection next differ is = record { asked = asked; selection = selection; of_dag = refl; differ = differ; next_is = cc }
+
+clearing_is : (dry : Bool) (state : StateRows) (tasks : List TaskSpec) (asked : RunFilter) (selection : Selection) (effect : Effect) (next : StateRows) → ◌≡◌ {A = Result Effect OpFault} (Ok (clearing state tasks asked selection dry)) (Ok effect) → effect.next ≡ Some next → Clears state asked.dag_id next
+clearing_is dry state tasks asked selection effect next is changes =
+    clearing_next dry (are_left_by asked selection state.runs) state asked selection next refl
+    (let same : clearing state tasks asked selection dry ≡ effect = cc in ap (λ (e : Effect). e.next) same ∙ changes)
+
+run_clear_found : (dag : Option DagRow) (found : Option Run) (state : StateRows) (dag_id run_id : List ℕ) (dry : Bool) (effect : Effect) (next : StateRows)
+    → (ok_or dag NoSuchDag >>= (λ row. ok_or found NoSuchRun >>= (λ run. Ok (clearing state row.dag.tasks (one_run dag_id run_id) (all_tasks row.dag.tasks) dry)))) ≡ Ok effect → effect.next ≡ Some next → Clears state dag_id next
+run_clear_found None found state dag_id run_id dry effect next is changes = cc
+run_clear_found (Some row) None state dag_id run_id dry effect next is changes = cc
+run_clear_found (Some row) (Some run) state dag_id run_id dry effect next is changes =
+    clearing_is dry state row.dag.tasks (one_run dag_id run_id) (all_tasks row.dag.tasks) effect next is changes
+
+pub clears_run : (state : StateRows) (dag_id run_id : List ℕ) (input : Result Bool BodyFault) (effect : Effect) (next : StateRows) → run_cleared state dag_id run_id input ≡ Ok effect → effect.next ≡ Some next → Clears state dag_id next
+clears_run state dag_id run_id (Err why) effect next is changes = cc
+clears_run state dag_id run_id (Ok dry) effect next is changes =
+    run_clear_found (sched.dag_of state.dags dag_id) (run_of state.runs dag_id run_id) state dag_id run_id dry effect next is changes
+
+-- instances of a DAG's runs: this was asked for, and its DAG found
+pub record ClearsAsked (state : StateRows) (dag_id : List ℕ) (input : Result Clear BodyFault) (next : StateRows) : Type 0 where
+  pub asked : Clear
+  pub row : DagRow
+  pub read : input ≡ Ok asked
+  pub found : sched.dag_of state.dags dag_id ≡ Some row
+  pub differ : are_left_by (filter_of dag_id asked) (selection_of row.dag.tasks asked) state.runs ≡ false
+  pub next_is : next ≡ with_clear state (filter_of dag_id asked) (selection_of row.dag.tasks asked)
+
+clear_asked : (dry left : Bool) (state : StateRows) (dag_id : List ℕ) (asked : Clear) (row : DagRow) (next : StateRows) → sched.dag_of state.dags dag_id ≡ Some row → are_left_by (filter_of dag_id asked) (selection_of row.dag.tasks asked) state.runs ≡ left
+    → (if dry || left then None else Some (with_clear state (filter_of dag_id asked) (selection_of row.dag.tasks asked))) ≡ Some next → ClearsAsked state dag_id (Ok asked) next
+clear_asked true left state dag_id asked row next found differ is = cc
+clear_asked false true state dag_id asked row next found differ is = cc
+clear_asked false false state dag_id asked row next found differ is =
+    record { asked = asked; row = row; read = refl; found = found; differ = differ; next_is = cc }
+
+clear_known : (run tasks : Result ⊤ OpFault) (row : DagRow) (state : StateRows) (dag_id : List ℕ) (asked : Clear) (effect : Effect) (next : StateRows) → sched.dag_of state.dags dag_id ≡ Some row
+    → (run >>= (λ r. tasks >>= (λ t. Ok (clearing state row.dag.tasks (filter_of dag_id asked) (selection_of row.dag.tasks asked) asked.dry_run)))) ≡ Ok effect → effect.next ≡ Some next → ClearsAsked state dag_id (Ok asked) next
+clear_known (Err why) tasks row state dag_id asked effect next found is changes = cc
+clear_known (Ok r) (Err why) row state dag_id asked effect next found is changes = cc
+clear_known (Ok r) (Ok t) row state dag_id asked effect next found is changes =
+    clear_asked asked.dry_run (are_left_by (filter_of dag_id asked) (selection_of row.dag.tasks asked) state.runs) state dag_id asked row next found refl
+    (let same : clearing state row.dag.tasks (filter_of dag_id asked) (selection_of row.dag.tasks asked) asked.dry_run ≡ effect = cc in ap (λ (e : Effect). e.next) same ∙ changes)
+
+clear_found : (dag : Option DagRow) (state : StateRows) (dag_id : List ℕ) (asked : Clear) (effect : Effect) (next : StateRows) → sched.dag_of state.dags dag_id ≡ dag
+    → (ok_or dag NoSuchDag >>= (λ row. known_run state dag_id asked.dag_run_id >>= (λ r. known_tasks row.dag.tasks asked.task_ids >>= (λ t. Ok (clearing state row.dag.tasks (filter_of dag_id asked) (selection_of row.dag.tasks asked) asked.dry_run))))) ≡ Ok effect
+    → effect.next ≡ Some next → ClearsAsked state dag_id (Ok asked) next
+clear_found None state dag_id asked effect next found is changes = cc
+clear_found (Some row) state dag_id asked effect next found is changes =
+    clear_known (known_run state dag_id asked.dag_run_id) (known_tasks row.dag.tasks asked.task_ids) row state dag_id asked effect next found is changes
+
+pub clears_asked : (state : StateRows) (dag_id : List ℕ) (input : Result Clear BodyFault) (effect : Effect) (next : StateRows) → instances_cleared state dag_id input ≡ Ok effect → effect.next ≡ Some next → ClearsAsked state dag_id input next
+clears_asked state dag_id (Err why) effect next is changes = cc
+clears_asked state dag_id (Ok asked) effect next is changes =
+    clear_found (sched.dag_of state.dags dag_id) state dag_id asked effect next refl is changes
+
+pub clears_instances : (state : StateRows) (dag_id : List ℕ) (input : Result Clear BodyFault) (effect : Effect) (next : StateRows) → instances_cleared state dag_id input ≡ Ok effect → effect.next ≡ Some next → Clears state dag_id next
+clears_instances state dag_id input effect next is changes =
+    let it = clears_asked state dag_id input effect next is changes in
+    record { asked = filter_of dag_id it.asked; selection = selection_of it.row.dag.tasks it.asked; of_dag = refl; differ = it.differ; next_is = it.next_is }
+
+pub touches_chosen : ClearsTouchChosenAlone
+touches_chosen reads state dag_id input now effect next is changes =
+    let it = clears_asked state dag_id input effect next is changes in
+    (it.asked, (it.row, it.read, it.found, it.next_is, (λ k d within. chosen_alone (selection_of it.row.dag.tasks it.asked) (get_or state.runs k d))))
+
+-- ---- dry runs
+dry_clear : (dag : Option DagRow) (run : Option Run) (state : StateRows) (dag_id run_id : List ℕ) (dry : Bool) (effect : Effect) → dry ≡ true
+    → (ok_or dag NoSuchDag >>= (λ row. ok_or run NoSuchRun >>= (λ it. Ok (clearing state row.dag.tasks (one_run dag_id run_id) (all_tasks row.dag.tasks) dry)))) ≡ Ok effect → effect.next ≡ None
+unfolding next_in
+dry_clear None run state dag_id run_id dry effect only is = cc
+dry_clear (Some row) None state dag_id run_id dry effect only is = cc
+dry_clear (Some row) (Some run) state dag_id run_id dry effect only is =
+    ap (λ (r : Result Effect OpFault). next_in r) (sym is)
+    ∙ ap (λ (b : Bool). if b || are_left_by (one_run dag_id run_id) (all_tasks row.dag.tasks) state.runs then None else Some (with_clear state (one_run dag_id run_id) (all_tasks row.dag.tasks))) only
+
+dry_known : (run tasks : Result ⊤ OpFault) (row : DagRow) (state : StateRows) (dag_id : List ℕ) (asked : Clear) (effect : Effect) → asked.dry_run ≡ true
+    → (run >>= (λ r. tasks >>= (λ t. Ok (clearing state row.dag.tasks (filter_of dag_id asked) (selection_of row.dag.tasks asked) asked.dry_run)))) ≡ Ok effect → effect.next ≡ None
+unfolding next_in
+dry_known (Err why) tasks row state dag_id asked effect only is = cc
+dry_known (Ok r) (Err why) row state dag_id asked effect only is = cc
+dry_known (Ok r) (Ok t) row state dag_id asked effect only is =
+    ap (λ (r : Result Effect OpFault). next_in r) (sym is)
+    ∙ ap (λ (b : Bool). if b || are_left_by (filter_of dag_id asked) (selection_of row.dag.tasks asked) state.runs then None else Some (with_clear state (filter_of dag_id asked) (selection_of row.dag.tasks asked))) only
+
+dry_found : (dag : Option DagRow) (state : StateRows) (dag_id : List ℕ) (asked : Clear) (effect : Effect) → asked.dry_run ≡ true
+    → (ok_or dag NoSuchDag >>= (λ row. known_run state dag_id asked.dag_run_id >>= (λ r. known_tasks row.dag.tasks asked.task_ids >>= (λ t. Ok (clearing state row.dag.tasks (filter_of dag_id asked) (selection_of row.dag.tasks asked) asked.dry_run))))) ≡ Ok effect
+    → effect.next ≡ None
+dry_found None state dag_id asked effect only is = cc
+dry_found (Some row) state dag_id asked effect only is =
+    dry_known (known_run state dag_id asked.dag_run_id) (known_tasks row.dag.tasks asked.task_ids) row state dag_id asked effect only is
+
+pub dry_runs_keep : DryRunsLeaveTheState
+dry_runs_keep reads state now effect = (
+  (λ dag_id run_id is. dry_clear (sched.dag_of state.dags dag_id) (run_of state.runs dag_id run_id) state dag_id run_id true effect refl is),
+  (λ dag_id asked only is. dry_found (sched.dag_of state.dags dag_id) state dag_id asked effect only is),
+)
+
 -- what is read is no change
 pub unchanged : {X : Type 0} (effect : Effect) (next : StateRows) → effect.next ≡ None → effect.next ≡ Some next → X
 unchanged effect next none changes = absurd (none_some (sym none ∙ changes))
@@ -229,6 +346,12 @@ changes_differ reads state (op.GetRun dag_id run_id) now effect next is changes 
 changes_differ reads state (op.MarkRun dag_id run_id input) now effect next is changes same =
     let it = marks state dag_id run_id input now effect next is changes in
     marked_apart state dag_id run_id it.run it.mark now it.found it.differ (sym it.next_is ∙ same)
+changes_differ reads state (op.ClearRun dag_id run_id input) now effect next is changes same =
+    let it = clears_run state dag_id run_id input effect next is changes in
+    cleared_apart state it.asked it.selection it.differ (sym it.next_is ∙ same)
+changes_differ reads state (op.ClearInstances dag_id input) now effect next is changes same =
+    let it = clears_instances state dag_id input effect next is changes in
+    cleared_apart state it.asked it.selection it.differ (sym it.next_is ∙ same)
 changes_differ reads state (op.ListInstances dag_id run_id) now effect next is changes same = unchanged effect next (readings_keep reads state (op.ListInstances dag_id run_id) now effect refl is) changes
 changes_differ reads state (op.GetInstance dag_id run_id task_id) now effect next is changes same = unchanged effect next (readings_keep reads state (op.GetInstance dag_id run_id task_id) now effect refl is) changes
 
@@ -251,6 +374,10 @@ marks_stay state dag_id run_id now next marks =
       runs = other_runs_stay dag_id run_id marks.mark now state.runs;
       pools = refl;
     })
+
+cleared_stay : (state : StateRows) (dag_id : List ℕ) (next : StateRows) → Clears state dag_id next → LeavesOthers dag_id state next
+cleared_stay state dag_id next it =
+    subst (λ (id : List ℕ). LeavesOthers id state next) it.of_dag (subst (λ (s : StateRows). LeavesOthers it.asked.dag_id state s) (sym it.next_is) (clears_stay state it.asked it.selection))
 
 -- the other rows are passed over
 kept_row : (is is_paused : Bool) (dag_id : List ℕ) (row : DagRow) (new old : List DagRow) → is_of_id dag_id row ≡ is → filter (λ r. not (is_of_id dag_id r)) new ≡ filter (λ r. not (is_of_id dag_id r)) old
@@ -297,5 +424,9 @@ changes_stay reads state (op.TriggerRun dag_id input) now effect next at is chan
 changes_stay reads state (op.GetRun dag_id run_id) now effect next at is changes names = unchanged effect next (readings_keep reads state (op.GetRun dag_id run_id) now effect refl is) changes
 changes_stay reads state (op.MarkRun dag_id run_id input) now effect next at is changes names =
     subst (λ (id : List ℕ). LeavesOthers id state next) (some_same names) (marks_stay state dag_id run_id now next (marks state dag_id run_id input now effect next is changes))
+changes_stay reads state (op.ClearRun dag_id run_id input) now effect next at is changes names =
+    subst (λ (id : List ℕ). LeavesOthers id state next) (some_same names) (cleared_stay state dag_id next (clears_run state dag_id run_id input effect next is changes))
+changes_stay reads state (op.ClearInstances dag_id input) now effect next at is changes names =
+    subst (λ (id : List ℕ). LeavesOthers id state next) (some_same names) (cleared_stay state dag_id next (clears_instances state dag_id input effect next is changes))
 changes_stay reads state (op.ListInstances dag_id run_id) now effect next at is changes names = unchanged effect next (readings_keep reads state (op.ListInstances dag_id run_id) now effect refl is) changes
 changes_stay reads state (op.GetInstance dag_id run_id task_id) now effect next at is changes names = unchanged effect next (readings_keep reads state (op.GetInstance dag_id run_id task_id) now effect refl is) changes

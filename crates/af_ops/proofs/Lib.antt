@@ -1,4 +1,5 @@
 mod BodyLemmas
+mod ClearingLemmas
 mod DecisionLemmas
 mod EditLemmas
 mod LawLemmas

@@ -10,7 +10,7 @@ use Rattle.af_ops.specs.declared.method.Method.{Method}
 use Rattle.af_ops.specs.declared.method.Method.TheVariants.{Get, Post, Patch, Delete}
 use Rattle.af_ops.specs.declared.op.Op.{Op}
 use Rattle.af_ops.specs.declared.op.Op.TheVariants as op
-use Rattle.af_ops.specs.Bodies.{mark_in, pause_in, trigger_in}
+use Rattle.af_ops.specs.Bodies.{clear_in, clear_run_in, mark_in, pause_in, trigger_in}
 use Rattle.af_ops.specs.Endpoints.{both, dag_id_in, dag_of, endpoint_of, is_all, run_id_in, task_id_in}
 use Rattle.af_ops.specs.Laws.{EachIsFound, Matches, OneRowAtMost, OperationsAreOfTheirRow}
 use Rattle.af_ops.specs.Methods.{same_method}
@@ -81,8 +81,10 @@ rank endpoint.ListRuns = 5
 rank endpoint.TriggerRun = 6
 rank endpoint.GetRun = 7
 rank endpoint.MarkRun = 8
-rank endpoint.ListInstances = 9
-rank endpoint.GetInstance = 10
+rank endpoint.ClearRun = 9
+rank endpoint.ListInstances = 10
+rank endpoint.GetInstance = 11
+rank endpoint.ClearInstances = 12
 
 stands : (it d : Endpoint) → get_or endpoints (rank it) d ≡ it
 unfolding rank
@@ -95,8 +97,10 @@ stands endpoint.ListRuns d = refl
 stands endpoint.TriggerRun d = refl
 stands endpoint.GetRun d = refl
 stands endpoint.MarkRun d = refl
+stands endpoint.ClearRun d = refl
 stands endpoint.ListInstances d = refl
 stands endpoint.GetInstance d = refl
+stands endpoint.ClearInstances d = refl
 
 inside : (it : Endpoint) → rank it < length endpoints
 unfolding rank
@@ -109,8 +113,10 @@ inside endpoint.ListRuns = omega arith
 inside endpoint.TriggerRun = omega arith
 inside endpoint.GetRun = omega arith
 inside endpoint.MarkRun = omega arith
+inside endpoint.ClearRun = omega arith
 inside endpoint.ListInstances = omega arith
 inside endpoint.GetInstance = omega arith
+inside endpoint.ClearInstances = omega arith
 
 same-refl : (method : Method) → same_method method method ≡ true
 same-refl Get = refl
@@ -140,8 +146,10 @@ each_found endpoint.ListRuns = refl
 each_found endpoint.TriggerRun = refl
 each_found endpoint.GetRun = refl
 each_found endpoint.MarkRun = refl
+each_found endpoint.ClearRun = refl
 each_found endpoint.ListInstances = refl
 each_found endpoint.GetInstance = refl
+each_found endpoint.ClearInstances = refl
 
 -- ---- what is read of a row
 
@@ -196,6 +204,10 @@ of_their_row endpoint.GetRun parts body asked is =
     mapped_both (λ id run_id. op.GetRun id run_id) endpoint.GetRun (dag_id_in parts) (run_id_in parts) asked (λ id run_id. refl) (λ id run_id. refl) is
 of_their_row endpoint.MarkRun parts body asked is =
     mapped_both (λ id run_id. op.MarkRun id run_id (mark_in body)) endpoint.MarkRun (dag_id_in parts) (run_id_in parts) asked (λ id run_id. refl) (λ id run_id. refl) is
+of_their_row endpoint.ClearRun parts body asked is =
+    mapped_both (λ id run_id. op.ClearRun id run_id (clear_run_in body)) endpoint.ClearRun (dag_id_in parts) (run_id_in parts) asked (λ id run_id. refl) (λ id run_id. refl) is
 of_their_row endpoint.ListInstances parts body asked is =
     mapped_both (λ id run_id. op.ListInstances id run_id) endpoint.ListInstances (dag_id_in parts) (run_id_in parts) asked (λ id run_id. refl) (λ id run_id. refl) is
 of_their_row endpoint.GetInstance parts body asked is = mapped_three (dag_id_in parts) (run_id_in parts) (task_id_in parts) asked is
+of_their_row endpoint.ClearInstances parts body asked is =
+    mapped (λ id. op.ClearInstances id (clear_in body)) endpoint.ClearInstances (dag_id_in parts) asked (λ id. refl) (λ id. refl) is

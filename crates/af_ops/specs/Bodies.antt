@@ -1,21 +1,23 @@
 -- What a request's body holds: a JSON object whose members are read in a written order; the first that is absent though it has
 -- to be there, or of a wrong kind or value, is told by its name (this product's own rule). Null counts as absent.
-use Rattle.std.specs.Prelude.{ℕ, List, Bool, true, false, is_some, if◌then◌else◌, Option, Some, None, option_and_then, ok_or, Result, Ok, Err, codes, ⊤}
+use Rattle.std.specs.Prelude.{ℕ, List, [], ◌∷◌, ◌++◌, Bool, true, false, is_some, if◌then◌else◌, Option, Some, None, option_and_then, ok_or, unwrap_or, Result, Ok, Err, codes, ⊤}
 use Rattle.std.specs.Option.{option_map_or}
 use Rattle.std.specs.Result.{result_ok}
 use Rattle.serde_json.specs.Data.{Data, Members, no_members, member}
 use Rattle.serde_json.specs.Find.{as_bool, as_object, as_str}
+use Rattle.af_base.specs.Members.{as_list}
 use Rattle.af_base.specs.Parsed.{json_of}
-use Rattle.af_base.specs.Readings.{◌>>=◌, member_of, optional, required}
+use Rattle.af_base.specs.Readings.{◌>>=◌, member_of, optional, required, taking}
 use Rattle.af_names.specs.Instants.{instant_of}
-use Rattle.af_names.specs.Names.{named, run_id_grammar}
+use Rattle.af_names.specs.Names.{id_grammar, named, run_id_grammar}
 use Rattle.af_runs.specs.Marks.{mark_of}
 use Rattle.af_runs.specs.Texts.{state_of}
 use Rattle.af_runs.specs.declared.mark.Mark.{Mark}
 use Rattle.af_ops.specs.declared.body_fault.Member.{Member}
-use Rattle.af_ops.specs.declared.body_fault.Member.TheVariants.{IsPaused, DagRunId, LogicalDate, ExecutionDate, Conf, State}
+use Rattle.af_ops.specs.declared.body_fault.Member.TheVariants.{IsPaused, DagRunId, LogicalDate, ExecutionDate, Conf, State, DryRun, OnlyFailed, TaskIds, StartDate, EndDate}
 use Rattle.af_ops.specs.declared.body_fault.BodyFault.{BodyFault}
 use Rattle.af_ops.specs.declared.body_fault.BodyFault.TheVariants.{BadBody, BadMember}
+use Rattle.af_ops.specs.declared.clear.Clear.{Clear}
 use Rattle.af_ops.specs.declared.trigger.Trigger.{Trigger}
 
 abbrev pub name_of : Member → List ℕ
@@ -25,6 +27,11 @@ name_of LogicalDate = codes "logical_date"
 name_of ExecutionDate = codes "execution_date"
 name_of Conf = codes "conf"
 name_of State = codes "state"
+name_of DryRun = codes "dry_run"
+name_of OnlyFailed = codes "only_failed"
+name_of TaskIds = codes "task_ids"
+name_of StartDate = codes "start_date"
+name_of EndDate = codes "end_date"
 
 abbrev pub object_or : Data → Result Data BodyFault
 object_or value = if is_some (as_object value) then Ok value else Err BadBody
@@ -63,6 +70,23 @@ is_empty value = option_map_or has_none (as_object value) false
 abbrev pub empty_object : Data → Option ⊤
 empty_object value = if is_empty value then Some tt else None
 
+-- one id of a task more
+abbrev pub id_taken : List (List ℕ) → Data → Result (List (List ℕ)) BodyFault
+id_taken ids value =
+    ok_or (option_and_then (λ text. result_ok (named id_grammar text)) (as_str value)) (BadMember TaskIds)
+    >>= (λ id. Ok (ids ++ id ∷ []))
+
+-- the ids of tasks, where they are there: a list, each of whose items is one
+abbrev pub ids_or : Option Data → Result (Option (List (List ℕ))) BodyFault
+ids_or None = Ok None
+ids_or (Some value) = do
+  values ← ok_or (as_list value) (BadMember TaskIds)
+  ids ← taking id_taken [] values
+  Ok (Some ids)
+
+abbrev pub task_ids_in : Data → Result (Option (List (List ℕ))) BodyFault
+task_ids_in body = ids_or (member_of (codes "task_ids") body)
+
 -- ---- bodies
 
 -- a truth value that says whether a DAG is paused
@@ -90,3 +114,29 @@ abbrev pub mark_in : List ℕ → Result Mark BodyFault
 mark_in bytes = do
   body ← body_in bytes
   required_in mark_value State body
+
+-- whether a clear of a run is only to be told: it is, unless the body says that it is not
+abbrev pub clear_run_in : List ℕ → Result Bool BodyFault
+clear_run_in bytes = do
+  body ← body_in bytes
+  dry_run ← optional_in as_bool DryRun body
+  Ok (unwrap_or dry_run true)
+
+-- which instances are cleared, and whether that is only to be told
+abbrev pub clear_in : List ℕ → Result Clear BodyFault
+clear_in bytes = do
+  body ← body_in bytes
+  dry_run ← optional_in as_bool DryRun body
+  only_failed ← optional_in as_bool OnlyFailed body
+  task_ids ← task_ids_in body
+  run_id ← optional_in run_id_of DagRunId body
+  first ← optional_in instant_in StartDate body
+  last ← optional_in instant_in EndDate body
+  Ok (record {
+    dry_run = unwrap_or dry_run true;
+    only_failed = unwrap_or only_failed true;
+    task_ids = task_ids;
+    dag_run_id = run_id;
+    start_date = first;
+    end_date = last;
+  })

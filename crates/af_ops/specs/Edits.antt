@@ -1,9 +1,12 @@
 -- The kinds of change that operations make to a state.
 use Rattle.std.specs.Prelude.{ℕ, ◌+◌, [], ◌∷◌, ◌++◌, Bool, true, false, unwrap_or, Option, Some, None}
+use Rattle.af_runs.specs.Clears.{with_cleared}
 use Rattle.af_runs.specs.Marks.{with_marked}
 use Rattle.af_runs.specs.Runs.{queued_run}
 use Rattle.af_runs.specs.declared.mark.Mark.{Mark}
 use Rattle.af_runs.specs.declared.new_run.NewRun.{NewRun}
+use Rattle.af_runs.specs.declared.run_filter.RunFilter.{RunFilter}
+use Rattle.af_runs.specs.declared.selection.Selection.{Selection}
 use Rattle.af_sched.specs.State.{StateRows, with_paused}
 use Rattle.af_ops.specs.declared.edit.Edit.{Edit}
 use Rattle.af_ops.specs.declared.edit.Edit.TheVariants as edit
@@ -16,12 +19,17 @@ with_run state new = record state { runs = state.runs ++ queued_run state.next_r
 abbrev pub with_mark : StateRows → ℕ → Mark → ℕ → StateRows
 with_mark state number mark at = record state { runs = with_marked state.runs number mark at }
 
+-- the state, the chosen instances of the runs that a filter admits cleared
+abbrev pub with_clear : StateRows → RunFilter → Selection → StateRows
+with_clear state filter selection = record state { runs = with_cleared state.runs filter selection }
+
 -- the state that an edit makes, or none where it is no change
 abbrev pub next_by : Edit → StateRows → Option StateRows
 next_by edit.Nothing state = None
 next_by (edit.DagPaused dag_id is_paused) state = Some (record state { dags = with_paused state.dags dag_id is_paused })
 next_by (edit.RunAdded new) state = Some (with_run state new)
 next_by (edit.RunMarked number mark at) state = Some (with_mark state number mark at)
+next_by (edit.InstancesCleared filter selection) state = Some (with_clear state filter selection)
 
 -- a state after an edit
 abbrev pub edited : Edit → StateRows → StateRows
@@ -33,3 +41,4 @@ is_edit edit.Nothing = false
 is_edit (edit.DagPaused dag_id is_paused) = true
 is_edit (edit.RunAdded new) = true
 is_edit (edit.RunMarked number mark at) = true
+is_edit (edit.InstancesCleared filter selection) = true

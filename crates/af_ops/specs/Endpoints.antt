@@ -1,9 +1,10 @@
 -- The operations of the API (Airflow 2, "Stable REST API"), with what a request says of them.
-use Rattle.std.specs.Prelude.{◌≡◌, ◌⊎◌, ◌&&◌, ◌||◌, ℕ, List, [], ◌∷◌, Bool, true, false, is_some, Option, Some, None, option_map, Result, Ok, Err, if◌then◌else◌}
+use Rattle.std.specs.Prelude.{◌≡◌, ◌⊎◌, ◌&&◌, ◌||◌, ℕ, List, [], ◌∷◌, Bool, true, false, is_some, Option, Some, None, option_map, unwrap_or, Result, Ok, Err, if◌then◌else◌}
 use Rattle.std.specs.Result.{result_ok}
 use Rattle.af_names.specs.Names.{Grammar, named, id_grammar, is_tilde, run_id_grammar}
 use Rattle.af_ops.specs.declared.body_fault.BodyFault.{BodyFault}
 use Rattle.af_ops.specs.declared.body_fault.BodyFault.TheVariants.{OutOfMemory}
+use Rattle.af_ops.specs.declared.clear.Clear.{Clear}
 use Rattle.af_ops.specs.declared.endpoint.Endpoint.{Endpoint}
 use Rattle.af_ops.specs.declared.endpoint.Endpoint.TheVariants as endpoint
 use Rattle.af_ops.specs.declared.method.Method.{Method}
@@ -13,7 +14,7 @@ use Rattle.af_ops.specs.declared.op.Op.TheVariants as op
 use Rattle.af_ops.specs.declared.place.Place.{Place}
 use Rattle.af_ops.specs.declared.place.Place.TheVariants as place
 use Rattle.af_ops.specs.declared.trigger.Trigger.{Trigger}
-use Rattle.af_ops.specs.Bodies.{mark_in, pause_in, trigger_in}
+use Rattle.af_ops.specs.Bodies.{clear_in, clear_run_in, mark_in, pause_in, trigger_in}
 
 abbrev pub endpoint_of : Op → Endpoint
 endpoint_of op.Version = endpoint.Version
@@ -25,8 +26,10 @@ endpoint_of (op.ListRuns dag) = endpoint.ListRuns
 endpoint_of (op.TriggerRun dag_id input) = endpoint.TriggerRun
 endpoint_of (op.GetRun dag_id run_id) = endpoint.GetRun
 endpoint_of (op.MarkRun dag_id run_id input) = endpoint.MarkRun
+endpoint_of (op.ClearRun dag_id run_id input) = endpoint.ClearRun
 endpoint_of (op.ListInstances dag_id run_id) = endpoint.ListInstances
 endpoint_of (op.GetInstance dag_id run_id task_id) = endpoint.GetInstance
+endpoint_of (op.ClearInstances dag_id input) = endpoint.ClearInstances
 
 -- the DAG that an operation names, or none
 abbrev pub dag_of : Op → Option (List ℕ)
@@ -39,8 +42,25 @@ dag_of (op.ListRuns dag) = dag
 dag_of (op.TriggerRun dag_id input) = Some dag_id
 dag_of (op.GetRun dag_id run_id) = Some dag_id
 dag_of (op.MarkRun dag_id run_id input) = Some dag_id
+dag_of (op.ClearRun dag_id run_id input) = Some dag_id
 dag_of (op.ListInstances dag_id run_id) = Some dag_id
 dag_of (op.GetInstance dag_id run_id task_id) = Some dag_id
+dag_of (op.ClearInstances dag_id input) = Some dag_id
+
+-- the run whose instances alone are cleared, or none
+abbrev pub cleared_run : Result Clear BodyFault → Option (List ℕ)
+cleared_run (Ok asked) = asked.dag_run_id
+cleared_run (Err fault) = None
+
+-- the ids of the tasks whose instances alone are cleared
+abbrev pub ids_in : Result Clear BodyFault → List (List ℕ)
+ids_in (Ok asked) = unwrap_or asked.task_ids []
+ids_in (Err fault) = []
+
+-- the ids of tasks that the body of an operation names, in their order
+abbrev pub task_ids_of : Op → List (List ℕ)
+task_ids_of (op.ClearInstances dag_id input) = ids_in input
+task_ids_of _ = []
 
 -- the run that an operation names, or none
 abbrev pub run_of : Op → Option (List ℕ)
@@ -53,8 +73,10 @@ run_of (op.ListRuns dag) = None
 run_of (op.TriggerRun dag_id input) = None
 run_of (op.GetRun dag_id run_id) = Some run_id
 run_of (op.MarkRun dag_id run_id input) = Some run_id
+run_of (op.ClearRun dag_id run_id input) = Some run_id
 run_of (op.ListInstances dag_id run_id) = Some run_id
 run_of (op.GetInstance dag_id run_id task_id) = Some run_id
+run_of (op.ClearInstances dag_id input) = cleared_run input
 
 -- the task that an operation names, or none
 abbrev pub task_of : Op → Option (List ℕ)
@@ -67,8 +89,10 @@ task_of (op.ListRuns dag) = None
 task_of (op.TriggerRun dag_id input) = None
 task_of (op.GetRun dag_id run_id) = None
 task_of (op.MarkRun dag_id run_id input) = None
+task_of (op.ClearRun dag_id run_id input) = None
 task_of (op.ListInstances dag_id run_id) = None
 task_of (op.GetInstance dag_id run_id task_id) = Some task_id
+task_of (op.ClearInstances dag_id input) = None
 
 abbrev pub given_in : Result Trigger BodyFault → Option (List ℕ)
 given_in (Ok asked) = asked.dag_run_id
@@ -85,8 +109,10 @@ given_id (op.ListRuns dag) = None
 given_id (op.TriggerRun dag_id input) = given_in input
 given_id (op.GetRun dag_id run_id) = None
 given_id (op.MarkRun dag_id run_id input) = None
+given_id (op.ClearRun dag_id run_id input) = None
 given_id (op.ListInstances dag_id run_id) = None
 given_id (op.GetInstance dag_id run_id task_id) = None
+given_id (op.ClearInstances dag_id input) = None
 
 -- the name of a kind that is the first of some parts
 abbrev pub first_in : Grammar → List (List ℕ) → Option (List ℕ)
@@ -141,8 +167,10 @@ are_names method place.Dag parts = is_some (dag_id_in parts)
 are_names method place.Tasks parts = is_some (dag_id_in parts)
 are_names method place.Runs parts = is_some (dag_id_in parts) || (is_get method && is_all parts)
 are_names method place.Run parts = is_some (dag_id_in parts) && is_some (run_id_in parts)
+are_names method place.RunClear parts = is_some (dag_id_in parts) && is_some (run_id_in parts)
 are_names method place.Instances parts = is_some (dag_id_in parts) && is_some (run_id_in parts)
 are_names method place.Instance parts = is_some (dag_id_in parts) && (is_some (run_id_in parts) && is_some (task_id_in parts))
+are_names method place.Clear parts = is_some (dag_id_in parts)
 
 -- The operation that a row of the table stands for, where the parts of the path, decoded, are these and the body has these
 -- bytes; none where a part is no name of its kind. Bodies of operations that read none are ignored.
@@ -156,8 +184,10 @@ op_of_row endpoint.ListRuns parts body = if is_all parts then Some (op.ListRuns 
 op_of_row endpoint.TriggerRun parts body = option_map (λ dag_id. op.TriggerRun dag_id (trigger_in body)) (dag_id_in parts)
 op_of_row endpoint.GetRun parts body = option_map (λ ids. op.GetRun ids.0 ids.1) (run_ids_in parts)
 op_of_row endpoint.MarkRun parts body = option_map (λ ids. op.MarkRun ids.0 ids.1 (mark_in body)) (run_ids_in parts)
+op_of_row endpoint.ClearRun parts body = option_map (λ ids. op.ClearRun ids.0 ids.1 (clear_run_in body)) (run_ids_in parts)
 op_of_row endpoint.ListInstances parts body = option_map (λ ids. op.ListInstances ids.0 ids.1) (run_ids_in parts)
 op_of_row endpoint.GetInstance parts body = option_map (λ ids. op.GetInstance ids.0.0 ids.0.1 ids.1) (instance_ids_in parts)
+op_of_row endpoint.ClearInstances parts body = option_map (λ dag_id. op.ClearInstances dag_id (clear_in body)) (dag_id_in parts)
 
 -- the same operation, whose body was not read for want of memory
 abbrev pub unread : Op → Op
@@ -170,8 +200,10 @@ unread (op.ListRuns dag) = op.ListRuns dag
 unread (op.TriggerRun dag_id input) = op.TriggerRun dag_id (Err OutOfMemory)
 unread (op.GetRun dag_id run_id) = op.GetRun dag_id run_id
 unread (op.MarkRun dag_id run_id input) = op.MarkRun dag_id run_id (Err OutOfMemory)
+unread (op.ClearRun dag_id run_id input) = op.ClearRun dag_id run_id (Err OutOfMemory)
 unread (op.ListInstances dag_id run_id) = op.ListInstances dag_id run_id
 unread (op.GetInstance dag_id run_id task_id) = op.GetInstance dag_id run_id task_id
+unread (op.ClearInstances dag_id input) = op.ClearInstances dag_id (Err OutOfMemory)
 
 -- this operation was read, all of it or without its body
 abbrev pub IsRead : Option Op → Option Op → Type 0

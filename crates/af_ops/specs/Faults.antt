@@ -1,5 +1,5 @@
 -- What is told of a fault: its status and its detail.
-use Rattle.std.specs.Prelude.{ℕ, List, [], ◌++◌, Option, Some, None, unwrap_or, codes}
+use Rattle.std.specs.Prelude.{ℕ, List, [], ◌++◌, Option, Some, None, slice_index_or, unwrap_or, codes}
 use Rattle.af_names.specs.Isoformat.{isoformat}
 use Rattle.af_role.specs.Needs.{need_text}
 use Rattle.af_ops.specs.declared.answer.CallFault.{CallFault}
@@ -10,7 +10,7 @@ use Rattle.af_ops.specs.declared.status.Status.{Status}
 use Rattle.af_ops.specs.declared.status.Status.TheVariants as status
 use Rattle.af_ops.specs.Bodies.{name_of}
 use Rattle.af_ops.specs.Effects.{id_or}
-use Rattle.af_ops.specs.Endpoints.{dag_of, given_id, run_of, task_of}
+use Rattle.af_ops.specs.Endpoints.{dag_of, given_id, run_of, task_ids_of, task_of}
 use Rattle.af_ops.specs.Rows.{Problem}
 
 abbrev pub fault_of : Status → List ℕ → Option Problem
@@ -25,6 +25,7 @@ problem_of asked (why.Op (fault.BadMember it)) = fault_of status.BadRequest (cod
 problem_of asked (why.Op fault.NoSuchDag) = fault_of status.NotFound (codes "no such dag: " ++ unwrap_or (dag_of asked) [])
 problem_of asked (why.Op fault.NoSuchRun) = fault_of status.NotFound (codes "no such run: " ++ unwrap_or (run_of asked) [])
 problem_of asked (why.Op fault.NoSuchTask) = fault_of status.NotFound (codes "no such task: " ++ unwrap_or (task_of asked) [])
+problem_of asked (why.Op (fault.NoSuchTaskAt place)) = fault_of status.NotFound (codes "no such task: " ++ slice_index_or (task_ids_of asked) place [])
 problem_of asked (why.Op (fault.RunExists date)) = fault_of status.Conflict (codes "run exists: " ++ id_or (given_id asked) date)
 problem_of asked (why.Op (fault.DateTaken date)) = fault_of status.Conflict (codes "date taken: " ++ isoformat date)
 problem_of asked (why.Op fault.TooMany) = fault_of status.Conflict (codes "too many")

@@ -4,19 +4,23 @@ use Rattle.std.specs.Cmp.Lexicographic.{pointwise}
 use Rattle.std.specs.List.Sorted.{IsStrictlySortedBy}
 use Rattle.std.specs.Ordering.{nat_cmp}
 use Rattle.af_graph.specs.declared.task_state.TaskState.TheVariants.{NoStatus}
+use Rattle.af_runs.specs.Clears.{run_after}
+use Rattle.af_runs.specs.Laws.{TouchesChosenAlone}
 use Rattle.af_runs.specs.Runs.{AreRuns, is_of, run_of, runs_of}
 use Rattle.af_runs.specs.declared.run.Run.{Run}
 use Rattle.af_runs.specs.declared.run_state.RunState.TheVariants.{Queued}
 use Rattle.af_runs.specs.declared.run_type.RunType.TheVariants.{Manual}
 use Rattle.af_sched.specs.State.{AreInOrder, StateRows, is_of_id}
 use Rattle.af_sched.specs.State as sched
+use Rattle.af_sched.specs.declared.dag_row.DagRow.{DagRow}
 use Rattle.af_ops.specs.declared.body_fault.BodyFault.{BodyFault}
+use Rattle.af_ops.specs.declared.clear.Clear.{Clear}
 use Rattle.af_ops.specs.declared.endpoint.Endpoint.{Endpoint}
 use Rattle.af_ops.specs.declared.method.Method.TheVariants.{Get}
 use Rattle.af_ops.specs.declared.op.Op.{Op}
 use Rattle.af_ops.specs.declared.op.Op.TheVariants as op
 use Rattle.af_ops.specs.declared.trigger.Trigger.{Trigger}
-use Rattle.af_ops.specs.Effects.{Effect, effect_of, id_or}
+use Rattle.af_ops.specs.Effects.{Effect, effect_of, filter_of, id_or, selection_of}
 use Rattle.af_ops.specs.Endpoints.{dag_id_in, dag_of, endpoint_of, op_of_row}
 use Rattle.af_ops.specs.Listings.{default_limit, page, read_rows}
 use Rattle.af_ops.specs.Table.{Segment, Text, Part, endpoint_at, route_of, segments_of}
@@ -99,6 +103,23 @@ TriggersAddARun =
     → AreRuns state.runs state.next_run → effect_of reads state (op.TriggerRun dag_id input) now ≡ Ok effect
     → (asked : Trigger) × (input ≡ Ok asked)
     × ((next : StateRows) × (effect.next ≡ Some next) × ((run : Run) × AddsRun dag_id (id_or asked.dag_run_id (unwrap_or asked.logical_date now)) (unwrap_or asked.logical_date now) state next run))
+
+-- a dry run of a clear leaves every state as it is
+abbrev pub DryRunsLeaveTheState : Type 0
+DryRunsLeaveTheState =
+    (reads : List ℕ → Bool) (state : StateRows) (now : ℕ) (effect : Effect)
+    → ((dag_id run_id : List ℕ) → effect_of reads state (op.ClearRun dag_id run_id (Ok true)) now ≡ Ok effect → effect.next ≡ None)
+    × ((dag_id : List ℕ) (asked : Clear) → asked.dry_run ≡ true → effect_of reads state (op.ClearInstances dag_id (Ok asked)) now ≡ Ok effect → effect.next ≡ None)
+
+-- a clear changes the runs of its DAG that are asked for alone, and of them the instances that are chosen: each other instance is
+-- as it was
+abbrev pub ClearsTouchChosenAlone : Type 0
+ClearsTouchChosenAlone =
+    (reads : List ℕ → Bool) (state : StateRows) (dag_id : List ℕ) (input : Result Clear BodyFault) (now : ℕ) (effect : Effect) (next : StateRows)
+    → effect_of reads state (op.ClearInstances dag_id input) now ≡ Ok effect → effect.next ≡ Some next
+    → (asked : Clear) × ((row : DagRow) × (input ≡ Ok asked) × (sched.dag_of state.dags dag_id ≡ Some row)
+    × (next ≡ record state { runs = map (run_after (filter_of dag_id asked) (selection_of row.dag.tasks asked)) state.runs })
+    × All (TouchesChosenAlone (selection_of row.dag.tasks asked)) state.runs)
 
 -- the number that the next run gets never falls
 abbrev pub RunNumbersRise : Type 0

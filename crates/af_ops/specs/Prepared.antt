@@ -30,6 +30,7 @@ CanDo state edit.Nothing = ⊤
 CanDo state (edit.DagPaused dag_id is_paused) = ⊤
 CanDo state (edit.RunAdded new) = CanAddRun state new
 CanDo state (edit.RunMarked number mark at) = ⊤
+CanDo state (edit.InstancesCleared filter selection) = ⊤
 
 -- the edit changes the state exactly where there is one
 abbrev pub IsExact : StateRows → Edit → Type 0

@@ -5,13 +5,16 @@ use Rattle.af_runs.specs.declared.run.Run.{Run}
 use Rattle.af_sched.specs.declared.dag_row.DagRow.{DagRow}
 use Rattle.af_ops.specs.declared.status.Status.{Status}
 use Rattle.af_ops.specs.Fields.{object_of}
-use Rattle.af_ops.specs.Rows.{InstanceTold, TaskTold, dag_fields, instance_fields, run_fields, task_fields, version_fields, problem_fields}
+use Rattle.af_ops.specs.Rows.{ClearedTold, InstanceTold, TaskTold, cleared_fields, dag_fields, instance_fields, run_fields, task_fields, version_fields, problem_fields}
 
 abbrev pub dag_data : DagRow → Data
 dag_data row = object_of (dag_fields row)
 
 abbrev pub instance_data : InstanceTold → Data
 instance_data told = object_of (instance_fields told)
+
+abbrev pub cleared_data : ClearedTold → Data
+cleared_data told = object_of (cleared_fields told)
 
 abbrev pub task_data : TaskTold → Data
 task_data told = object_of (task_fields told)

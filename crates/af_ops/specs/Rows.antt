@@ -120,6 +120,19 @@ instance_last told =
 abbrev pub instance_fields : InstanceTold → List Field
 instance_fields told = instance_first told ++ instance_last told
 
+-- an instance that is cleared: its run, and its task
+pub record ClearedTold : Type 0 where
+  pub run : Run
+  pub task_id : List ℕ
+
+abbrev pub cleared_fields : ClearedTold → List Field
+cleared_fields told =
+    (codes "dag_id", string told.run.dag_id)
+    ∷ (codes "dag_run_id", string told.run.run_id)
+    ∷ (codes "logical_date", instant_data (Some told.run.logical_date))
+    ∷ (codes "task_id", string told.task_id)
+    ∷ []
+
 -- what the server is
 abbrev pub version_fields : List Field
 version_fields = (codes "git_version", null) ∷ (codes "version", string (codes "afplane 1")) ∷ []

@@ -41,8 +41,10 @@ segments_of place.Dag = of_dag []
 segments_of place.Tasks = of_dag (Text (codes "tasks") ∷ [])
 segments_of place.Runs = of_dag (Text (codes "dagRuns") ∷ [])
 segments_of place.Run = of_run []
+segments_of place.RunClear = of_run (Text (codes "clear") ∷ [])
 segments_of place.Instances = of_run (Text (codes "taskInstances") ∷ [])
 segments_of place.Instance = of_run (Text (codes "taskInstances") ∷ Part (codes "task_id") ∷ [])
+segments_of place.Clear = of_dag (Text (codes "clearTaskInstances") ∷ [])
 
 -- how a path is spelled, with its parts in braces
 abbrev pub spelled : List Segment → List ℕ
@@ -51,7 +53,7 @@ spelled (Text text ∷ rest) = 47 ∷ (text ++ spelled rest)
 spelled (Part name ∷ rest) = 47 ∷ 123 ∷ (name ++ 125 ∷ spelled rest)
 
 abbrev pub places : List Place
-places = place.Version ∷ place.Dags ∷ place.Dag ∷ place.Tasks ∷ place.Runs ∷ place.Run ∷ place.Instances ∷ place.Instance ∷ []
+places = place.Version ∷ place.Dags ∷ place.Dag ∷ place.Tasks ∷ place.Runs ∷ place.Run ∷ place.RunClear ∷ place.Instances ∷ place.Instance ∷ place.Clear ∷ []
 
 abbrev pub place_rank : Place → ℕ
 place_rank place.Version = 0
@@ -60,8 +62,10 @@ place_rank place.Dag = 2
 place_rank place.Tasks = 3
 place_rank place.Runs = 4
 place_rank place.Run = 5
-place_rank place.Instances = 6
-place_rank place.Instance = 7
+place_rank place.RunClear = 6
+place_rank place.Instances = 7
+place_rank place.Instance = 8
+place_rank place.Clear = 9
 
 abbrev pub same_place : Place → Place → Bool
 same_place = on place_rank nat_eq
@@ -105,11 +109,13 @@ route_of endpoint.ListRuns = needing Get place.Runs (at_dag Read ∷ on_all Read
 route_of endpoint.TriggerRun = needing Post place.Runs (at_dag Edit ∷ on_all Create DagRuns ∷ [])
 route_of endpoint.GetRun = needing Get place.Run (at_dag Read ∷ on_all Read DagRuns ∷ [])
 route_of endpoint.MarkRun = needing Patch place.Run (at_dag Edit ∷ on_all Edit DagRuns ∷ [])
+route_of endpoint.ClearRun = needing Post place.RunClear (at_dag Edit ∷ on_all Edit DagRuns ∷ [])
 route_of endpoint.ListInstances = needing Get place.Instances (at_dag Read ∷ on_all Read DagRuns ∷ on_all Read TaskInstances ∷ [])
 route_of endpoint.GetInstance = needing Get place.Instance (at_dag Read ∷ on_all Read DagRuns ∷ on_all Read TaskInstances ∷ [])
+route_of endpoint.ClearInstances = needing Post place.Clear (at_dag Edit ∷ on_all Read DagRuns ∷ on_all Edit TaskInstances ∷ [])
 
 abbrev pub endpoints : List Endpoint
-endpoints = endpoint.Version ∷ endpoint.ListDags ∷ endpoint.GetDag ∷ endpoint.PauseDag ∷ endpoint.ListTasks ∷ endpoint.ListRuns ∷ endpoint.TriggerRun ∷ endpoint.GetRun ∷ endpoint.MarkRun ∷ endpoint.ListInstances ∷ endpoint.GetInstance ∷ []
+endpoints = endpoint.Version ∷ endpoint.ListDags ∷ endpoint.GetDag ∷ endpoint.PauseDag ∷ endpoint.ListTasks ∷ endpoint.ListRuns ∷ endpoint.TriggerRun ∷ endpoint.GetRun ∷ endpoint.MarkRun ∷ endpoint.ClearRun ∷ endpoint.ListInstances ∷ endpoint.GetInstance ∷ endpoint.ClearInstances ∷ []
 
 -- ---- what is read off it
 

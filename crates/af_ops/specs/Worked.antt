@@ -17,12 +17,13 @@ use Rattle.af_runs.specs.declared.run.Run.{Run}
 use Rattle.af_runs.specs.declared.run_state.RunState.TheVariants as run_state
 use Rattle.af_sched.specs.State.{StateRows}
 use Rattle.af_sched.specs.declared.dag_row.DagRow.{DagRow}
+use Rattle.af_ops.specs.declared.clear.Clear.{Clear}
 use Rattle.af_ops.specs.declared.op.Op.{Op}
 use Rattle.af_ops.specs.declared.shown_answer.Shown.{Shown}
 use Rattle.af_ops.specs.declared.trigger.Trigger.{Trigger}
 use Rattle.af_ops.specs.Edits.{with_run}
 use Rattle.af_ops.specs.Effects.{new_run}
-use Rattle.af_ops.specs.Rows.{InstanceTold, TaskTold}
+use Rattle.af_ops.specs.Rows.{ClearedTold, InstanceTold, TaskTold}
 use Rattle.af_ops.specs.Served.{answer_of}
 use Rattle.af_ops.specs.Standings.{StandingRows}
 use Rattle.af_ops.specs.Verdicts.{Verdict, judged}
@@ -194,3 +195,42 @@ with_ended = record with_runs {
 -- after that third entry
 abbrev pub ended_later : StandingRows
 ended_later = record { under = record { version = 0; seq = 3 }; state = with_ended }
+
+-- ---- instances that are cleared
+
+-- which instances are cleared, whatever the dates of their runs
+abbrev pub clear : Bool → Bool → Option (List (List ℕ)) → Option (List ℕ) → Clear
+clear dry_run only_failed task_ids run_id = record {
+  dry_run = dry_run;
+  only_failed = only_failed;
+  task_ids = task_ids;
+  dag_run_id = run_id;
+  start_date = None;
+  end_date = None;
+}
+
+-- the two instances of the run of the DAG f, as those that are cleared
+abbrev pub first_cleared : ClearedTold
+first_cleared = record { run = half_run; task_id = codes "u" }
+
+abbrev pub second_cleared : ClearedTold
+second_cleared = record { run = half_run; task_id = codes "t" }
+
+-- the run once they are: the first has its task's retries as its tries after the next, and the second stood so already
+abbrev pub cleared_half : Run
+cleared_half = record half_run { instances = record (new_instance next_task) { try_number = 2; max_tries = 4 } ∷ new_instance task ∷ [] }
+
+abbrev pub with_cleared : StateRows
+with_cleared = record {
+  dags = forked ∷ [];
+  runs = cleared_half ∷ [];
+  next_run = 4;
+  pools = [];
+}
+
+-- where they stand so already, and where they do not and the history is full
+abbrev pub cleared_later : StandingRows
+cleared_later = record { under = record { version = 0; seq = 4 }; state = with_cleared }
+
+abbrev pub full_at_work : StandingRows
+full_at_work = record at_work { under = record { version = 0; seq = 1_000_000 } }

@@ -23,6 +23,8 @@ pub enum OpFault {
     NoSuchRun,
     /// The task that it names is not there.
     NoSuchTask,
+    /// The id at this place among the ids of tasks that it names is none of the DAG's tasks.
+    NoSuchTaskAt(usize),
     /// The DAG has a run of the id that is given, else of the id that is made of this date.
     RunExists(Instant),
     /// The DAG has a run of this logical date.

@@ -1,14 +1,17 @@
 // Reading the members of a request's body. A member that is null counts as absent.
-ghost use Rattle.std.specs.Prelude.{◌≡◌, ⊤, Err, Ok};
+ghost use Rattle.std.specs.Prelude.{◌≡◌, ⊤, Err, Ok, [], map, true, unwrap_or};
 ghost use Rattle.af_base.specs.JsonValue.{view};
-ghost use Rattle.af_base.specs.Readings.{OrMemory, seen};
-ghost use Rattle.af_ops.specs.Bodies.{body_in, date_in, empty_object, instant_in, is_empty, mark_in, mark_value, optional_in, pause_in, required_in, run_id_of, trigger_in};
+ghost use Rattle.serde_json.specs.Find.{as_bool};
+ghost use Rattle.af_base.specs.Readings.{Makes, OrMemory, seen, taking};
+ghost use Rattle.af_ops.specs.Bodies.{body_in, clear_in, clear_run_in, date_in, empty_object, id_taken, instant_in, is_empty, mark_in, mark_value, optional_in, pause_in, required_in, run_id_of, task_ids_in, trigger_in};
 
 use crate::body_fault::{BodyFault, Member};
+use crate::clear::Clear;
 use crate::member_name::name_of;
 use crate::trigger::Trigger;
-use af_base::{Json, json_in, member, required_truth};
-use af_names::{Instant, NameError, RunId};
+use af_base::{Json, json_in, member, optional_truth, required_truth};
+use af_graph::TaskIds;
+use af_names::{Instant, NameError, RunId, TaskId};
 use af_runs::{Mark, RunState};
 use json::Scratch;
 use std::alloc::Global;
@@ -49,6 +52,40 @@ pub fn read_mark(alloc: Global, bytes: &[u8]) -> Result<Mark, BodyFault>
     let mut scratch = Scratch::new(alloc);
     let body = body_in(alloc, bytes, &mut scratch)?;
     required_mark(&body, Member::State)
+}
+
+/// Reads whether a clear of a run is only to be told. The first fault decides: `BadBody` where the bytes are no JSON object,
+/// `BadMember` where `dry_run` is there and no truth value; `OutOfMemory` only where a growth was refused.
+pub fn read_clear_run(alloc: Global, bytes: &[u8]) -> Result<bool, BodyFault>
+    ensures { OrMemory BodyFault.OutOfMemory (clear_run_in bytes.now) result }
+{
+    let mut scratch = Scratch::new(alloc);
+    let body = body_in(alloc, bytes, &mut scratch)?;
+    truth_or_true(&body, Member::DryRun)
+}
+
+/// Reads which instances are to be cleared. The first fault decides: `BadBody` where the bytes are no JSON object, then
+/// `BadMember` of `dry_run`, `only_failed`, `task_ids`, `dag_run_id`, `start_date` and `end_date`, where they are there and of
+/// another kind or value; `OutOfMemory` only where a growth was refused.
+pub fn read_clear(alloc: Global, bytes: &[u8]) -> Result<Clear, BodyFault>
+    ensures { OrMemory BodyFault.OutOfMemory (clear_in bytes.now) result }
+{
+    let mut scratch = Scratch::new(alloc);
+    let body = body_in(alloc, bytes, &mut scratch)?;
+    let dry_run = truth_or_true(&body, Member::DryRun)?;
+    let only_failed = truth_or_true(&body, Member::OnlyFailed)?;
+    let task_ids = optional_task_ids(alloc, &body)?;
+    let dag_run_id = optional_run_id(alloc, &body, Member::DagRunId)?;
+    let start_date = optional_instant(&body, Member::StartDate)?;
+    let end_date = optional_instant(&body, Member::EndDate)?;
+    Ok(Clear {
+        dry_run,
+        only_failed,
+        task_ids,
+        dag_run_id,
+        start_date,
+        end_date,
+    })
 }
 
 /// The object that a body is.
@@ -145,4 +182,54 @@ fn mark_value(value: &Json<'_>) -> Option<Mark>
     let text = value.as_str()?;
     let state = RunState::read(text)?;
     Mark::of(state)
+}
+
+/// A truth value, which is true where it is absent.
+fn truth_or_true(body: &Json<'_>, it: Member) -> Result<bool, BodyFault>
+    ensures { result ≡ seen (λ truth. unwrap_or truth true) (optional_in as_bool it (view body.now)) }
+{
+    match optional_truth(body, name_of(it), BodyFault::BadMember(it))? {
+        Some(truth) => Ok(truth),
+        None => Ok(true),
+    }
+}
+
+/// The ids of tasks, where they are there.
+fn optional_task_ids(alloc: Global, body: &Json<'_>) -> Result<Option<TaskIds>, BodyFault>
+    ensures { OrMemory BodyFault.OutOfMemory (task_ids_in (view body.now)) result }
+{
+    let Some(value) = member(body, "task_ids") else {
+        return Ok(None);
+    };
+    let Some(values) = value.as_array() else {
+        return Err(BodyFault::BadMember(Member::TaskIds));
+    };
+    let ids = read_ids(alloc, values)?;
+    Ok(Some(TaskIds::of(ids)))
+}
+
+fn read_ids(alloc: Global, values: &[Json<'_>]) -> Result<Vec<TaskId>, BodyFault>
+    ensures { OrMemory BodyFault.OutOfMemory (taking id_taken [] (map view values.now)) (seen (λ ids. ids.items) result) }
+{
+    let mut ids = Vec::with_capacity(alloc, values.len())?;
+    for value in values {
+        add_id(alloc, &mut ids, value)?;
+    }
+    Ok(ids)
+}
+
+fn add_id(alloc: Global, ids: &mut Vec<TaskId>, value: &Json<'_>) -> Result<(), BodyFault>
+    ensures { Makes BodyFault.OutOfMemory (id_taken ids.old.items (view value.now)) ids.new.items result }
+{
+    let Some(text) = value.as_str() else {
+        return Err(BodyFault::BadMember(Member::TaskIds));
+    };
+    match TaskId::parse(alloc, text) {
+        Ok(id) => match ids.push(id) {
+            Ok(()) => Ok(()),
+            Err(_) => Err(BodyFault::OutOfMemory),
+        },
+        Err(NameError::OutOfMemory) => Err(BodyFault::OutOfMemory),
+        Err(_) => Err(BodyFault::BadMember(Member::TaskIds)),
+    }
 }

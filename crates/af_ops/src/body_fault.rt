@@ -15,6 +15,16 @@ pub enum Member {
     Conf,
     /// `state`
     State,
+    /// `dry_run`
+    DryRun,
+    /// `only_failed`
+    OnlyFailed,
+    /// `task_ids`
+    TaskIds,
+    /// `start_date`
+    StartDate,
+    /// `end_date`
+    EndDate,
 }
 
 /// Why a body is refused.

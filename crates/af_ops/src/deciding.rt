@@ -1,10 +1,10 @@
-ghost use Rattle.std.specs.Prelude.{◌≡◌, ◌<◌, ◌↔◌, ℕ, List, Bool, true, Err, IfOk, Ok, if◌then◌else◌};
+ghost use Rattle.std.specs.Prelude.{◌≡◌, ◌<◌, ◌↔◌, ℕ, List, Bool, false, true, Err, IfOk, Ok, if◌then◌else◌};
 ghost use Rattle.std.specs.Option.{option_copied};
 ghost use Rattle.af_policy.specs.Identity.{bearer_of};
 ghost use Rattle.af_policy.specs.Views.{held};
 ghost use Rattle.af_ops.specs.declared.answer.CallFault.{CallFault};
 ghost use Rattle.af_ops.specs.declared.answer.OpFault.TheVariants.{HistoryFull, OutOfMemory};
-ghost use Rattle.af_ops.specs.Decisions.{ChangesWhereDone, IsDecided};
+ghost use Rattle.af_ops.specs.Decisions.{ChangesWhereDone, IsDecided, chooses};
 ghost use Rattle.af_ops.specs.Edits.{is_edit};
 ghost use Rattle.af_ops.specs.Prepared.{CanDo, IsExact, MemoryLast};
 ghost use Rattle.af_ops.specs.Standings.{history_limit};
@@ -37,7 +37,7 @@ pub fn decide(
     op: &Op,
     now: Instant,
 ) -> Result<Prepared, CallFault>
-    ensures verdict { IsDecided state.old.rows (judged policy.now (record { under = under; state = state.old.rows }) op.now now (bearer_of policy.now (option_copied token.entry))) result }
+    ensures verdict { IsDecided op.now state.old.rows (judged policy.now (record { under = under; state = state.old.rows }) op.now now (bearer_of policy.now (option_copied token.entry))) result }
     ensures room { IfOk result (λ prepared. CanDo state.new prepared.edit) }
     ensures exact { IfOk result (λ prepared. IsExact state.old.rows prepared.edit) }
     ensures entries { IfOk result (λ prepared. is_edit prepared.edit ≡ true → under.seq < history_limit) }
@@ -61,7 +61,7 @@ fn decide_for(
     op: &Op,
     now: Instant,
 ) -> Result<Prepared, CallFault>
-    ensures verdict { IsDecided state.old.rows (granted_verdict (held view.now) (record { under = under; state = state.old.rows }) op.now now) result }
+    ensures verdict { IsDecided op.now state.old.rows (granted_verdict (held view.now) (record { under = under; state = state.old.rows }) op.now now) result }
     ensures room { IfOk result (λ prepared. CanDo state.new prepared.edit) }
     ensures exact { IfOk result (λ prepared. IsExact state.old.rows prepared.edit) }
     ensures entries { IfOk result (λ prepared. is_edit prepared.edit ≡ true → under.seq < history_limit) }
@@ -82,7 +82,7 @@ fn permitted<R: Reader>(
     op: &Op,
     now: Instant,
 ) -> Result<Prepared, CallFault>
-    ensures verdict { IsDecided state.old.rows (done under (effect_of (R.reads reader.now) state.old.rows op.now now)) result }
+    ensures verdict { IsDecided op.now state.old.rows (done under (effect_of (R.reads reader.now) state.old.rows op.now now)) result }
     ensures room { IfOk result (λ prepared. CanDo state.new prepared.edit) }
     ensures exact { IfOk result (λ prepared. IsExact state.old.rows prepared.edit) }
     ensures entries { IfOk result (λ prepared. is_edit prepared.edit ≡ true → under.seq < history_limit) }
@@ -104,10 +104,11 @@ fn permitted<R: Reader>(
     }
 }
 
-/// Whether a fault is told as a full history: it is want of memory for a change, for whose entry there is no room, memory or not.
+/// Whether a fault is told as a full history: it is want of memory for a change, for whose entry there is no room, memory or not;
+/// but of one that chooses instances the want is told.
 fn is_full(state: &State, under: Under, op: &Op, fault: &OpFault) -> bool
     ensures { (reads : List ℕ → Bool) (now : ℕ) → MemoryLast OutOfMemory (effect_of reads state.now.rows op.now now) (Err fault.now)
-        → IsDecided state.now.rows (done under (effect_of reads state.now.rows op.now now)) (Err (CallFault.Op (if result then HistoryFull else fault.now))) }
+        → IsDecided op.now state.now.rows (done under (effect_of reads state.now.rows op.now now)) (Err (CallFault.Op (if result then HistoryFull else fault.now))) }
 {
     if !is_want(fault) {
         return false;
@@ -115,7 +116,17 @@ fn is_full(state: &State, under: Under, op: &Op, fault: &OpFault) -> bool
     if under.seq < MOST_ENTRIES {
         return false;
     }
+    if chooses(op) {
+        return false;
+    }
     would_change(state, op)
+}
+
+/// Whether it takes memory to tell that an operation changes the state.
+fn chooses(op: &Op) -> bool
+    ensures { result ≡ chooses op.now }
+{
+    matches!(op, Op::ClearRun(_, _, _) | Op::ClearInstances(_, _))
 }
 
 /// Whether it is want of memory.
@@ -125,9 +136,9 @@ fn is_want(fault: &OpFault) -> bool
     matches!(fault, OpFault::OutOfMemory)
 }
 
-/// Whether an operation changes the state, where it is not refused. It takes no memory to tell.
+/// Whether an operation that chooses no instances changes the state, where it is not refused. It takes no memory to tell.
 fn would_change(state: &State, op: &Op) -> bool
-    ensures { (reads : List ℕ → Bool) (now : ℕ) → ChangesWhereDone (effect_of reads state.now.rows op.now now) result }
+    ensures { (reads : List ℕ → Bool) (now : ℕ) → chooses op.now ≡ false → ChangesWhereDone (effect_of reads state.now.rows op.now now) result }
 {
     match op {
         Op::PauseDag(dag_id, Ok(is_paused)) => would_pause(state, dag_id, *is_paused),
@@ -142,6 +153,7 @@ fn would_change(state: &State, op: &Op) -> bool
         | Op::GetRun(_, _)
         | Op::ListInstances(_, _)
         | Op::GetInstance(_, _, _) => false,
+        Op::ClearRun(_, _, _) | Op::ClearInstances(_, _) => false,
     }
 }
 

@@ -19,8 +19,12 @@ pub enum Endpoint {
     GetRun,
     /// `PATCH /dags/{dag_id}/dagRuns/{dag_run_id}`
     MarkRun,
+    /// `POST /dags/{dag_id}/dagRuns/{dag_run_id}/clear`
+    ClearRun,
     /// `GET /dags/{dag_id}/dagRuns/{dag_run_id}/taskInstances`
     ListInstances,
     /// `GET /dags/{dag_id}/dagRuns/{dag_run_id}/taskInstances/{task_id}`
     GetInstance,
+    /// `POST /dags/{dag_id}/clearTaskInstances`
+    ClearInstances,
 }

@@ -1,4 +1,4 @@
-ghost use Rattle.af_ops.specs.Laws.{ListingsGoById, ReadingsLeaveTheState, ChangesLeaveAnotherState, ChangesStayAtTheirDag, OneRowAtMost, EachIsFound, OperationsAreOfTheirRow, RunNumbersRise, RunsAreShownByTheirIds, RunsListedAreThoseRead, RunsListedGoByNumber, TriggersAddARun};
+ghost use Rattle.af_ops.specs.Laws.{ListingsGoById, ReadingsLeaveTheState, ChangesLeaveAnotherState, ChangesStayAtTheirDag, ClearsTouchChosenAlone, DryRunsLeaveTheState, OneRowAtMost, EachIsFound, OperationsAreOfTheirRow, RunNumbersRise, RunsAreShownByTheirIds, RunsListedAreThoseRead, RunsListedGoByNumber, TriggersAddARun};
 
 /// A method and a path name one operation of the table at most.
 pub fn one_row_at_most()
@@ -59,4 +59,14 @@ pub fn triggers_add_a_run()
 /// No operation lowers the number that the next run gets.
 pub fn run_numbers_rise()
     ensures { RunNumbersRise }
+{}
+
+/// A dry run of a clear leaves every state as it is.
+pub fn dry_runs_leave_the_state()
+    ensures { DryRunsLeaveTheState }
+{}
+
+/// A clear changes the runs of its DAG that are asked for alone, and of them the instances that are chosen.
+pub fn clears_touch_chosen_alone()
+    ensures { ClearsTouchChosenAlone }
 {}

@@ -6,6 +6,8 @@ mod answering;
 mod bodies;
 mod body;
 mod body_fault;
+mod clear;
+mod cleared_text;
 mod dag_text;
 mod deciding;
 mod edit;
@@ -41,9 +43,10 @@ mod trigger;
 mod worked;
 
 pub use answer::{CallFault, OpFault, Under};
-pub use bodies::{read_mark, read_pause, read_trigger};
+pub use bodies::{read_clear, read_clear_run, read_mark, read_pause, read_trigger};
 pub use body::Body;
 pub use body_fault::{BodyFault, Member};
+pub use clear::Clear;
 pub use deciding::decide;
 pub use edit::Edit;
 pub use endpoint::Endpoint;
@@ -56,7 +59,7 @@ pub use prepared::{Prepared, commit};
 pub use preparing::prepare;
 pub use reading::{are_names, read_row};
 pub use route::Route;
-pub use row::{Row, listing_text, row_text};
+pub use row::{Row, list_text, listing_text, row_text};
 pub use segment::Segment;
 pub use served::Served;
 pub use shown_answer::Shown;
@@ -67,7 +70,8 @@ pub use telling::shown_fault;
 pub use text::Text;
 pub use trigger::Trigger;
 pub use worked::{
-    bodies_by_the_rule, changes_by_the_rule, faults_by_the_rule, instance_messages_by_the_rule,
+    bodies_by_the_rule, changes_by_the_rule, clear_bodies_by_the_rule, clear_messages_by_the_rule,
+    clears_by_the_rule, faults_by_the_rule, instance_messages_by_the_rule,
     instance_routes_by_the_rule, instances_by_the_rule, mark_messages_by_the_rule,
     marks_by_the_rule, messages_by_the_rule, readings_by_the_rule, routes_by_the_rule,
     run_messages_by_the_rule, runs_by_the_rule, tasks_by_the_rule, triggers_by_the_rule,

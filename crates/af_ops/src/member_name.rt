@@ -14,5 +14,10 @@ pub fn name_of(member: Member) -> &'static str
         Member::ExecutionDate => "execution_date",
         Member::Conf => "conf",
         Member::State => "state",
+        Member::DryRun => "dry_run",
+        Member::OnlyFailed => "only_failed",
+        Member::TaskIds => "task_ids",
+        Member::StartDate => "start_date",
+        Member::EndDate => "end_date",
     }
 }

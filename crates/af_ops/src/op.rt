@@ -1,8 +1,9 @@
 ghost use Rattle.std.specs.Prelude.{◌≡◌};
 ghost use Rattle.std.specs.Option.{option_copied};
-ghost use Rattle.af_ops.specs.Endpoints.{dag_of, endpoint_of, given_id, given_in, run_of, task_of};
+ghost use Rattle.af_ops.specs.Endpoints.{cleared_run, dag_of, endpoint_of, given_id, given_in, ids_in, run_of, task_ids_of, task_of};
 
 use crate::body_fault::BodyFault;
+use crate::clear::Clear;
 use crate::endpoint::Endpoint;
 use crate::trigger::Trigger;
 use af_names::{DagId, RunId, TaskId};
@@ -29,10 +30,14 @@ pub enum Op {
     GetRun(DagId, RunId),
     /// A run of a DAG is marked success, failed or queued.
     MarkRun(DagId, RunId, Result<Mark, BodyFault>),
+    /// The instances of a run are cleared, or told as those that would be.
+    ClearRun(DagId, RunId, Result<bool, BodyFault>),
     /// The instances of a run.
     ListInstances(DagId, RunId),
     /// One instance of a run.
     GetInstance(DagId, RunId, TaskId),
+    /// Instances of a DAG's runs are cleared, or told as those that would be.
+    ClearInstances(DagId, Result<Clear, BodyFault>),
 }
 
 impl Op {
@@ -50,8 +55,10 @@ impl Op {
             Op::TriggerRun(_, _) => Endpoint::TriggerRun,
             Op::GetRun(_, _) => Endpoint::GetRun,
             Op::MarkRun(_, _, _) => Endpoint::MarkRun,
+            Op::ClearRun(_, _, _) => Endpoint::ClearRun,
             Op::ListInstances(_, _) => Endpoint::ListInstances,
             Op::GetInstance(_, _, _) => Endpoint::GetInstance,
+            Op::ClearInstances(_, _) => Endpoint::ClearInstances,
         }
     }
 
@@ -65,7 +72,8 @@ impl Op {
             Op::ListTasks(dag_id) => Some(dag_id),
             Op::ListRuns(dag) => dag.as_ref(),
             Op::TriggerRun(dag_id, _) | Op::GetRun(dag_id, _) => Some(dag_id),
-            Op::MarkRun(dag_id, _, _) => Some(dag_id),
+            Op::MarkRun(dag_id, _, _) | Op::ClearRun(dag_id, _, _) => Some(dag_id),
+            Op::ClearInstances(dag_id, _) => Some(dag_id),
             Op::ListInstances(dag_id, _) | Op::GetInstance(dag_id, _, _) => Some(dag_id),
         }
     }
@@ -76,7 +84,9 @@ impl Op {
     {
         match self {
             Op::GetRun(_, run_id) | Op::MarkRun(_, run_id, _) => Some(run_id),
+            Op::ClearRun(_, run_id, _) => Some(run_id),
             Op::ListInstances(_, run_id) | Op::GetInstance(_, run_id, _) => Some(run_id),
+            Op::ClearInstances(_, input) => cleared_run(input),
             Op::Version
             | Op::ListDags
             | Op::GetDag(_)
@@ -102,7 +112,9 @@ impl Op {
             | Op::TriggerRun(_, _)
             | Op::GetRun(_, _)
             | Op::MarkRun(_, _, _)
-            | Op::ListInstances(_, _) => None,
+            | Op::ClearRun(_, _, _)
+            | Op::ListInstances(_, _)
+            | Op::ClearInstances(_, _) => None,
         }
     }
 
@@ -120,9 +132,53 @@ impl Op {
             | Op::ListRuns(_)
             | Op::GetRun(_, _)
             | Op::MarkRun(_, _, _)
+            | Op::ClearRun(_, _, _)
             | Op::ListInstances(_, _)
-            | Op::GetInstance(_, _, _) => None,
+            | Op::GetInstance(_, _, _)
+            | Op::ClearInstances(_, _) => None,
         }
+    }
+
+    /// The ids of tasks that its body names, in their order.
+    pub(crate) fn task_ids(&self) -> &[TaskId]
+        ensures { result.now ≡ task_ids_of self.now }
+    {
+        match self {
+            Op::ClearInstances(_, input) => ids_in(input),
+            Op::Version
+            | Op::ListDags
+            | Op::GetDag(_)
+            | Op::PauseDag(_, _)
+            | Op::ListTasks(_)
+            | Op::ListRuns(_)
+            | Op::TriggerRun(_, _)
+            | Op::GetRun(_, _)
+            | Op::MarkRun(_, _, _)
+            | Op::ClearRun(_, _, _)
+            | Op::ListInstances(_, _)
+            | Op::GetInstance(_, _, _) => &[],
+        }
+    }
+}
+
+fn cleared_run(input: &Result<Clear, BodyFault>) -> Option<&RunId>
+    ensures { option_copied result ≡ cleared_run input.now }
+{
+    match input {
+        Ok(asked) => asked.dag_run_id.as_ref(),
+        Err(_) => None,
+    }
+}
+
+fn ids_in(input: &Result<Clear, BodyFault>) -> &[TaskId]
+    ensures { result.now ≡ ids_in input.now }
+{
+    match input {
+        Ok(asked) => match &asked.task_ids {
+            Some(ids) => ids.as_slice(),
+            None => &[],
+        },
+        Err(_) => &[],
     }
 }
 

@@ -192,6 +192,60 @@ static INSTANCE: [Segment; 8] = [
     },
 ];
 
+static RUN_CLEAR: [Segment; 7] = [
+    Segment {
+        text: "api",
+        is_part: false,
+    },
+    Segment {
+        text: "v1",
+        is_part: false,
+    },
+    Segment {
+        text: "dags",
+        is_part: false,
+    },
+    Segment {
+        text: "dag_id",
+        is_part: true,
+    },
+    Segment {
+        text: "dagRuns",
+        is_part: false,
+    },
+    Segment {
+        text: "dag_run_id",
+        is_part: true,
+    },
+    Segment {
+        text: "clear",
+        is_part: false,
+    },
+];
+
+static CLEAR: [Segment; 5] = [
+    Segment {
+        text: "api",
+        is_part: false,
+    },
+    Segment {
+        text: "v1",
+        is_part: false,
+    },
+    Segment {
+        text: "dags",
+        is_part: false,
+    },
+    Segment {
+        text: "dag_id",
+        is_part: true,
+    },
+    Segment {
+        text: "clearTaskInstances",
+        is_part: false,
+    },
+];
+
 /// A path of the API. Operations of several methods may have one path.
 #[derive(Clone, Copy, Debug, PartialEq, Eq)]
 pub enum Place {
@@ -207,10 +261,14 @@ pub enum Place {
     Runs,
     /// `/api/v1/dags/{dag_id}/dagRuns/{dag_run_id}`
     Run,
+    /// `/api/v1/dags/{dag_id}/dagRuns/{dag_run_id}/clear`
+    RunClear,
     /// `/api/v1/dags/{dag_id}/dagRuns/{dag_run_id}/taskInstances`
     Instances,
     /// `/api/v1/dags/{dag_id}/dagRuns/{dag_run_id}/taskInstances/{task_id}`
     Instance,
+    /// `/api/v1/dags/{dag_id}/clearTaskInstances`
+    Clear,
 }
 
 impl Place {
@@ -225,8 +283,10 @@ impl Place {
             Place::Tasks => "/api/v1/dags/{dag_id}/tasks",
             Place::Runs => "/api/v1/dags/{dag_id}/dagRuns",
             Place::Run => "/api/v1/dags/{dag_id}/dagRuns/{dag_run_id}",
+            Place::RunClear => "/api/v1/dags/{dag_id}/dagRuns/{dag_run_id}/clear",
             Place::Instances => "/api/v1/dags/{dag_id}/dagRuns/{dag_run_id}/taskInstances",
             Place::Instance => "/api/v1/dags/{dag_id}/dagRuns/{dag_run_id}/taskInstances/{task_id}",
+            Place::Clear => "/api/v1/dags/{dag_id}/clearTaskInstances",
         }
     }
 
@@ -241,8 +301,10 @@ impl Place {
             Place::Tasks => &TASKS,
             Place::Runs => &RUNS,
             Place::Run => &RUN,
+            Place::RunClear => &RUN_CLEAR,
             Place::Instances => &INSTANCES,
             Place::Instance => &INSTANCE,
+            Place::Clear => &CLEAR,
         }
     }
 }

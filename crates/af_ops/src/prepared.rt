@@ -48,7 +48,10 @@ impl Prepared {
     {
         match &self.edit {
             Edit::Nothing => false,
-            Edit::DagPaused(_, _) | Edit::RunAdded(_) | Edit::RunMarked(_, _, _) => true,
+            Edit::DagPaused(_, _)
+            | Edit::RunAdded(_)
+            | Edit::RunMarked(_, _, _)
+            | Edit::InstancesCleared(_, _) => true,
         }
     }
 }
@@ -74,6 +77,7 @@ fn do_edit(state: &mut State, edit: Edit)
         Edit::DagPaused(dag_id, is_paused) => state.set_paused(&dag_id, is_paused),
         Edit::RunAdded(new) => add_run(state, new),
         Edit::RunMarked(number, mark, at) => state.mark_run(number, mark, at),
+        Edit::InstancesCleared(filter, selection) => state.clear_instances(&filter, &selection),
     }
 }
 

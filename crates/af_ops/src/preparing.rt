@@ -7,6 +7,7 @@ ghost use Rattle.af_base.specs.Readings.{seen};
 use crate::answer::OpFault;
 use crate::edit::Edit;
 use crate::op::Op;
+use crate::operations::clearing::{instances_cleared, run_cleared};
 use crate::operations::dags::{dags_text, got_dag, paused_dag};
 use crate::operations::instances::{got_instance, listed_instances};
 use crate::operations::marking::run_marked;
@@ -52,9 +53,11 @@ pub fn prepare<R: Reader>(
         Op::TriggerRun(dag_id, input) => triggered_run(alloc, state, dag_id, input, now),
         Op::GetRun(dag_id, run_id) => got_run(alloc, state, dag_id, run_id),
         Op::MarkRun(dag_id, run_id, input) => run_marked(alloc, state, dag_id, run_id, input, now),
+        Op::ClearRun(dag_id, run_id, input) => run_cleared(alloc, state, dag_id, run_id, input),
         Op::ListInstances(dag_id, run_id) => listed_instances(alloc, state, dag_id, run_id),
         Op::GetInstance(dag_id, run_id, task_id) => {
             got_instance(alloc, state, dag_id, run_id, task_id)
         }
+        Op::ClearInstances(dag_id, input) => instances_cleared(alloc, state, dag_id, input),
     }
 }

@@ -1,7 +1,7 @@
 ghost use Rattle.std.specs.Prelude.{◌≡◌, IfOk, IsErr, IsSome, is_some, map, string_bytes};
 ghost use Rattle.af_ops.specs.Endpoints.{IsRead, are_names, dag_id_in, instance_ids_in, is_all, is_get, op_of_row, run_id_in, run_ids_in, task_id_in};
 
-use crate::bodies::{read_mark, read_pause, read_trigger};
+use crate::bodies::{read_clear, read_clear_run, read_mark, read_pause, read_trigger};
 use crate::endpoint::Endpoint;
 use crate::method::Method;
 use crate::op::Op;
@@ -70,6 +70,12 @@ pub fn read_row(
             };
             Ok(Some(Op::MarkRun(dag_id, run_id, read_mark(alloc, body))))
         }
+        Endpoint::ClearRun => {
+            let Some((dag_id, run_id)) = run_ids_in(alloc, parts)? else {
+                return Ok(None);
+            };
+            Ok(Some(Op::ClearRun(dag_id, run_id, read_clear_run(alloc, body))))
+        }
         Endpoint::ListInstances => {
             let Some((dag_id, run_id)) = run_ids_in(alloc, parts)? else {
                 return Ok(None);
@@ -82,6 +88,12 @@ pub fn read_row(
             };
             Ok(Some(Op::GetInstance(dag_id, run_id, task_id)))
         }
+        Endpoint::ClearInstances => {
+            let Some(dag_id) = dag_id_in(alloc, parts)? else {
+                return Ok(None);
+            };
+            Ok(Some(Op::ClearInstances(dag_id, read_clear(alloc, body))))
+        }
     }
 }
 
@@ -92,9 +104,11 @@ pub fn are_names(alloc: Global, method: Option<Method>, place: Place, parts: &[S
 {
     match place {
         Place::Version | Place::Dags => true,
-        Place::Dag | Place::Tasks => is_dag_id(alloc, parts),
+        Place::Dag | Place::Tasks | Place::Clear => is_dag_id(alloc, parts),
         Place::Runs => is_dag_id(alloc, parts) || is_get(method) && is_all(parts),
-        Place::Run | Place::Instances => is_dag_id(alloc, parts) && is_run_id(alloc, parts),
+        Place::Run | Place::RunClear | Place::Instances => {
+            is_dag_id(alloc, parts) && is_run_id(alloc, parts)
+        }
         Place::Instance => {
             is_dag_id(alloc, parts) && (is_run_id(alloc, parts) && is_task_id(alloc, parts))
         }

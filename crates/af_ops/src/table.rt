@@ -11,7 +11,7 @@ use crate::route::Route;
 use af_role::{Action, Need, ResourceKind};
 
 /// All operations.
-pub const ENDPOINTS: [Endpoint; 11] = [
+pub const ENDPOINTS: [Endpoint; 13] = [
     Endpoint::Version,
     Endpoint::ListDags,
     Endpoint::GetDag,
@@ -21,20 +21,24 @@ pub const ENDPOINTS: [Endpoint; 11] = [
     Endpoint::TriggerRun,
     Endpoint::GetRun,
     Endpoint::MarkRun,
+    Endpoint::ClearRun,
     Endpoint::ListInstances,
     Endpoint::GetInstance,
+    Endpoint::ClearInstances,
 ];
 
 /// All paths.
-pub const PLACES: [Place; 8] = [
+pub const PLACES: [Place; 10] = [
     Place::Version,
     Place::Dags,
     Place::Dag,
     Place::Tasks,
     Place::Runs,
     Place::Run,
+    Place::RunClear,
     Place::Instances,
     Place::Instance,
+    Place::Clear,
 ];
 
 /// The row of an operation.
@@ -51,8 +55,10 @@ pub fn route_of(endpoint: Endpoint) -> Route
         Endpoint::TriggerRun => needing(Method::Post, Place::Runs, &CREATE_RUN),
         Endpoint::GetRun => needing(Method::Get, Place::Run, &READ_RUN),
         Endpoint::MarkRun => needing(Method::Patch, Place::Run, &EDIT_RUN),
+        Endpoint::ClearRun => needing(Method::Post, Place::RunClear, &EDIT_RUN),
         Endpoint::ListInstances => needing(Method::Get, Place::Instances, &READ_INSTANCE),
         Endpoint::GetInstance => needing(Method::Get, Place::Instance, &READ_INSTANCE),
+        Endpoint::ClearInstances => needing(Method::Post, Place::Clear, &CLEAR_INSTANCE),
     }
 }
 
@@ -152,6 +158,25 @@ static READ_INSTANCE: [Need; 3] = [
     },
 ];
 
+/// `can_edit` on `DAGs` at the DAG that the path names, `can_read` on `DAG Runs` and `can_edit` on `Task Instances`.
+static CLEAR_INSTANCE: [Need; 3] = [
+    Need {
+        action: Action::Edit,
+        kind: ResourceKind::Dags,
+        at_dag: true,
+    },
+    Need {
+        action: Action::Read,
+        kind: ResourceKind::DagRuns,
+        at_dag: false,
+    },
+    Need {
+        action: Action::Edit,
+        kind: ResourceKind::TaskInstances,
+        at_dag: false,
+    },
+];
+
 /// `can_read` on `DAGs`, or on at least one DAG that is there, and on `DAG Runs`.
 static READ_SOME_RUN: [Need; 2] = [
     Need {
@@ -206,8 +231,10 @@ pub fn needs_for(op: &Op) -> &'static [Need]
         Op::TriggerRun(_, _) => needs(Endpoint::TriggerRun),
         Op::GetRun(_, _) => needs(Endpoint::GetRun),
         Op::MarkRun(_, _, _) => needs(Endpoint::MarkRun),
+        Op::ClearRun(_, _, _) => needs(Endpoint::ClearRun),
         Op::ListInstances(_, _) => needs(Endpoint::ListInstances),
         Op::GetInstance(_, _, _) => needs(Endpoint::GetInstance),
+        Op::ClearInstances(_, _) => needs(Endpoint::ClearInstances),
     }
 }
 

@@ -80,7 +80,7 @@ fn downstream(dag: &Dag, place: usize) -> &[u16]
 }
 
 /// The id of the task at a place.
-fn id_at(tasks: &[TaskSpec], place: usize) -> &str
+pub(crate) fn id_at(tasks: &[TaskSpec], place: usize) -> &str
     ensures { result.now ≡ id_at tasks.now place }
 {
     match tasks.get(place) {

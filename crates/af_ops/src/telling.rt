@@ -1,4 +1,4 @@
-ghost use Rattle.std.specs.Prelude.{◌≡◌, ◌++◌, [], Some, IfOk, codes, string_bytes, unwrap_or};
+ghost use Rattle.std.specs.Prelude.{◌≡◌, ◌++◌, [], Some, IfOk, codes, slice_index_or, string_bytes, unwrap_or};
 ghost use Rattle.std.specs.Option.{option_copied};
 ghost use Rattle.af_names.specs.Isoformat.{isoformat};
 ghost use Rattle.af_role.specs.Needs.{need_text};
@@ -67,6 +67,10 @@ fn shown_op_fault(alloc: Global, op: &Op, fault: OpFault, under: Under) -> Resul
             let detail = joined(alloc, "no such task: ", task_id_text(op.task()))?;
             shown_problem(alloc, under, Status::NotFound, detail.as_str())
         }
+        OpFault::NoSuchTaskAt(place) => {
+            let detail = joined(alloc, "no such task: ", id_at(op.task_ids(), place))?;
+            shown_problem(alloc, under, Status::NotFound, detail.as_str())
+        }
         OpFault::RunExists(date) => {
             let detail = taken_id(alloc, op.given_id(), date)?;
             shown_problem(alloc, under, Status::Conflict, detail.as_str())
@@ -115,6 +119,16 @@ fn task_id_text(task: Option<&TaskId>) -> &str
     ensures { result.now ≡ unwrap_or (option_copied task.entry) [] }
 {
     match task {
+        Some(task_id) => task_id.as_str(),
+        None => "",
+    }
+}
+
+/// The text of the id at a place, empty past the last.
+fn id_at(ids: &[TaskId], place: usize) -> &str
+    ensures { result.now ≡ slice_index_or ids.now place [] }
+{
+    match ids.get(place) {
         Some(task_id) => task_id.as_str(),
         None => "",
     }

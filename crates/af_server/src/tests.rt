@@ -1,5 +1,6 @@
 //! Whole connections under the sample configuration, byte for byte, and each reason for which a configuration is refused.
 mod calls;
+mod clears;
 mod configurations;
 mod connections;
 mod dags;

@@ -6,6 +6,7 @@ ghost use Rattle.af_base.specs.Readings.{seen};
 
 use crate::answer::OpFault;
 use crate::body_fault::BodyFault;
+use crate::clear::Clear;
 use crate::trigger::Trigger;
 use af_names::{DagId, NamesDag, RunId};
 use af_policy::Reader;
@@ -60,6 +61,16 @@ pub(crate) fn mark_or(input: &Result<Mark, BodyFault>) -> Result<Mark, OpFault>
 {
     match input {
         Ok(mark) => Ok(*mark),
+        Err(why) => Err(input_fault(*why)),
+    }
+}
+
+/// What was read of a body that clears instances.
+pub(crate) fn clear_or(input: &Result<Clear, BodyFault>) -> Result<&Clear, OpFault>
+    ensures { seen (λ asked. asked.now) result ≡ input_or input.now }
+{
+    match input {
+        Ok(asked) => Ok(asked),
         Err(why) => Err(input_fault(*why)),
     }
 }

@@ -23,6 +23,12 @@ returns-in_ok-detail-in-NoSuchRun c =
     (rw (c.in-NoSuchRun.is, c.as_str-in-NoSuchRun.ensures.value, c.in_ok-detail-in-NoSuchRun.ensures, c.run_id_text.ensures, c.run.ensures) refl)
     c.shown_problem-in-NoSuchRun.ensures
 
+pub returns-in_ok-detail-in-NoSuchTaskAt : goal.returns-in_ok-detail-in-NoSuchTaskAt
+returns-in_ok-detail-in-NoSuchTaskAt c =
+    told_is c.args.op.now c.args.under (why.Op c.args.fault) _ c.shown_problem-in-NoSuchTaskAt.result
+    (rw (c.in-NoSuchTaskAt.is, c.as_str-in-NoSuchTaskAt.ensures.value, c.in_ok-detail-in-NoSuchTaskAt.ensures, c.id_at.ensures, c.task_ids.ensures) refl)
+    c.shown_problem-in-NoSuchTaskAt.ensures
+
 pub returns-in_ok-detail-in-NoSuchTask : goal.returns-in_ok-detail-in-NoSuchTask
 returns-in_ok-detail-in-NoSuchTask c =
     told_is c.args.op.now c.args.under (why.Op c.args.fault) _ c.shown_problem-in-NoSuchTask.result

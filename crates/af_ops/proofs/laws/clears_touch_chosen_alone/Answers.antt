@@ -1,0 +1,5 @@
+use Rattle.af_ops.proofs.LawLemmas.{touches_chosen}
+use Rattle.af_ops.proofs.laws.clears_touch_chosen_alone.Goals as goal
+
+pub returns : goal.returns
+returns c = touches_chosen
