@@ -4,11 +4,11 @@ ghost use Rattle.af_runs.specs.Busy.{busy_of};
 use af_runs::{Run, Runs};
 use std::alloc::{AllocError, Global};
 
-/// Copies of those of these runs that are busy. `AllocError` only where a growth was refused.
-pub(crate) fn busy_of(alloc: Global, runs: &Runs) -> Result<Vec<Run>, AllocError>
+/// Copies of those of these runs that are busy, with room for more. `AllocError` only where a growth was refused.
+pub(crate) fn busy_of(alloc: Global, runs: &Runs, more: usize) -> Result<Vec<Run>, AllocError>
     ensures { IfOk result (λ busy. busy.items ≡ busy_of runs.now.rows) }
 {
-    let mut busy = Vec::with_capacity(alloc, runs.busy_count())?;
+    let mut busy = Vec::with_capacity(alloc, runs.busy_count().saturating_add(more))?;
     for run in runs.busy() {
         busy.push(run.copied(alloc)?)?;
     }

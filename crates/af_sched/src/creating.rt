@@ -13,6 +13,9 @@ use af_names::{Instant, RunId};
 use af_runs::{Additions, Instances, Interval, NewRun, RunFault, RunType};
 use std::alloc::{AllocError, Global};
 
+/// How many bytes the id of a scheduled run takes at most.
+const RUN_ID: usize = 43;
+
 /// What of a DAG is due at a moment: its new runs, and where its cursor then stands.
 #[derive(Drop)]
 struct Due {
@@ -145,7 +148,8 @@ fn run_for(
 fn run_id_for(alloc: Global, date: Instant) -> Result<RunId, AllocError>
     ensures { IfOk result (λ run_id. run_id ≡ codes "scheduled__" ++ isoformat date) }
 {
-    let mut text = String::from_str(alloc, "scheduled__")?;
+    let mut text = String::with_capacity(alloc, RUN_ID)?;
+    text.push_str("scheduled__")?;
     date.write_onto(&mut text)?;
     RunId::parse(alloc, text.as_str()).map_err(|_fault| AllocError)
 }

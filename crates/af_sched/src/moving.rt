@@ -31,7 +31,7 @@ pub(crate) fn moved_on(
     ensures count { IfOk result (λ moved. length moved.0.items ≡ length (busy_of runs.now.rows)) }
 {
     let mut added = added;
-    let mut work = busy_of(alloc, runs)?;
+    let mut work = busy_of(alloc, runs, added.len())?;
     let count = work.len();
     work.append(&mut added)?;
     move_on(alloc, dags, pools, at, work.as_mut_slice())?;

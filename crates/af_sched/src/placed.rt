@@ -136,7 +136,7 @@ pub(crate) fn placed_in<'a>(
 ) -> Result<Vec<PlacedInstance<'a>>, AllocError>
     ensures { IfOk result (λ all. all.items ≡ placed_in dags.now runs.now) }
 {
-    let mut all = Vec::new(alloc);
+    let mut all = Vec::with_capacity(alloc, runs.len())?;
     for run in runs {
         place_run(dags.tasks_of(&run.dag_id), run, &mut all)?;
     }
