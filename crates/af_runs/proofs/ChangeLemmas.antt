@@ -11,7 +11,7 @@ use Rattle.af_names.proofs.OrderLemmas.{map-only, map-none}
 use Rattle.af_runs.specs.Clears.{ChosenRow, admits, chosen_in, chosen_of, cleared_run, is_chosen, with_cleared_run}
 use Rattle.af_runs.specs.Marks.{marked_run, with_marked}
 use Rattle.af_runs.specs.Places.{StandsAt, StandsNowhere}
-use Rattle.af_runs.specs.Runs.{RunRows, is_numbered}
+use Rattle.af_runs.specs.Runs.{RunRows, is_numbered, is_of, runs_of}
 use Rattle.af_runs.specs.declared.instance.Instance.{Instance}
 use Rattle.af_runs.specs.declared.mark.Mark.{Mark}
 use Rattle.af_runs.specs.declared.run.Run.{Run}
@@ -72,12 +72,24 @@ module _ (asked : RunFilter) (selection : Selection) where
   one_listed true run = append-nil (chosen_of selection run)
   one_listed false run = refl
 
-  pub chosen-more : (runs : List Run) (k : ℕ) (run : Run) → k < length runs → get_or runs k run ≡ run → chosen_in (take (k + 1) runs) asked selection ≡ chosen_in (take k runs) asked selection ++ cond (admits asked run) (chosen_of selection run) []
-  chosen-more runs k run inside is =
-      ap (λ (l : List Run). chosen_in l asked selection) (take_more runs k run inside ∙ ap (λ (r : Run). take k runs ++ r ∷ []) is)
-      ∙ ap (flat_map (chosen_of selection)) (filter-append (admits asked) (take k runs) (run ∷ []))
-      ∙ flat_map-append (chosen_of selection) (filter (admits asked) (take k runs)) (filter (admits asked) (run ∷ []))
-      ∙ ap (λ (l : List ChosenRow). chosen_in (take k runs) asked selection ++ l) (one_listed (admits asked run) run)
+  pub chosen-more : (seen : List Run) (run : Run) → chosen_in (seen ++ run ∷ []) asked selection ≡ chosen_in seen asked selection ++ cond (admits asked run) (chosen_of selection run) []
+  chosen-more seen run =
+      ap (flat_map (chosen_of selection)) (filter-append (admits asked) seen (run ∷ []))
+      ∙ flat_map-append (chosen_of selection) (filter (admits asked) seen) (filter (admits asked) (run ∷ []))
+      ∙ ap (λ (l : List ChosenRow). chosen_in seen asked selection ++ l) (one_listed (admits asked run) run)
+
+-- those that a filter admits are runs of its DAG
+pub other_dag : (asked : RunFilter) (run : Run) → is_of asked.dag_id run ≡ false → admits asked run ≡ false
+other_dag asked run other = rw other refl
+
+admitted_case : (asked : RunFilter) (run : Run) (some more : List Run) (own : Bool) → is_of asked.dag_id run ≡ own → filter (admits asked) some ≡ filter (admits asked) more → filter (admits asked) (cond own (run ∷ some) some) ≡ filter (admits asked) (run ∷ more)
+admitted_case asked run some more true is same = ap (λ (rest : List Run). cond (admits asked run) (run ∷ rest) rest) same
+admitted_case asked run some more false is same = let out : admits asked run ≡ false = other_dag asked run is in rw out same
+
+pub admitted_of_dag : (asked : RunFilter) (runs : List Run) → filter (admits asked) (runs_of runs asked.dag_id) ≡ filter (admits asked) runs
+admitted_of_dag asked [] = refl
+admitted_of_dag asked (run ∷ runs) =
+    admitted_case asked run (runs_of runs asked.dag_id) runs (is_of asked.dag_id run) refl (admitted_of_dag asked runs)
 
 -- an instance of a run that is seen next
 pub listed-more : (selection : Selection) (rows before after : List ChosenRow) (xs : List Instance) (k : ℕ) (x : Instance) (f : ℕ × Instance → ChosenRow) → k < length xs → x ≡ get_or xs k x → after ≡ rows ++ cond (is_chosen selection (k, x)) (f (k, x) ∷ []) [] → rows ≡ before ++ map f (filter (is_chosen selection) (take k (enumerate_from 0 xs))) → after ≡ before ++ map f (filter (is_chosen selection) (take (k + 1) (enumerate_from 0 xs)))
@@ -90,7 +102,7 @@ listed-more selection rows before after xs k x f inside is pushed seen =
     ∙ ap (λ (l : List ChosenRow). before ++ l) (sym (kept-more (is_chosen selection) f (enumerate_from 0 xs) k (k, x) within here))
 
 -- ---- runs that are cleared one after the other
-some_run : {P : Type 0} (runs : List Run) (k : ℕ) → k < length runs → ((d : Run) → P) → P
+pub some_run : {P : Type 0} (runs : List Run) (k : ℕ) → k < length runs → ((d : Run) → P) → P
 some_run [] k inside f = absurd (omega arith)
 some_run (run ∷ runs) k inside f = f run
 

@@ -1,6 +1,6 @@
 -- Where a clear leaves all as it is.
-use Rattle.std.proofs.Common.{◌≡◌, ◌∙◌, refl, sym, ap, ℕ, ◌+◌, List, [], ◌∷◌, map, get_or, drop, Bool, true, false, ◌&&◌, ◌==◌, arith, ⊎_elim}
-use Rattle.std.specs.Prelude.{Option, Some, None, is_none, not, ◌↔◌}
+use Rattle.std.proofs.Common.{◌≡◌, ◌∙◌, refl, sym, ap, ℕ, ◌+◌, List, [], ◌∷◌, map, get_or, drop, Bool, true, false, ◌&&◌, ◌==◌, arith, ⊎_elim, ◌++◌, cond, ◌||◌}
+use Rattle.std.specs.Prelude.{filter, Option, Some, None, is_none, not, ◌↔◌}
 use Rattle.std.specs.List.{enumerate_from, list_all}
 use Rattle.std.specs.Option.{option_map_or}
 use Rattle.std.proofs.lemmas.Bool.{cases_Bool, false≢true}
@@ -14,7 +14,7 @@ use Rattle.af_runs.specs.declared.instance.Instance.{Instance}
 use Rattle.af_runs.specs.declared.run.Run.{Run}
 use Rattle.af_runs.specs.declared.run_filter.RunFilter.{RunFilter}
 use Rattle.af_runs.specs.declared.selection.Selection.{Selection}
-use Rattle.af_runs.proofs.MarkLemmas.{both}
+use Rattle.af_runs.proofs.MarkLemmas.{both, neither}
 
 no_status_is : (state : TaskState) → same_state state task_state.NoStatus ≡ true → state ≡ task_state.NoStatus
 no_status_is task_state.NoStatus same = refl
@@ -137,6 +137,37 @@ module _ (selection : Selection) where
         (λ (within : admits asked run ≡ true). let left : is_left_by selection run ≡ true = same_cleared run (rw within at here) in rw within (rw (left, rest) refl))
         (λ (without : admits asked run ≡ false). rw without rest)
         (cases_Bool (admits asked run))
+
+-- ---- runs that are seen one after the other
+module _ (selection : Selection) (asked : RunFilter) where
+  abbrev left_run : Run → Bool
+  left_run run = not (admits asked run) || is_left_by selection run
+
+  one_left : (b : Bool) (run : Run) → (not b || is_left_by selection run) ≡ true → list_all (is_left_by selection) (cond b (run ∷ []) []) ≡ true
+  one_left true run is = rw is refl
+  one_left false run is = refl
+
+  more_case : (b : Bool) (x : Run) (some more : List Run) → (list_all (is_left_by selection) some ≡ true → list_all (is_left_by selection) more ≡ true) → list_all (is_left_by selection) (cond b (x ∷ some) some) ≡ true → list_all (is_left_by selection) (cond b (x ∷ more) more) ≡ true
+  more_case true x some more rest is =
+      let parts = both (is_left_by selection x) (list_all (is_left_by selection) some) is in
+      rw (parts.0, rest parts.1) refl
+  more_case false x some more rest is = rest is
+
+  pub left_more : (seen : List Run) (run : Run) → are_left_by asked selection seen ≡ true → left_run run ≡ true → are_left_by asked selection (seen ++ run ∷ []) ≡ true
+  left_more [] run all is = one_left (admits asked run) run is
+  left_more (x ∷ seen) run all is = more_case (admits asked x) x (filter (admits asked) seen) (filter (admits asked) (seen ++ run ∷ [])) (λ rest. left_more seen run rest is) all
+
+  one_fails : (b : Bool) (run : Run) (rest : List Run) → (not b || is_left_by selection run) ≡ false → list_all (is_left_by selection) (cond b (run ∷ rest) rest) ≡ false
+  one_fails true run rest is = rw is refl
+  one_fails false run rest is = absurd (cc)
+
+  fails_case : (b : Bool) (x : Run) (some : List Run) → list_all (is_left_by selection) some ≡ false → list_all (is_left_by selection) (cond b (x ∷ some) some) ≡ false
+  fails_case true x some is = neither (is_left_by selection x) (list_all (is_left_by selection) some) is
+  fails_case false x some is = is
+
+  pub left_fails : (seen : List Run) (run : Run) (rest : List Run) → left_run run ≡ false → are_left_by asked selection (seen ++ run ∷ rest) ≡ false
+  left_fails [] run rest is = one_fails (admits asked run) run (filter (admits asked) rest) is
+  left_fails (x ∷ seen) run rest is = fails_case (admits asked x) x (filter (admits asked) (seen ++ run ∷ rest)) (left_fails seen run rest is)
 
 pub cleared_stands : (selection : Selection) (run : Run) → (is_left_by selection run ≡ true) ↔ (cleared_run selection run ≡ run)
 cleared_stands selection run = (cleared_same selection run, same_cleared selection run)

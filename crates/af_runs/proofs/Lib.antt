@@ -2,7 +2,9 @@ pub mod BusyLemmas
 pub mod ChainLemmas
 pub mod ChangeLemmas
 pub mod ClearLemmas
+pub mod DagClearLemmas
 pub mod DagListLemmas
+pub mod DagPlaceLemmas
 pub mod FindLemmas
 pub mod IndexLemmas
 pub mod MarkLemmas

@@ -91,7 +91,7 @@ both true true is = (refl, refl)
 both true false is = absurd (cc)
 both false b is = absurd (cc)
 
-neither : (a b : Bool) → b ≡ false → (a && b) ≡ false
+pub neither : (a b : Bool) → b ≡ false → (a && b) ≡ false
 neither true b nay = nay
 neither false b nay = refl
 

@@ -15,7 +15,7 @@ apart_numbers n m apart = grind (arith, nat_tests)
 grown : (n m : ℕ) → m ≢ n → n ≤ m → n < m
 grown n m apart more = omega arith
 
-same_numbers : (n m : ℕ) → n ≡ m → (n == m) ≡ true
+pub same_numbers : (n m : ℕ) → n ≡ m → (n == m) ≡ true
 same_numbers n m same = grind (arith, nat_tests)
 
 pub number_from : (n m : ℕ) → (n == m) ≡ true → n ≡ m

@@ -1,7 +1,7 @@
 -- Where the row of a run stands.
-use Rattle.std.specs.Prelude.{ℕ, ◌≡◌, ◌≢◌, ◌<◌, List, true, false, length, slice_index_or}
+use Rattle.std.specs.Prelude.{ℕ, ◌≡◌, ◌≢◌, ◌<◌, List, true, false, length, slice_index_or, take}
 use Rattle.af_runs.specs.declared.run.Run.{Run}
-use Rattle.af_runs.specs.Runs.{is_numbered}
+use Rattle.af_runs.specs.Runs.{is_numbered, is_of, runs_of}
 use Rattle.af_runs.specs.Wanted.{meets}
 use Rattle.af_runs.specs.declared.wanted.Wanted.{Wanted}
 
@@ -23,3 +23,9 @@ pub record IsMetAt (wanted : Wanted) (runs : List Run) (place : ℕ) : Type 0 wh
 -- no run is the one that is wanted
 pub record IsMetNowhere (wanted : Wanted) (runs : List Run) : Type 0 where
   pub none : (other : ℕ) (d : Run) → other < length runs → meets wanted (slice_index_or runs other d) ≡ false
+
+-- the row at this place is that of the run at a place among those of a DAG
+pub record IsNthOf (runs : List Run) (dag_id : List ℕ) (nth place : ℕ) : Type 0 where
+  pub within : place < length runs
+  pub here : (d : Run) → is_of dag_id (slice_index_or runs place d) ≡ true
+  pub before : length (runs_of (take place runs) dag_id) ≡ nth

@@ -1,5 +1,5 @@
-ghost use Rattle.std.specs.Prelude.{◌≡◌, ◌↔◌, ◌<◌, ◌++◌, [], IfOk, OnOk, length, slice_index_or, slice_set, true, if◌then◌else◌};
-ghost use Rattle.af_runs.specs.Clears.{admits, are_left_by, chosen_in, chosen_of, run_after, with_cleared, with_cleared_run};
+ghost use Rattle.std.specs.Prelude.{◌≡◌, ◌↔◌, ◌<◌, ◌++◌, ◌||◌, [], IfOk, OnOk, length, not, slice_index_or, slice_set, true, if◌then◌else◌};
+ghost use Rattle.af_runs.specs.Clears.{admits, are_left_by, chosen_in, chosen_of, is_left_by, run_after, with_cleared, with_cleared_run};
 
 use crate::chosen_instance::ChosenInstance;
 use crate::run::{Run, list_chosen};
@@ -32,7 +32,7 @@ impl Runs {
         ensures told { result ≡ are_left_by filter.now selection.now self.now.rows }
         ensures left { (result ≡ true) ↔ (with_cleared self.now.rows filter.now selection.now ≡ self.now.rows) }
     {
-        are_left(self.rows.as_slice(), filter, selection)
+        are_left(self, filter, selection)
     }
 
     /// The chosen instances of the runs that the filter admits, in the order of run numbers, then of the definition.
@@ -45,7 +45,7 @@ impl Runs {
     ) -> Result<Vec<ChosenInstance<'a>>, AllocError>
         ensures { IfOk result (λ all. all.items ≡ chosen_in self.now.rows filter.now selection.now) }
     {
-        chosen_in(alloc, self.rows.as_slice(), filter, selection)
+        chosen_in(alloc, self, filter, selection)
     }
 
     /// Clears the chosen instances of the run at a place, where the filter admits it.
@@ -62,36 +62,50 @@ impl Runs {
     }
 }
 
-/// Clears the chosen instances of those of these runs that the filter admits.
+/// Clears the chosen instances of those of these runs that the filter admits. It goes over the runs of the filter's DAG.
 fn clear_all(runs: &mut Runs, filter: &RunFilter, selection: &Selection)
     ensures { runs.new ≡ record runs.old { rows = with_cleared runs.old.rows filter.now selection.now } }
 {
-    let count = runs.rows().len();
-    for place in 0..count {
-        runs.clear_at(place, filter, selection);
+    let count = runs.count_of(&filter.dag_id);
+    for nth in 0..count {
+        if let Some(place) = runs.place_of_nth(&filter.dag_id, nth) {
+            runs.clear_at(place, filter, selection);
+        }
     }
 }
 
-/// Whether clearing the chosen instances of those of these runs that the filter admits leaves all as they are.
-fn are_left(runs: &[Run], filter: &RunFilter, selection: &Selection) -> bool
-    ensures { result ≡ are_left_by filter.now selection.now runs.now }
+/// Whether clearing the chosen instances of those of these runs that the filter admits leaves all as they are. It goes over
+/// the runs of the filter's DAG.
+fn are_left(runs: &Runs, filter: &RunFilter, selection: &Selection) -> bool
+    ensures { result ≡ are_left_by filter.now selection.now runs.now.rows }
 {
-    runs.iter()
-        .filter(|run| filter.admits(run))
-        .all(|run| run.is_left_by(selection))
+    for run in runs.of_dag(&filter.dag_id, 0) {
+        if !is_left(run, filter, selection) {
+            return false;
+        }
+    }
+    true
 }
 
-/// The chosen instances of those of these runs that the filter admits. `AllocError` only where a growth was refused.
+/// Whether clearing its chosen instances, where the filter admits it, leaves a run as it is.
+fn is_left(run: &Run, filter: &RunFilter, selection: &Selection) -> bool
+    ensures { result ≡ (not (admits filter.now run.now) || is_left_by selection.now run.now) }
+{
+    !filter.admits(run) || run.is_left_by(selection)
+}
+
+/// The chosen instances of those of these runs that the filter admits. It goes over the runs of the filter's DAG.
+/// `AllocError` only where a growth was refused.
 fn chosen_in<'a>(
     alloc: Global,
-    runs: &'a [Run],
+    runs: &'a Runs,
     filter: &RunFilter,
     selection: &Selection,
 ) -> Result<Vec<ChosenInstance<'a>>, AllocError>
-    ensures { IfOk result (λ all. all.items ≡ chosen_in runs.now filter.now selection.now) }
+    ensures { IfOk result (λ all. all.items ≡ chosen_in runs.now.rows filter.now selection.now) }
 {
     let mut all = Vec::new(alloc);
-    for run in runs {
+    for run in runs.of_dag(&filter.dag_id, 0) {
         list_admitted(filter, run, selection, &mut all)?;
     }
     Ok(all)

@@ -1,7 +1,7 @@
-ghost use Rattle.std.specs.Prelude.{◌≡◌, MatchOption, drop, length, option_copied, slice_get};
+ghost use Rattle.std.specs.Prelude.{◌≡◌, ◌≤◌, MatchOption, drop, length, option_copied, slice_get};
 ghost use Rattle.std.specs.List.{list_any};
 ghost use Rattle.af_runs.specs.Busy.{busy_of};
-ghost use Rattle.af_runs.specs.Places.{IsMetAt, IsMetNowhere};
+ghost use Rattle.af_runs.specs.Places.{IsMetAt, IsMetNowhere, IsNthOf};
 ghost use Rattle.af_runs.specs.Runs.{AreRuns, instances_of, is_dated, is_run, run_at, run_of, runs_of};
 
 use crate::busy_runs::BusyRuns;
@@ -73,6 +73,16 @@ impl Runs {
                 dag_id,
                 place - listed.len(),
             ),
+        }
+    }
+
+    /// Where the run at this place among those of a DAG stands among all rows.
+    pub(crate) fn place_of_nth(&self, dag_id: &DagId, nth: usize) -> Option<usize>
+        ensures { MatchOption result (length (runs_of self.now.rows dag_id.now) ≤ nth) (IsNthOf self.now.rows dag_id.now nth) }
+    {
+        match self.nth_of(dag_id, nth) {
+            Some(run) => self.place_of(run.number),
+            None => None,
         }
     }
 

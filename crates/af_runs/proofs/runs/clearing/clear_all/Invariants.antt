@@ -1,6 +1,5 @@
-use Rattle.af_runs.specs.Clears.{run_after}
-use Rattle.af_runs.proofs.ChangeLemmas.{AreDone}
+use Rattle.af_runs.proofs.DagClearLemmas.{HaveCleared}
 use Rattle.af_runs.proofs.runs.clearing.clear_all.Given as goal
 
-abbrev pub invariant-loop-place : goal.invariant-loop-place
-invariant-loop-place l = AreDone (run_after l.filter l.selection) l.initial.runs l.place l.runs
+abbrev pub invariant-loop-nth : goal.invariant-loop-nth
+invariant-loop-nth l = HaveCleared l.filter l.selection l.initial.runs l.nth l.runs
