@@ -1,121 +1,20 @@
 //! Requests of several users, one after another, with the bodies that the stable REST API of Airflow 2 and RFC 9457 spell.
+mod instances;
+mod told;
+
+use af_graph::{Dag, DagSpec, Rule, TaskIds, TaskSpec, TaskSpecs};
+use af_names::{DagId, Instant, PoolName, RoleName, RunId, TaskId, UserName};
 use af_ops::{
     CallFault, Endpoint, Op, OpFault, Served, Shown, Standing, Status, Text, Under, decide,
     read_row,
 };
-use af_graph::{Dag, DagSpec, Rule, TaskIds, TaskSpec, TaskSpecs};
-use af_names::{DagId, Instant, PoolName, RoleName, RunId, TaskId, UserName};
 use af_policy::{Policy, PolicyDraft, User};
 use af_role::{Action, Pair, Permissions, Resource, ResourceKind, Role};
 use af_sched::{DagRow, State};
 use sha2::{Digest, Sha256};
 use std::alloc::Global;
 use std::test::Fail;
-
-const ALL_DAGS: &[u8] =
-    br#"{"dags":[{"dag_id":"a","is_paused":true,"max_active_runs":16,"next_dagrun":null,"schedule_interval":null},{"dag_id":"b","is_paused":false,"max_active_runs":16,"next_dagrun":null,"schedule_interval":null},{"dag_id":"c","is_paused":false,"max_active_runs":16,"next_dagrun":null,"schedule_interval":null}],"total_entries":3}"#;
-
-const ONE_DAG: &[u8] =
-    br#"{"dags":[{"dag_id":"b","is_paused":false,"max_active_runs":16,"next_dagrun":null,"schedule_interval":null}],"total_entries":1}"#;
-
-const PAUSED: &[u8] =
-    br#"{"dag_id":"b","is_paused":true,"max_active_runs":16,"next_dagrun":null,"schedule_interval":null}"#;
-
-const VERSION: &[u8] = br#"{"git_version":null,"version":"afplane 1"}"#;
-
-const NOBODY: &[u8] =
-    br#"{"detail":"authentication required","status":401,"title":"Unauthorized","type":"about:blank"}"#;
-
-const NO_LIST: &[u8] =
-    br#"{"detail":"missing permission DAGs.can_read","status":403,"title":"Forbidden","type":"about:blank"}"#;
-
-const NO_A: &[u8] =
-    br#"{"detail":"missing permission DAG:a.can_read","status":403,"title":"Forbidden","type":"about:blank"}"#;
-
-const NO_NOSUCH: &[u8] =
-    br#"{"detail":"missing permission DAG:nosuch.can_read","status":403,"title":"Forbidden","type":"about:blank"}"#;
-
-const NO_EDIT: &[u8] =
-    br#"{"detail":"missing permission DAG:b.can_edit","status":403,"title":"Forbidden","type":"about:blank"}"#;
-
-const ABSENT: &[u8] =
-    br#"{"detail":"no such dag: nosuch","status":404,"title":"Not Found","type":"about:blank"}"#;
-
-const BAD_BODY: &[u8] =
-    br#"{"detail":"bad body","status":400,"title":"Bad Request","type":"about:blank"}"#;
-
-const BAD_MEMBER: &[u8] =
-    br#"{"detail":"bad member: is_paused","status":400,"title":"Bad Request","type":"about:blank"}"#;
-
-const TRIGGERED: &[u8] =
-    br#"{"dag_id":"b","dag_run_id":"manual__2024-01-01T00:00:00+00:00","data_interval_end":"2024-01-01T00:00:00+00:00","data_interval_start":"2024-01-01T00:00:00+00:00","end_date":null,"logical_date":"2024-01-01T00:00:00+00:00","run_type":"manual","start_date":null,"state":"queued"}"#;
-
-const SECOND: &[u8] =
-    br#"{"dag_id":"a","dag_run_id":"r2","data_interval_end":"2024-01-02T00:00:00+00:00","data_interval_start":"2024-01-02T00:00:00+00:00","end_date":null,"logical_date":"2024-01-02T00:00:00+00:00","run_type":"manual","start_date":null,"state":"queued"}"#;
-
-const RUNS: &[u8] =
-    br#"{"dag_runs":[{"dag_id":"b","dag_run_id":"manual__2024-01-01T00:00:00+00:00","data_interval_end":"2024-01-01T00:00:00+00:00","data_interval_start":"2024-01-01T00:00:00+00:00","end_date":null,"logical_date":"2024-01-01T00:00:00+00:00","run_type":"manual","start_date":null,"state":"queued"},{"dag_id":"a","dag_run_id":"r2","data_interval_end":"2024-01-02T00:00:00+00:00","data_interval_start":"2024-01-02T00:00:00+00:00","end_date":null,"logical_date":"2024-01-02T00:00:00+00:00","run_type":"manual","start_date":null,"state":"queued"}],"total_entries":2}"#;
-
-const RUNS_OF_B: &[u8] =
-    br#"{"dag_runs":[{"dag_id":"b","dag_run_id":"manual__2024-01-01T00:00:00+00:00","data_interval_end":"2024-01-01T00:00:00+00:00","data_interval_start":"2024-01-01T00:00:00+00:00","end_date":null,"logical_date":"2024-01-01T00:00:00+00:00","run_type":"manual","start_date":null,"state":"queued"}],"total_entries":1}"#;
-
-const NO_RUNS: &[u8] = br#"{"dag_runs":[],"total_entries":0}"#;
-
-const RUN_EXISTS: &[u8] =
-    br#"{"detail":"run exists: manual__2024-01-01T00:00:00+00:00","status":409,"title":"Conflict","type":"about:blank"}"#;
-
-const DATE_TAKEN: &[u8] =
-    br#"{"detail":"date taken: 2024-01-01T00:00:00+00:00","status":409,"title":"Conflict","type":"about:blank"}"#;
-
-const NO_RUN: &[u8] =
-    br#"{"detail":"no such run: r2","status":404,"title":"Not Found","type":"about:blank"}"#;
-
-const NO_RUN_READING: &[u8] =
-    br#"{"detail":"missing permission DAG Runs.can_read","status":403,"title":"Forbidden","type":"about:blank"}"#;
-
-const BAD_DATE: &[u8] =
-    br#"{"detail":"bad member: execution_date","status":400,"title":"Bad Request","type":"about:blank"}"#;
-
-/// The bodies that are sent.
-#[derive(Clone, Copy)]
-enum Sent {
-    Nothing,
-    Cut,
-    Empty,
-    Pause,
-    GoOn,
-    Named,
-    Dated,
-    BadDate,
-}
-
-/// What is told: a status and a body.
-#[derive(Clone, Copy)]
-enum Told {
-    AllDags,
-    OneDag,
-    Paused,
-    Running,
-    Version,
-    Nobody,
-    NoList,
-    NoA,
-    NoNosuch,
-    NoEdit,
-    Absent,
-    BadBody,
-    BadMember,
-    Triggered,
-    Second,
-    Runs,
-    RunsOfB,
-    NoRuns,
-    RunExists,
-    DateTaken,
-    NoRun,
-    NoRunReading,
-    BadDate,
-}
+use told::{Sent, Told, sent_bytes, told_as};
 
 /// Who asks for what, at which parts of the path and with which body, and what is told, with the number of entries.
 type Row = (
@@ -443,9 +342,6 @@ const RUN_ROWS: [Row; 20] = [
     ),
 ];
 
-const RUNNING: &[u8] =
-    br#"{"dag_id":"b","is_paused":false,"max_active_runs":16,"next_dagrun":null,"schedule_interval":null}"#;
-
 fn dag(alloc: Global, id: &str, is_paused: bool) -> Result<DagRow, Fail> {
     let task = TaskSpec {
         task_id: TaskId::parse(alloc, "t")?,
@@ -492,28 +388,31 @@ fn runs_b(alloc: Global) -> Result<Role, Fail> {
     Ok(Role::new(RoleName::parse(alloc, "RunsB")?, permissions))
 }
 
+/// Who there is: each user's name, which is the token, and the user's role.
+const USERS: [(&str, &str); 6] = [
+    ("adam", "Admin"),
+    ("bob", "OnlyB"),
+    ("pat", "Public"),
+    ("ron", "RunsB"),
+    ("uma", "User"),
+    ("vera", "Viewer"),
+];
+
 fn policy(alloc: Global) -> Result<Policy, Fail> {
     let mut draft = PolicyDraft::new(alloc)?;
     draft.add_role(only_b(alloc)?)?;
     draft.add_role(runs_b(alloc)?)?;
-    let users = [
-        ("adam", "Admin"),
-        ("bob", "OnlyB"),
-        ("pat", "Public"),
-        ("ron", "RunsB"),
-        ("uma", "User"),
-        ("vera", "Viewer"),
-    ];
-    for (name, role) in users {
-        let mut roles = Vec::new(alloc);
-        roles.push(RoleName::parse(alloc, role)?)?;
-        let digest = Sha256::digest(name.as_bytes());
-        draft.add_user(
-            alloc,
-            User::new(UserName::parse(alloc, name)?, digest, roles),
-        )?;
+    for (name, role) in USERS {
+        draft.add_user(alloc, user(alloc, name, role)?)?;
     }
     Ok(draft.finish(alloc)?)
+}
+
+fn user(alloc: Global, name: &str, role: &str) -> Result<User, Fail> {
+    let mut roles = Vec::new(alloc);
+    roles.push(RoleName::parse(alloc, role)?)?;
+    let digest = Sha256::digest(name.as_bytes());
+    Ok(User::new(UserName::parse(alloc, name)?, digest, roles))
 }
 
 fn state(alloc: Global) -> Result<State, Fail> {
@@ -524,53 +423,17 @@ fn state(alloc: Global) -> Result<State, Fail> {
     Ok(state)
 }
 
+/// Where the server stands before the first of the rows.
+fn opened(alloc: Global) -> Result<Standing, Fail> {
+    Ok(Standing::open(state(alloc)?))
+}
+
 fn op(alloc: Global, endpoint: Endpoint, part: &str, body: &[u8]) -> Result<Option<Op>, Fail> {
     let mut parts = Vec::new(alloc);
     for text in part.split('/') {
         parts.push(String::from_str(alloc, text)?)?;
     }
     Ok(read_row(alloc, endpoint, parts.as_slice(), body)?)
-}
-
-fn sent_bytes(body: Sent) -> &'static [u8] {
-    match body {
-        Sent::Nothing => b"",
-        Sent::Cut => b"{",
-        Sent::Empty => b"{}",
-        Sent::Pause => br#"{"is_paused":true}"#,
-        Sent::GoOn => br#"{"is_paused":false}"#,
-        Sent::Named => br#"{"dag_run_id":"x"}"#,
-        Sent::Dated => br#"{"dag_run_id":"r2","logical_date":"2024-01-02T00:00:00Z"}"#,
-        Sent::BadDate => br#"{"logical_date":null,"execution_date":"x","conf":1}"#,
-    }
-}
-
-fn told_as(it: Told) -> (Status, &'static [u8]) {
-    match it {
-        Told::AllDags => (Status::Ok, ALL_DAGS),
-        Told::OneDag => (Status::Ok, ONE_DAG),
-        Told::Paused => (Status::Ok, PAUSED),
-        Told::Running => (Status::Ok, RUNNING),
-        Told::Version => (Status::Ok, VERSION),
-        Told::Nobody => (Status::Unauthorized, NOBODY),
-        Told::NoList => (Status::Forbidden, NO_LIST),
-        Told::NoA => (Status::Forbidden, NO_A),
-        Told::NoNosuch => (Status::Forbidden, NO_NOSUCH),
-        Told::NoEdit => (Status::Forbidden, NO_EDIT),
-        Told::Absent => (Status::NotFound, ABSENT),
-        Told::BadBody => (Status::BadRequest, BAD_BODY),
-        Told::BadMember => (Status::BadRequest, BAD_MEMBER),
-        Told::Triggered => (Status::Ok, TRIGGERED),
-        Told::Second => (Status::Ok, SECOND),
-        Told::Runs => (Status::Ok, RUNS),
-        Told::RunsOfB => (Status::Ok, RUNS_OF_B),
-        Told::NoRuns => (Status::Ok, NO_RUNS),
-        Told::RunExists => (Status::Conflict, RUN_EXISTS),
-        Told::DateTaken => (Status::Conflict, DATE_TAKEN),
-        Told::NoRun => (Status::NotFound, NO_RUN),
-        Told::NoRunReading => (Status::Forbidden, NO_RUN_READING),
-        Told::BadDate => (Status::BadRequest, BAD_DATE),
-    }
 }
 
 /// What is told of a row: the status, the number of entries, and the body.
@@ -599,9 +462,8 @@ fn text(shown: &Shown) -> &[u8] {
 }
 
 /// How many of these rows, one after another, are told as they should be, up to the first that is not.
-fn play(alloc: Global, rows: &[Row]) -> Result<usize, Fail> {
+fn play(alloc: Global, mut standing: Standing, rows: &[Row]) -> Result<usize, Fail> {
     let policy = policy(alloc)?;
-    let mut standing = Standing::open(state(alloc)?);
     for (place, row) in rows.iter().enumerate() {
         let shown = asked(alloc, &mut standing, &policy, *row)?;
         if !is_told(&shown, *row) {
@@ -621,19 +483,28 @@ fn is_told(shown: &Shown, row: Row) -> bool {
 
 #[test]
 fn what_readers_are_told(rt: HostRuntime) -> Result<(), Fail> {
-    assert_eq!(rt; play(rt.alloc(), &READINGS)?, READINGS.len());
+    assert_eq!(rt;
+        play(rt.alloc(), opened(rt.alloc())?, &READINGS)?,
+        READINGS.len()
+    );
     Ok(())
 }
 
 #[test]
 fn what_is_paused(rt: HostRuntime) -> Result<(), Fail> {
-    assert_eq!(rt; play(rt.alloc(), &CHANGES)?, CHANGES.len());
+    assert_eq!(rt;
+        play(rt.alloc(), opened(rt.alloc())?, &CHANGES)?,
+        CHANGES.len()
+    );
     Ok(())
 }
 
 #[test]
 fn what_is_told_of_runs(rt: HostRuntime) -> Result<(), Fail> {
-    assert_eq!(rt; play(rt.alloc(), &RUN_ROWS)?, RUN_ROWS.len());
+    assert_eq!(rt;
+        play(rt.alloc(), opened(rt.alloc())?, &RUN_ROWS)?,
+        RUN_ROWS.len()
+    );
     Ok(())
 }
 
@@ -644,20 +515,36 @@ fn with_entries(
     endpoint: Endpoint,
     body: &[u8],
 ) -> Result<Option<bool>, Fail> {
-    let policy = policy(alloc)?;
-    let mut state = state(alloc)?;
+    let Some(op) = op(alloc, endpoint, "b", body)? else {
+        return Err(Fail::new("a part is no name"));
+    };
     let under = Under {
         version: 0,
         seq: entries,
     };
-    let Some(op) = op(alloc, endpoint, "b", body)? else {
-        return Err(Fail::new("a part is no name"));
-    };
-    let now = Instant::read("2024-01-01T00:00:00Z")?;
-    match decide(alloc, &policy, &mut state, under, Some(b"uma"), &op, now) {
-        Ok(_) => Ok(Some(true)),
-        Err(CallFault::Op(OpFault::HistoryFull)) => Ok(Some(false)),
-        Err(_) => Ok(None),
+    let policy = policy(alloc)?;
+    Ok(permitted(
+        alloc,
+        &policy,
+        &mut state(alloc)?,
+        under,
+        &op,
+        Instant::read("2024-01-01T00:00:00Z")?,
+    ))
+}
+
+fn permitted(
+    alloc: Global,
+    policy: &Policy,
+    state: &mut State,
+    under: Under,
+    op: &Op,
+    now: Instant,
+) -> Option<bool> {
+    match decide(alloc, policy, state, under, Some(b"uma"), op, now) {
+        Ok(_) => Some(true),
+        Err(CallFault::Op(OpFault::HistoryFull)) => Some(false),
+        Err(_) => None,
     }
 }
 
@@ -693,42 +580,76 @@ fn a_part_that_is_no_name(rt: HostRuntime) -> Result<(), Fail> {
     Ok(())
 }
 
-#[test]
-fn a_member_of_each_kind(rt: HostRuntime) -> Result<(), Fail> {
-    let alloc = rt.alloc();
-    let task_id = TaskId::parse(alloc, "t-1")?;
-    let run_id = RunId::parse(alloc, "r+1")?;
+const DAG_ID: &[u8] = b"\"dag_id\"";
+
+const OF_MANY: &[u8] = b"],\"total_entries\":1024}";
+
+const MEMBERS: &[u8] =
+    br#""asked":"say \"x\"","date":"2024-01-01T00:00:00.000001+00:00","list":["x","\\"],"number":-7,"run":"r+1","task":"t-1""#;
+
+/// Members with a text, an instant and a list.
+fn put_texts(alloc: Global, out: &mut Text) -> Result<(), Fail> {
     let date = Instant::read("2024-01-01T00:00:00.000001Z")?;
-    let mut out = Text::with_room(alloc, 0)?;
     out.text(alloc, false, "asked", "say \"x\"")?;
     out.instant(alloc, true, "date", Some(date))?;
     out.texts(alloc, true, "list", &["x", "\\"])?;
+    Ok(())
+}
+
+/// Members with a number and two names.
+fn put_names(alloc: Global, out: &mut Text) -> Result<(), Fail> {
     out.integer(true, "number", -7)?;
-    out.run_id(true, "run", &run_id)?;
-    out.task_id(true, "task", &task_id)?;
-    assert_eq!(rt;
-        out.into_bytes().as_slice(),
-        br#""asked":"say \"x\"","date":"2024-01-01T00:00:00.000001+00:00","list":["x","\\"],"number":-7,"run":"r+1","task":"t-1""#.as_slice()
-    );
+    out.run_id(true, "run", &RunId::parse(alloc, "r+1")?)?;
+    out.task_id(true, "task", &TaskId::parse(alloc, "t-1")?)?;
     Ok(())
 }
 
 #[test]
-fn a_page_has_a_hundred_rows(rt: HostRuntime) -> Result<(), Fail> {
-    let alloc = rt.alloc();
-    let policy = policy(alloc)?;
+fn a_member_of_each_kind(rt: HostRuntime) -> Result<(), Fail> {
+    let mut out = Text::with_room(rt.alloc(), 0)?;
+    put_texts(rt.alloc(), &mut out)?;
+    put_names(rt.alloc(), &mut out)?;
+    assert_eq!(rt; out.into_bytes().as_slice(), MEMBERS);
+    Ok(())
+}
+
+/// Where a server stands with 1,024 DAGs.
+fn standing_of_many(alloc: Global) -> Result<Standing, Fail> {
     let mut state = State::new(alloc)?;
     for n in 0..1024 {
-        let id = format!(in alloc; "dag{n}")?;
-        state.add_dag(dag(alloc, id.as_str(), false)?)?;
+        add_numbered(alloc, &mut state, n)?;
     }
-    let mut standing = Standing::open(state);
-    let shown = asked(alloc, &mut standing, &policy, READINGS[0])?;
-    let rows = text(&shown)
-        .windows(8)
-        .filter(|window| window.starts_with(b"\"dag_id\""))
-        .count();
-    assert_eq!(rt; rows, 100);
-    assert_eq!(rt; text(&shown).ends_with(b"],\"total_entries\":1024}"), true);
+    Ok(Standing::open(state))
+}
+
+fn add_numbered(alloc: Global, state: &mut State, n: u32) -> Result<(), Fail> {
+    let id = format!(in alloc; "dag{n}")?;
+    state.add_dag(dag(alloc, id.as_str(), false)?)?;
+    Ok(())
+}
+
+/// What is told of a row by a server that stands so.
+fn shown_by(alloc: Global, mut standing: Standing, row: Row) -> Result<Shown, Fail> {
+    let policy = policy(alloc)?;
+    asked(alloc, &mut standing, &policy, row)
+}
+
+/// How many times these bytes stand in what is told; of no bytes none.
+fn count_of(shown: &Shown, bytes: &[u8]) -> usize {
+    let size = bytes.len();
+    if size == 0 {
+        return 0;
+    }
+    text(shown)
+        .windows(size)
+        .filter(|window| *window == bytes)
+        .count()
+}
+
+#[test]
+fn a_page_has_a_hundred_rows(rt: HostRuntime) -> Result<(), Fail> {
+    let shown = shown_by(rt.alloc(), standing_of_many(rt.alloc())?, READINGS[0])?;
+    assert_eq!(rt; count_of(&shown, DAG_ID), 100);
+    assert_eq!(rt; text(&shown).ends_with(OF_MANY), true);
     Ok(())
 }
