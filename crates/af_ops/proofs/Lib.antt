@@ -1,6 +1,7 @@
 mod BodyLemmas
 mod DecisionLemmas
 mod EditLemmas
+mod InstantLemmas
 mod LawLemmas
 mod MarkingLemmas
 mod PageLemmas
