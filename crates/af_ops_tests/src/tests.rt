@@ -701,7 +701,7 @@ fn a_member_of_each_kind(rt: HostRuntime) -> Result<(), Fail> {
     let date = Instant::read("2024-01-01T00:00:00.000001Z")?;
     let mut out = Text::with_room(alloc, 0)?;
     out.text(alloc, false, "asked", "say \"x\"")?;
-    out.instant(alloc, true, "date", Some(date))?;
+    out.instant(true, "date", Some(date))?;
     out.texts(alloc, true, "list", &["x", "\\"])?;
     out.integer(true, "number", -7)?;
     out.run_id(true, "run", &run_id)?;
