@@ -2,6 +2,7 @@ mod BodyLemmas
 mod ClearingLemmas
 mod DecisionLemmas
 mod EditLemmas
+mod InstantLemmas
 mod LawLemmas
 mod MarkingLemmas
 mod PageLemmas

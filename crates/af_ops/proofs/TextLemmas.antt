@@ -87,7 +87,7 @@ row_put before fs =
     ∙ append_assoc before (123 ∷ []) (members_text false (members_from fs))
 
 -- bytes of ids
-plain_byte : (x : ℕ) → (x ≡ 34 → ⊥) → (x ≡ 92 → ⊥) → 32 ≤ x → is_plain x ≡ true
+pub plain_byte : (x : ℕ) → (x ≡ 34 → ⊥) → (x ≡ 92 → ⊥) → 32 ≤ x → is_plain x ≡ true
 plain_byte x quote backslash above = rw (ne_eqb x 34 quote, ne_eqb x 92 backslash, le-ltb x 32 above)
 
 id_plain : (allowed : ℕ → Bool) → allowed 34 ≡ false → allowed 92 ≡ false → ((x : ℕ) → allowed x ≡ true → 32 ≤ x) → (s : List ℕ) → list_all allowed s ≡ true → list_all is_plain s ≡ true

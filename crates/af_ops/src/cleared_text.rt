@@ -37,7 +37,7 @@ fn put_cleared(alloc: Global, out: &mut Text, run: &Run, task_id: &str) -> Resul
 {
     out.dag_id(false, "dag_id", &run.dag_id)?;
     out.run_id(true, "dag_run_id", &run.run_id)?;
-    out.instant(alloc, true, "logical_date", Some(run.logical_date))?;
+    out.instant(true, "logical_date", Some(run.logical_date))?;
     out.text(alloc, true, "task_id", task_id)?;
     Ok(())
 }

@@ -52,7 +52,7 @@ fn put_dag(alloc: Global, out: &mut Text, row: &DagRow, is_paused: bool) -> Resu
         "max_active_runs",
         u64::from(row.dag.definition().max_active_runs),
     )?;
-    out.instant(alloc, true, "next_dagrun", row.cursor)?;
+    out.instant(true, "next_dagrun", row.cursor)?;
     put_schedule(alloc, out, "schedule_interval", row.dag.schedule())?;
     Ok(())
 }

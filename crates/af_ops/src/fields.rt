@@ -6,11 +6,13 @@ ghost use Rattle.serde_json.specs.Data.{null, array, boolean, number, unsigned, 
 ghost use Rattle.serde_json.specs.View.{items_of};
 ghost use Rattle.serde_json.specs.Written.{compact_text, items_text};
 ghost use Rattle.serde_json.specs.Find.{of_integer};
+ghost use Rattle.af_names.specs.Isoformat.{isoformat};
 ghost use Rattle.af_ops.specs.Texts.{Adds, is_name};
 ghost use Rattle.af_ops.specs.Fields.{instant_data};
 
 use crate::text::Text;
 use af_names::{DagId, Instant, RunId, TaskId};
+use arrayvec::ArrayString;
 use itoa::Buffer;
 use json::Writer;
 use std::alloc::{AllocError, Global};
@@ -114,7 +116,6 @@ impl Text {
     #[inline]
     pub fn instant(
         &mut self,
-        alloc: Global,
         later: bool,
         name: &str,
         value: Option<Instant>,
@@ -124,7 +125,7 @@ impl Text {
     {
         match value {
             None => self.null(later, name),
-            Some(instant) => self.text(alloc, later, name, instant.isoformat().as_str()),
+            Some(instant) => self.plain(later, name, instant_text(instant).as_str()),
         }
     }
 
@@ -219,6 +220,15 @@ fn escaped_text(alloc: Global, value: &str) -> Result<Vec<u8>, AllocError>
     let mut out = Writer::new(Vec::new(alloc));
     out.string(value)?;
     Ok(out.into_inner())
+}
+
+/// The text of an instant. Its year has four digits, so no byte wants an escape.
+fn instant_text(instant: Instant) -> ArrayString<38>
+    ensures text { result.bytes ≡ isoformat instant }
+    ensures plain { list_all is_plain result.bytes ≡ true }
+{
+    let _last = instant.micros();
+    instant.isoformat()
 }
 
 /// Whether no byte wants an escape.

@@ -65,7 +65,7 @@ fn put_first(
 {
     out.dag_id(false, "dag_id", &run.dag_id)?;
     out.run_id(true, "dag_run_id", &run.run_id)?;
-    out.instant(alloc, true, "end_date", instance.end_date)?;
+    out.instant(true, "end_date", instance.end_date)?;
     out.text(alloc, true, "pool", task.pool.as_str())?;
     out.number(true, "pool_slots", task.pool_slots)?;
     Ok(())
@@ -81,7 +81,7 @@ fn put_last(
     ensures { OnOk result (Adds true out.old out.new (instance_last (record { run = run.now; task = task.now; instance = instance.now }))) }
 {
     out.integer(true, "priority_weight", task.priority_weight)?;
-    out.instant(alloc, true, "start_date", instance.start_date)?;
+    out.instant(true, "start_date", instance.start_date)?;
     put_state(alloc, out, "state", instance.state)?;
     out.task_id(true, "task_id", &task.task_id)?;
     out.number(true, "try_number", u64::from(instance.try_number))?;

@@ -99,12 +99,12 @@ fn put_run(
 {
     out.dag_id(false, "dag_id", &run.dag_id)?;
     out.run_id(true, "dag_run_id", &run.run_id)?;
-    out.instant(alloc, true, "data_interval_end", Some(run.interval.end))?;
-    out.instant(alloc, true, "data_interval_start", Some(run.interval.start))?;
-    out.instant(alloc, true, "end_date", end_date)?;
-    out.instant(alloc, true, "logical_date", Some(run.logical_date))?;
+    out.instant(true, "data_interval_end", Some(run.interval.end))?;
+    out.instant(true, "data_interval_start", Some(run.interval.start))?;
+    out.instant(true, "end_date", end_date)?;
+    out.instant(true, "logical_date", Some(run.logical_date))?;
     out.text(alloc, true, "run_type", run_type_text(run.run_type))?;
-    out.instant(alloc, true, "start_date", start_date)?;
+    out.instant(true, "start_date", start_date)?;
     out.text(alloc, true, "state", run_state_text(state))?;
     Ok(())
 }
@@ -116,15 +116,10 @@ impl Row for NewRun {
     fn put_fields(&self, alloc: Global, out: &mut Text) -> Result<(), AllocError> {
         out.dag_id(false, "dag_id", &self.dag_id)?;
         out.run_id(true, "dag_run_id", &self.run_id)?;
-        out.instant(alloc, true, "data_interval_end", Some(self.interval.end))?;
-        out.instant(
-            alloc,
-            true,
-            "data_interval_start",
-            Some(self.interval.start),
-        )?;
+        out.instant(true, "data_interval_end", Some(self.interval.end))?;
+        out.instant(true, "data_interval_start", Some(self.interval.start))?;
         out.null(true, "end_date")?;
-        out.instant(alloc, true, "logical_date", Some(self.logical_date))?;
+        out.instant(true, "logical_date", Some(self.logical_date))?;
         out.text(alloc, true, "run_type", run_type_text(self.run_type))?;
         out.null(true, "start_date")?;
         out.plain(true, "state", "queued")?;

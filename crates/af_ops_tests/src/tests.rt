@@ -591,7 +591,7 @@ const MEMBERS: &[u8] =
 fn put_texts(alloc: Global, out: &mut Text) -> Result<(), Fail> {
     let date = Instant::read("2024-01-01T00:00:00.000001Z")?;
     out.text(alloc, false, "asked", "say \"x\"")?;
-    out.instant(alloc, true, "date", Some(date))?;
+    out.instant(true, "date", Some(date))?;
     out.texts(alloc, true, "list", &["x", "\\"])?;
     Ok(())
 }
