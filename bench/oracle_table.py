@@ -94,8 +94,8 @@ def table():
 OPERATIONS = table()
 
 # Names for sets of names: operations, members of the configuration that are read, and `pages`, the reading of `limit` and `offset`.
-LANDED = {"list_dags", "show_dag", "patch_dag", "list_runs", "trigger_run", "show_run", "list_tasks", "list_instances", "show_instance", "mark_run", "clear_run",
-          "clear_instances"}
+LANDED = {"list_dags", "show_dag", "patch_dag", "list_runs", "trigger_run", "show_run", "list_tasks", "list_instances", "show_instance", "mark_run", "delete_run",
+          "clear_run", "clear_instances"}
 GROUPS = {
     "landed": LANDED,
     "changes": {"mark_run", "delete_run", "clear_run", "clear_instances", "variables"}

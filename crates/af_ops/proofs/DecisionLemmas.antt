@@ -24,7 +24,7 @@ module _ (asked : Op) (under : Under) (state : StateRows) where
   own_fault effect fault other (inl is) = inl (ap (done under) is)
   own_fault effect fault other (inr wants) = absurd (other wants.1)
 
-  with_room : (reply : List ℕ) (next : Option StateRows) → nat_lt under.seq history_limit ≡ true → IsDoing asked (recorded under reply next)
+  with_room : (reply : Option (List ℕ)) (next : Option StateRows) → nat_lt under.seq history_limit ≡ true → IsDoing asked (recorded under reply next)
   with_room reply None room = tt
   with_room reply (Some next) room = rw room tt
 
@@ -37,7 +37,7 @@ module _ (asked : Op) (under : Under) (state : StateRows) where
   room_wanted effect fault room (inl is) = inl (ap (done under) is)
   room_wanted effect fault room (inr wants) = inr (room_doing effect wants.0 room, ap (λ (f : OpFault). why.Op f) wants.1)
 
-  kept_doing : (reply : List ℕ) (next : Option StateRows) → is_some next ≡ false → IsDoing asked (recorded under reply next)
+  kept_doing : (reply : Option (List ℕ)) (next : Option StateRows) → is_some next ≡ false → IsDoing asked (recorded under reply next)
   kept_doing reply None none = tt
   kept_doing reply (Some next) none = cc
 
@@ -50,11 +50,11 @@ module _ (asked : Op) (under : Under) (state : StateRows) where
   kept_wanted effect fault keeps (inl is) = inl (ap (done under) is)
   kept_wanted effect fault keeps (inr wants) = inr (reading_doing effect wants.0 keeps, ap (λ (f : OpFault). why.Op f) wants.1)
 
-  chosen_by : (b : Bool) (reply : List ℕ) (next : StateRows) → chooses asked ≡ true → IsDoing asked (if b then Changes reply next else Refuses HistoryFull)
+  chosen_by : (b : Bool) (reply : Option (List ℕ)) (next : StateRows) → chooses asked ≡ true → IsDoing asked (if b then Changes reply next else Refuses HistoryFull)
   chosen_by true reply next is = tt
   chosen_by false reply next is = (refl, is)
 
-  chosen_next : (reply : List ℕ) (next : Option StateRows) → chooses asked ≡ true → IsDoing asked (recorded under reply next)
+  chosen_next : (reply : Option (List ℕ)) (next : Option StateRows) → chooses asked ≡ true → IsDoing asked (recorded under reply next)
   chosen_next reply None is = tt
   chosen_next reply (Some next) is = chosen_by (nat_lt under.seq history_limit) reply next is
 
@@ -67,7 +67,7 @@ module _ (asked : Op) (under : Under) (state : StateRows) where
   chosen_wanted effect fault is (inl told) = inl (ap (done under) told)
   chosen_wanted effect fault is (inr wants) = inr (chosen_doing effect wants.0 is, ap (λ (f : OpFault). why.Op f) wants.1)
 
-  full_next : (reply : List ℕ) (next : Option StateRows) → nat_lt under.seq history_limit ≡ false → is_some next ≡ true → recorded under reply next ≡ Refuses HistoryFull
+  full_next : (reply : Option (List ℕ)) (next : Option StateRows) → nat_lt under.seq history_limit ≡ false → is_some next ≡ true → recorded under reply next ≡ Refuses HistoryFull
   full_next reply None full changes = cc
   full_next reply (Some next) full changes = rw full refl
 

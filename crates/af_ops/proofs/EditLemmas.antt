@@ -6,7 +6,7 @@ use Rattle.af_sched.specs.State.{StateRows, dag_of, is_of_id, with_paused}
 use Rattle.af_sched.specs.declared.dag_row.DagRow.{DagRow}
 use Rattle.af_ops.specs.declared.edit.Edit.{Edit}
 use Rattle.af_ops.specs.declared.edit.Edit.TheVariants as edit
-use Rattle.af_ops.specs.Edits.{next_by, with_clear, with_mark, with_run}
+use Rattle.af_ops.specs.Edits.{next_by, with_clear, with_mark, with_run, without}
 use Rattle.af_ops.specs.Effects.{differs}
 use Rattle.af_ops.specs.Prepared.{IsExact}
 
@@ -53,5 +53,7 @@ pause_exact state dag_id is_paused row (edit.DagPaused id paused) found next =
 pause_exact state dag_id is_paused row (edit.RunAdded new) found next = add_exact state new
 pause_exact state dag_id is_paused row (edit.RunMarked number mark at) found next =
     ((λ no. cc), (λ same. absurd (exact_by (differs row is_paused) state dag_id is_paused row (with_mark state number mark at) refl found next same)))
+pause_exact state dag_id is_paused row (edit.RunRemoved number) found next =
+    ((λ no. cc), (λ same. absurd (exact_by (differs row is_paused) state dag_id is_paused row (without state number) refl found next same)))
 pause_exact state dag_id is_paused row (edit.InstancesCleared filter selection) found next =
     ((λ no. cc), (λ same. absurd (exact_by (differs row is_paused) state dag_id is_paused row (with_clear state filter selection) refl found next same)))

@@ -27,13 +27,14 @@ use Rattle.af_ops.specs.declared.clear.Clear.{Clear}
 use Rattle.af_ops.specs.declared.op.Op.TheVariants as op
 use Rattle.af_ops.specs.declared.trigger.Trigger.{Trigger}
 use Rattle.af_ops.specs.Edits.{with_clear, with_run}
-use Rattle.af_ops.specs.Effects.{Effect, added_run, all_tasks, clearing, differs, filter_of, free_by, free_id, id_or, input_or, instance_of, instances_cleared, instances_data, kept, known_run, known_tasks, listed_runs, marking, new_run, one_run, paused_dag, pausing, run_cleared, run_marked, runs_data, selection_of, tasks_data, triggered_run, with_marked_run}
+use Rattle.af_ops.specs.Effects.{Effect, added_run, all_tasks, clearing, deleting, differs, filter_of, free_by, free_id, id_or, input_or, instance_of, instances_cleared, instances_data, kept, known_run, known_tasks, listed_runs, marking, new_run, one_run, paused_dag, pausing, run_cleared, run_deleted, run_marked, runs_data, selection_of, tasks_data, triggered_run, with_marked_run, without_run_of}
 use Rattle.af_runs.proofs.MarkLemmas.{chosen_alone}
 use Rattle.af_ops.specs.Laws.{ClearsTouchChosenAlone, DryRunsLeaveTheState, ListingsGoById, ReadingsLeaveTheState, ChangesLeaveAnotherState, ChangesStayAtTheirDag, LeavesOthers}
 use Rattle.af_ops.specs.Listings.{read_rows}
 use Rattle.af_ops.specs.Replies.{dag_data, instance_data, run_data}
 use Rattle.af_ops.specs.Rows.{InstanceTold}
 use Rattle.af_ops.proofs.EditLemmas.{paused_apart, run_apart}
+use Rattle.af_ops.proofs.DeletingLemmas.{deleted_apart, deletes_stay}
 use Rattle.af_ops.proofs.ClearingLemmas.{cleared_apart, clears_stay}
 use Rattle.af_ops.proofs.MarkingLemmas.{marked_apart}
 
@@ -113,6 +114,7 @@ readings_keep reads state (op.ListRuns dag) now effect get is = listed_kept read
 readings_keep reads state (op.TriggerRun dag_id input) now effect get is = cc
 readings_keep reads state (op.GetRun dag_id run_id) now effect get is = run_kept (sched.dag_of state.dags dag_id) (run_of state.runs dag_id run_id) effect is
 readings_keep reads state (op.MarkRun dag_id run_id input) now effect get is = cc
+readings_keep reads state (op.DeleteRun dag_id run_id) now effect get is = cc
 readings_keep reads state (op.ClearRun dag_id run_id input) now effect get is = cc
 readings_keep reads state (op.ClearInstances dag_id input) now effect get is = cc
 readings_keep reads state (op.ListInstances dag_id run_id) now effect get is = instances_kept (sched.dag_of state.dags dag_id) (run_of state.runs dag_id run_id) effect is
@@ -217,6 +219,26 @@ pub marks : (state : StateRows) (dag_id run_id : List ℕ) (input : Result Mark 
 marks state dag_id run_id (Err why) now effect next is changes = cc
 marks state dag_id run_id (Ok mark) now effect next is changes =
     marks_found (sched.dag_of state.dags dag_id) (run_of state.runs dag_id run_id) state dag_id run_id mark now effect next refl is changes
+
+-- a run that is deleted: it was found, and this is the next state
+pub record Deletes (state : StateRows) (dag_id run_id : List ℕ) (next : StateRows) : Type 0 where
+  pub run : Run
+  pub found : run_of state.runs dag_id run_id ≡ Some run
+  pub next_is : next ≡ without_run_of state dag_id run_id
+
+delete_found : (dag : Option DagRow) (found : Option Run) (state : StateRows) (dag_id run_id : List ℕ) (effect : Effect) (next : StateRows) → run_of state.runs dag_id run_id ≡ found
+    → (ok_or dag NoSuchDag >>= (λ row. ok_or found NoSuchRun >>= (λ run. Ok (deleting state dag_id run_id)))) ≡ Ok effect → effect.next ≡ Some next → Deletes state dag_id run_id next
+delete_found None found state dag_id run_id effect next at is changes = cc
+delete_found (Some row) None state dag_id run_id effect next at is changes = cc
+delete_found (Some row) (Some run) state dag_id run_id effect next at is changes = record {
+  run = run;
+  found = at;
+  next_is = some_same (sym changes ∙ (let same : deleting state dag_id run_id ≡ effect = cc in ap (λ (e : Effect). e.next) (sym same)));
+}
+
+pub deletes : (state : StateRows) (dag_id run_id : List ℕ) (effect : Effect) (next : StateRows) → run_deleted state dag_id run_id ≡ Ok effect → effect.next ≡ Some next → Deletes state dag_id run_id next
+deletes state dag_id run_id effect next is changes =
+    delete_found (sched.dag_of state.dags dag_id) (run_of state.runs dag_id run_id) state dag_id run_id effect next refl is changes
 
 -- instances that are cleared: this was asked for, and not as a dry run, they did not all stand so already, and this is the next state
 pub record Clears (state : StateRows) (dag_id : List ℕ) (next : StateRows) : Type 0 where
@@ -346,6 +368,9 @@ changes_differ reads state (op.GetRun dag_id run_id) now effect next is changes 
 changes_differ reads state (op.MarkRun dag_id run_id input) now effect next is changes same =
     let it = marks state dag_id run_id input now effect next is changes in
     marked_apart state dag_id run_id it.run it.mark now it.found it.differ (sym it.next_is ∙ same)
+changes_differ reads state (op.DeleteRun dag_id run_id) now effect next is changes same =
+    let it = deletes state dag_id run_id effect next is changes in
+    deleted_apart state dag_id run_id it.run it.found (sym it.next_is ∙ same)
 changes_differ reads state (op.ClearRun dag_id run_id input) now effect next is changes same =
     let it = clears_run state dag_id run_id input effect next is changes in
     cleared_apart state it.asked it.selection it.differ (sym it.next_is ∙ same)
@@ -424,6 +449,9 @@ changes_stay reads state (op.TriggerRun dag_id input) now effect next at is chan
 changes_stay reads state (op.GetRun dag_id run_id) now effect next at is changes names = unchanged effect next (readings_keep reads state (op.GetRun dag_id run_id) now effect refl is) changes
 changes_stay reads state (op.MarkRun dag_id run_id input) now effect next at is changes names =
     subst (λ (id : List ℕ). LeavesOthers id state next) (some_same names) (marks_stay state dag_id run_id now next (marks state dag_id run_id input now effect next is changes))
+changes_stay reads state (op.DeleteRun dag_id run_id) now effect next at is changes names =
+    let it = deletes state dag_id run_id effect next is changes in
+    subst (λ (id : List ℕ). LeavesOthers id state next) (some_same names) (subst (λ (s : StateRows). LeavesOthers dag_id state s) (sym it.next_is) (deletes_stay state dag_id run_id))
 changes_stay reads state (op.ClearRun dag_id run_id input) now effect next at is changes names =
     subst (λ (id : List ℕ). LeavesOthers id state next) (some_same names) (cleared_stay state dag_id next (clears_run state dag_id run_id input effect next is changes))
 changes_stay reads state (op.ClearInstances dag_id input) now effect next at is changes names =

@@ -1,6 +1,7 @@
 mod BodyLemmas
 mod ClearingLemmas
 mod DecisionLemmas
+mod DeletingLemmas
 mod EditLemmas
 mod InstantLemmas
 mod LawLemmas

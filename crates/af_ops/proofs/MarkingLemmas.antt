@@ -21,17 +21,27 @@ use Rattle.af_ops.specs.Effects.{with_marked_run}
 use Rattle.af_ops.specs.Prepared.{IsExact}
 
 -- ---- by its number, and by its ids
-lower_number : (n m : ℕ) → nat_cmp n m ≡ Less → (n == m) ≡ false
+pub lower_number : (n m : ℕ) → nat_cmp n m ≡ Less → (n == m) ≡ false
 lower_number n m less = grind (arith, nat_tests)
 
-higher_number : (n m : ℕ) → nat_cmp n m ≡ Less → (m == n) ≡ false
+pub higher_number : (n m : ℕ) → nat_cmp n m ≡ Less → (m == n) ≡ false
 higher_number n m less = grind (arith, nat_tests)
 
-same_number : (n m : ℕ) → n ≡ m → (n == m) ≡ true
+pub same_number : (n m : ℕ) → n ≡ m → (n == m) ≡ true
 same_number n m same = grind (arith, nat_tests)
 
-some_same : {X : Type 0} {x y : X} → Some x ≡ Some y → x ≡ y
+pub some_same : {X : Type 0} {x y : X} → Some x ≡ Some y → x ≡ y
 some_same is = cc
+
+module _ (dag_id run_id : List ℕ) where
+  above_by : (is : Bool) (number : ℕ) (first run : Run) (found : Option Run) → nat_cmp number first.number ≡ Less → (found ≡ Some run → nat_cmp number run.number ≡ Less) → cond is (Some first) found ≡ Some run → nat_cmp number run.number ≡ Less
+  above_by true number first run found here later is = subst (λ (r : Run). nat_cmp number r.number ≡ Less) (some_same is) here
+  above_by false number first run found here later is = later is
+
+  pub found_above : (number : ℕ) (runs : List Run) (run : Run) → AllByRecursion (λ n. nat_cmp number n ≡ Less) (map (λ (r : Run). r.number) runs) → find (is_run dag_id run_id) runs ≡ Some run → nat_cmp number run.number ≡ Less
+  found_above number [] run above found = cc
+  found_above number (first ∷ runs) run above found =
+      above_by (is_run dag_id run_id first) number first run (find (is_run dag_id run_id) runs) above.0 (λ later. found_above number runs run above.1 later) found
 
 module _ (f : Run → Run) (dag_id run_id : List ℕ) where
   by_number : ℕ → List Run → List Run
@@ -54,15 +64,6 @@ module _ (f : Run → Run) (dag_id run_id : List ℕ) where
       let rest = none_named runs others.1 in
       rw others.0 (ap (λ rows. run ∷ rows) rest)
 
-  above_by : (is : Bool) (number : ℕ) (first run : Run) (found : Option Run) → nat_cmp number first.number ≡ Less → (found ≡ Some run → nat_cmp number run.number ≡ Less) → cond is (Some first) found ≡ Some run → nat_cmp number run.number ≡ Less
-  above_by true number first run found here later is = subst (λ (r : Run). nat_cmp number r.number ≡ Less) (some_same is) here
-  above_by false number first run found here later is = later is
-
-  found_above : (number : ℕ) (runs : List Run) (run : Run) → AllByRecursion (λ n. nat_cmp number n ≡ Less) (map (λ (r : Run). r.number) runs) → find (is_run dag_id run_id) runs ≡ Some run → nat_cmp number run.number ≡ Less
-  found_above number [] run above found = cc
-  found_above number (first ∷ runs) run above found =
-      above_by (is_run dag_id run_id first) number first run (find (is_run dag_id run_id) runs) above.0 (λ later. found_above number runs run above.1 later) found
-
   same_by : (is : Bool) (first run : Run) (runs : List Run) → is_run dag_id run_id first ≡ is → AllByRecursion (λ n. nat_cmp first.number n ≡ Less) (map (λ (r : Run). r.number) runs) → AllByRecursion (λ r. same_ids first r ≡ false) runs
       → (find (is_run dag_id run_id) runs ≡ Some run → by_number run.number runs ≡ by_ids runs) → cond is (Some first) (find (is_run dag_id run_id) runs) ≡ Some run → by_number run.number (first ∷ runs) ≡ by_ids (first ∷ runs)
   unfolding by_number by_ids
@@ -78,7 +79,7 @@ module _ (f : Run → Run) (dag_id run_id : List ℕ) where
       let right = none_named runs others in
       rw (same_number first.number run.number (sym number), is) (ap (λ rows. f first ∷ rows) (left ∙ sym right))
   same_by false first run runs is above distinct later found =
-      rw (lower_number first.number run.number (found_above first.number runs run above found), is) (ap (λ rows. first ∷ rows) (later found))
+      rw (lower_number first.number run.number (found_above dag_id run_id first.number runs run above found), is) (ap (λ rows. first ∷ rows) (later found))
 
   same_run : (runs : List Run) (run : Run) → IsStrictlySortedBy nat_cmp (map (λ (r : Run). r.number) runs) → IsDistinct same_ids runs → find (is_run dag_id run_id) runs ≡ Some run → by_number run.number runs ≡ by_ids runs
   unfolding IsStrictlySortedBy IsDistinct

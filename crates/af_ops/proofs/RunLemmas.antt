@@ -14,7 +14,7 @@ use Rattle.af_ops.specs.declared.op.Op.TheVariants as op
 use Rattle.af_ops.specs.Edits.{with_run}
 use Rattle.af_ops.specs.Effects.{id_or, new_run}
 use Rattle.af_ops.specs.Laws.{RunNumbersRise, RunsListedAreThoseRead, TriggersAddARun}
-use Rattle.af_ops.proofs.LawLemmas.{clears_instances, clears_run, marks, pauses, readings_keep, some_same, triggers, unchanged}
+use Rattle.af_ops.proofs.LawLemmas.{clears_instances, clears_run, deletes, marks, pauses, readings_keep, some_same, triggers, unchanged}
 
 later : {X : Type 0} (b : Bool) (y : X) (ys : List X) (x : X) → Contains ys x → Contains (cond b (y ∷ ys) ys) x
 later true y ys x at = (suc at.0, omega (arith, at.1), at.2)
@@ -84,6 +84,9 @@ numbers_rise reads state (op.TriggerRun dag_id input) now effect next is changes
 numbers_rise reads state (op.GetRun dag_id run_id) now effect next is changes = unchanged effect next (readings_keep reads state (op.GetRun dag_id run_id) now effect refl is) changes
 numbers_rise reads state (op.MarkRun dag_id run_id input) now effect next is changes =
     let it = marks state dag_id run_id input now effect next is changes in
+    subst (λ (s : StateRows). state.next_run ≤ s.next_run) (sym it.next_is) (omega arith)
+numbers_rise reads state (op.DeleteRun dag_id run_id) now effect next is changes =
+    let it = deletes state dag_id run_id effect next is changes in
     subst (λ (s : StateRows). state.next_run ≤ s.next_run) (sym it.next_is) (omega arith)
 numbers_rise reads state (op.ClearRun dag_id run_id input) now effect next is changes =
     let it = clears_run state dag_id run_id input effect next is changes in

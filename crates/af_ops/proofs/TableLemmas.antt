@@ -81,10 +81,11 @@ rank endpoint.ListRuns = 5
 rank endpoint.TriggerRun = 6
 rank endpoint.GetRun = 7
 rank endpoint.MarkRun = 8
-rank endpoint.ClearRun = 9
-rank endpoint.ListInstances = 10
-rank endpoint.GetInstance = 11
-rank endpoint.ClearInstances = 12
+rank endpoint.DeleteRun = 9
+rank endpoint.ClearRun = 10
+rank endpoint.ListInstances = 11
+rank endpoint.GetInstance = 12
+rank endpoint.ClearInstances = 13
 
 stands : (it d : Endpoint) → get_or endpoints (rank it) d ≡ it
 unfolding rank
@@ -97,6 +98,7 @@ stands endpoint.ListRuns d = refl
 stands endpoint.TriggerRun d = refl
 stands endpoint.GetRun d = refl
 stands endpoint.MarkRun d = refl
+stands endpoint.DeleteRun d = refl
 stands endpoint.ClearRun d = refl
 stands endpoint.ListInstances d = refl
 stands endpoint.GetInstance d = refl
@@ -113,6 +115,7 @@ inside endpoint.ListRuns = omega arith
 inside endpoint.TriggerRun = omega arith
 inside endpoint.GetRun = omega arith
 inside endpoint.MarkRun = omega arith
+inside endpoint.DeleteRun = omega arith
 inside endpoint.ClearRun = omega arith
 inside endpoint.ListInstances = omega arith
 inside endpoint.GetInstance = omega arith
@@ -146,6 +149,7 @@ each_found endpoint.ListRuns = refl
 each_found endpoint.TriggerRun = refl
 each_found endpoint.GetRun = refl
 each_found endpoint.MarkRun = refl
+each_found endpoint.DeleteRun = refl
 each_found endpoint.ClearRun = refl
 each_found endpoint.ListInstances = refl
 each_found endpoint.GetInstance = refl
@@ -204,6 +208,8 @@ of_their_row endpoint.GetRun parts body asked is =
     mapped_both (λ id run_id. op.GetRun id run_id) endpoint.GetRun (dag_id_in parts) (run_id_in parts) asked (λ id run_id. refl) (λ id run_id. refl) is
 of_their_row endpoint.MarkRun parts body asked is =
     mapped_both (λ id run_id. op.MarkRun id run_id (mark_in body)) endpoint.MarkRun (dag_id_in parts) (run_id_in parts) asked (λ id run_id. refl) (λ id run_id. refl) is
+of_their_row endpoint.DeleteRun parts body asked is =
+    mapped_both (λ id run_id. op.DeleteRun id run_id) endpoint.DeleteRun (dag_id_in parts) (run_id_in parts) asked (λ id run_id. refl) (λ id run_id. refl) is
 of_their_row endpoint.ClearRun parts body asked is =
     mapped_both (λ id run_id. op.ClearRun id run_id (clear_run_in body)) endpoint.ClearRun (dag_id_in parts) (run_id_in parts) asked (λ id run_id. refl) (λ id run_id. refl) is
 of_their_row endpoint.ListInstances parts body asked is =

@@ -13,12 +13,12 @@ use Rattle.af_ops.specs.Prepared.{Preparation}
 use Rattle.af_ops.specs.Verdicts.{Verdict, Open, Stranger, Lacks, Refuses, Tells, Changes}
 
 -- the verdict of a reply and a next state, if there is one
-abbrev pub verdict_by : List ℕ → Option StateRows → Verdict
+abbrev pub verdict_by : Option (List ℕ) → Option StateRows → Verdict
 verdict_by reply None = Tells reply
 verdict_by reply (Some next) = Changes reply next
 
 abbrev pub prepared_verdict : StateRows → Preparation → Verdict
-prepared_verdict state prepared = verdict_by prepared.body (next_by prepared.edit state)
+prepared_verdict state prepared = verdict_by prepared.reply (next_by prepared.edit state)
 
 abbrev pub fault_verdict : CallFault → Verdict
 fault_verdict why.Unauthenticated = Stranger

@@ -2,7 +2,7 @@
 use Rattle.std.specs.Prelude.{ℕ, ◌+◌, [], ◌∷◌, ◌++◌, Bool, true, false, unwrap_or, Option, Some, None}
 use Rattle.af_runs.specs.Clears.{with_cleared}
 use Rattle.af_runs.specs.Marks.{with_marked}
-use Rattle.af_runs.specs.Runs.{queued_run}
+use Rattle.af_runs.specs.Runs.{queued_run, without_run}
 use Rattle.af_runs.specs.declared.mark.Mark.{Mark}
 use Rattle.af_runs.specs.declared.new_run.NewRun.{NewRun}
 use Rattle.af_runs.specs.declared.run_filter.RunFilter.{RunFilter}
@@ -23,6 +23,10 @@ with_mark state number mark at = record state { runs = with_marked state.runs nu
 abbrev pub with_clear : StateRows → RunFilter → Selection → StateRows
 with_clear state filter selection = record state { runs = with_cleared state.runs filter selection }
 
+-- the state without the run of this number
+abbrev pub without : StateRows → ℕ → StateRows
+without state number = record state { runs = without_run state.runs number }
+
 -- the state that an edit makes, or none where it is no change
 abbrev pub next_by : Edit → StateRows → Option StateRows
 next_by edit.Nothing state = None
@@ -30,6 +34,7 @@ next_by (edit.DagPaused dag_id is_paused) state = Some (record state { dags = wi
 next_by (edit.RunAdded new) state = Some (with_run state new)
 next_by (edit.RunMarked number mark at) state = Some (with_mark state number mark at)
 next_by (edit.InstancesCleared filter selection) state = Some (with_clear state filter selection)
+next_by (edit.RunRemoved number) state = Some (without state number)
 
 -- a state after an edit
 abbrev pub edited : Edit → StateRows → StateRows
@@ -42,3 +47,4 @@ is_edit (edit.DagPaused dag_id is_paused) = true
 is_edit (edit.RunAdded new) = true
 is_edit (edit.RunMarked number mark at) = true
 is_edit (edit.InstancesCleared filter selection) = true
+is_edit (edit.RunRemoved number) = true

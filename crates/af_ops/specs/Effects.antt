@@ -1,6 +1,6 @@
 -- What a permitted operation does: its reply and the state after it, or the first fault in the order of `OpFault`. Each next
 -- state is a map or a filter over the lists of the state, or one row more at their end.
-use Rattle.std.specs.Prelude.{ℕ, [], ◌++◌, ◌||◌, List, Bool, false, is_some, not, map, length, zip, Option, Some, None, option_map, option_and_then, ok_or, unwrap_or, Result, Ok, Err, codes, if◌then◌else◌, ⊤}
+use Rattle.std.specs.Prelude.{ℕ, [], ◌++◌, ◌||◌, List, Bool, false, is_some, not, filter, map, length, zip, Option, Some, None, option_map, option_and_then, ok_or, unwrap_or, Result, Ok, Err, codes, if◌then◌else◌, ⊤}
 use Rattle.serde_json.specs.Data.{Data}
 use Rattle.serde_json.specs.Written.{compact_text}
 use Rattle.af_names.specs.Isoformat.{isoformat}
@@ -39,14 +39,15 @@ use Rattle.af_ops.specs.declared.op.Op.{Op}
 use Rattle.af_ops.specs.declared.op.Op.TheVariants as op
 use Rattle.af_ops.specs.declared.trigger.Trigger.{Trigger}
 
--- the text of the reply, and the state after the operation, or none where that is the state before it
+-- the text of the reply, or none where there is nothing to tell; and the state after the operation, or none where that is the
+-- state before it
 pub record Effect : Type 0 where
-  pub reply : List ℕ
+  pub reply : Option (List ℕ)
   pub next : Option StateRows
 
 -- the state stays
 abbrev pub kept : Data → Effect
-kept reply = record { reply = compact_text reply; next = None }
+kept reply = record { reply = Some (compact_text reply); next = None }
 
 -- ---- faults that operations share
 
@@ -89,7 +90,7 @@ differs row is_paused = if is_paused then not row.is_paused else row.is_paused
 -- a DAG paused, or not; where it stands so already, nothing changes
 abbrev pub pausing : StateRows → List ℕ → DagRow → Bool → Effect
 pausing state dag_id row is_paused = record {
-  reply = compact_text (dag_data (record row { is_paused = is_paused }));
+  reply = Some (compact_text (dag_data (record row { is_paused = is_paused })));
   next = if differs row is_paused then Some (record state { dags = with_paused state.dags dag_id is_paused }) else None;
 }
 
@@ -213,7 +214,7 @@ free_id state dag_id run_id date = free_by run_id date (add_fault state.runs sta
 -- the state with the run, which is told as it then stands
 abbrev pub added_run : StateRows → NewRun → Effect
 added_run state new = record {
-  reply = compact_text (run_data (queued_run state.next_run new));
+  reply = Some (compact_text (run_data (queued_run state.next_run new)));
   next = Some (with_run state new);
 }
 
@@ -233,7 +234,7 @@ with_marked_run state dag_id run_id mark now =
 -- a run marked so, and told as it then stands; where it and all its instances stand so already, nothing changes
 abbrev pub marking : StateRows → List ℕ → List ℕ → Run → Mark → ℕ → Effect
 marking state dag_id run_id run mark now = record {
-  reply = compact_text (run_data (marked_run mark now run));
+  reply = Some (compact_text (run_data (marked_run mark now run)));
   next = if is_marked mark run then None else Some (with_marked_run state dag_id run_id mark now);
 }
 
@@ -244,6 +245,20 @@ run_marked state dag_id run_id input now = do
   row ← dag_or state dag_id
   run ← run_or state dag_id run_id
   Ok (marking state dag_id run_id run mark now)
+
+-- the state without the run of these ids
+abbrev pub without_run_of : StateRows → List ℕ → List ℕ → StateRows
+without_run_of state dag_id run_id = record state { runs = filter (λ run. not (is_run dag_id run_id run)) state.runs }
+
+-- a run deleted, with its instances
+abbrev pub deleting : StateRows → List ℕ → List ℕ → Effect
+deleting state dag_id run_id = record { reply = None; next = Some (without_run_of state dag_id run_id) }
+
+abbrev pub run_deleted : StateRows → List ℕ → List ℕ → Result Effect OpFault
+run_deleted state dag_id run_id = do
+  row ← dag_or state dag_id
+  run ← run_or state dag_id run_id
+  Ok (deleting state dag_id run_id)
 
 -- the instances that a clear touches, each with its run and its task
 abbrev pub cleared_told : List TaskSpec → List ChosenRow → List ClearedTold
@@ -257,7 +272,7 @@ cleared_list tasks chosen = list_of (codes "task_instances") (map cleared_data (
 -- so already, nothing changes
 abbrev pub clearing : StateRows → List TaskSpec → RunFilter → Selection → Bool → Effect
 clearing state tasks filter selection dry_run = record {
-  reply = compact_text (cleared_list tasks (chosen_in state.runs filter selection));
+  reply = Some (compact_text (cleared_list tasks (chosen_in state.runs filter selection)));
   next = if dry_run || are_left_by filter selection state.runs then None else Some (with_clear state filter selection);
 }
 
@@ -324,6 +339,7 @@ effect_of reads state (op.ListRuns dag) now = listed_runs reads state dag
 effect_of reads state (op.TriggerRun dag_id input) now = triggered_run state dag_id input now
 effect_of reads state (op.GetRun dag_id run_id) now = got_run state dag_id run_id
 effect_of reads state (op.MarkRun dag_id run_id input) now = run_marked state dag_id run_id input now
+effect_of reads state (op.DeleteRun dag_id run_id) now = run_deleted state dag_id run_id
 effect_of reads state (op.ClearRun dag_id run_id input) now = run_cleared state dag_id run_id input
 effect_of reads state (op.ListInstances dag_id run_id) now = listed_instances state dag_id run_id
 effect_of reads state (op.GetInstance dag_id run_id task_id) now = got_instance state dag_id run_id task_id

@@ -1,5 +1,5 @@
 -- An operation that is worked out and not yet done.
-use Rattle.std.specs.Prelude.{◌≡◌, ◌<◌, ◌↔◌, ◌⊎◌, ℕ, List, false, None, Result, Ok, Err, IsOk, ⊤}
+use Rattle.std.specs.Prelude.{◌≡◌, ◌<◌, ◌↔◌, ◌⊎◌, ℕ, List, false, Option, None, Result, Ok, Err, IsOk, ⊤}
 use Rattle.af_runs.specs.Runs.{add_fault}
 use Rattle.af_runs.specs.declared.new_run.NewRun.{NewRun}
 use Rattle.af_sched.specs.Additions.{IsWholeNew}
@@ -9,14 +9,14 @@ use Rattle.af_ops.specs.declared.edit.Edit.TheVariants as edit
 use Rattle.af_ops.specs.Edits.{edited, is_edit, next_by}
 use Rattle.af_ops.specs.Effects.{Effect}
 
--- the body of its reply, and its edit
+-- the text of its reply, if it has one, and its edit
 pub record Preparation : Type 0 where
-  pub body : List ℕ
+  pub reply : Option (List ℕ)
   pub edit : Edit
 
 -- its effect on a state
 abbrev pub done_on : StateRows → Preparation → Effect
-done_on state prepared = record { reply = prepared.body; next = next_by prepared.edit state }
+done_on state prepared = record { reply = prepared.reply; next = next_by prepared.edit state }
 
 -- a run may be added: there is room for it, it has an instance for each task of its DAG, and neither its id nor its date is taken
 pub record CanAddRun (state : StateWithRoom) (new : NewRun) : Type 0 where
@@ -31,6 +31,7 @@ CanDo state (edit.DagPaused dag_id is_paused) = ⊤
 CanDo state (edit.RunAdded new) = CanAddRun state new
 CanDo state (edit.RunMarked number mark at) = ⊤
 CanDo state (edit.InstancesCleared filter selection) = ⊤
+CanDo state (edit.RunRemoved number) = ⊤
 
 -- the edit changes the state exactly where there is one
 abbrev pub IsExact : StateRows → Edit → Type 0

@@ -20,9 +20,18 @@ use Rattle.af_ops.specs.Verdicts.{Verdict, Open, Stranger, Lacks, Refuses, Tells
 abbrev pub told_under : Under → Status → List ℕ → Shown
 told_under under status body = record { status = status; version = Some under.version; seq = Some under.seq; body = Some body }
 
+-- the status of a reply (RFC 9110, sections 15.3.1 and 15.3.5)
+abbrev pub status_of : Option (List ℕ) → Status
+status_of None = status.NoContent
+status_of (Some text) = status.Ok
+
+-- the reply of what is done
+abbrev pub reply_told : Under → Option (List ℕ) → Shown
+reply_told under reply = record { status = status_of reply; version = Some under.version; seq = Some under.seq; body = reply }
+
 -- what is decided under no policy
-abbrev pub told_openly : List ℕ → Shown
-told_openly body = record { status = status.Ok; version = None; seq = None; body = Some body }
+abbrev pub told_openly : Option (List ℕ) → Shown
+told_openly reply = record { status = status_of reply; version = None; seq = None; body = reply }
 
 abbrev pub problem_told : Under → Problem → Shown
 problem_told under problem = told_under under problem.status (compact_text (object_of (problem_fields problem)))
@@ -37,8 +46,8 @@ answer_of asked under (Open reply) = Some (told_openly reply)
 answer_of asked under Stranger = fault_told asked under why.Unauthenticated
 answer_of asked under (Lacks need) = fault_told asked under (why.Denied need)
 answer_of asked under (Refuses fault) = fault_told asked under (why.Op fault)
-answer_of asked under (Tells reply) = Some (told_under under status.Ok reply)
-answer_of asked under (Changes reply next) = Some (told_under (with_entry under) status.Ok reply)
+answer_of asked under (Tells reply) = Some (reply_told under reply)
+answer_of asked under (Changes reply next) = Some (reply_told (with_entry under) reply)
 
 -- how the server stands after a verdict
 abbrev pub left_by : Verdict → StandingRows → StandingRows

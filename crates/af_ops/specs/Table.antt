@@ -5,6 +5,7 @@ use Rattle.std.specs.List.{find}
 use Rattle.std.specs.Ordering.{on}
 use Rattle.af_role.specs.declared.action.Action.{Action}
 use Rattle.af_role.specs.declared.action.Action.TheVariants.{Create, Read, Edit}
+use Rattle.af_role.specs.declared.action.Action.TheVariants as action
 use Rattle.af_role.specs.declared.resource.ResourceKind.{ResourceKind}
 use Rattle.af_role.specs.declared.resource.ResourceKind.TheVariants.{Dags, DagRuns, TaskInstances}
 use Rattle.af_role.specs.declared.need.Need.{Need}
@@ -109,13 +110,14 @@ route_of endpoint.ListRuns = needing Get place.Runs (at_dag Read ∷ on_all Read
 route_of endpoint.TriggerRun = needing Post place.Runs (at_dag Edit ∷ on_all Create DagRuns ∷ [])
 route_of endpoint.GetRun = needing Get place.Run (at_dag Read ∷ on_all Read DagRuns ∷ [])
 route_of endpoint.MarkRun = needing Patch place.Run (at_dag Edit ∷ on_all Edit DagRuns ∷ [])
+route_of endpoint.DeleteRun = needing Delete place.Run (at_dag Edit ∷ on_all action.Delete DagRuns ∷ [])
 route_of endpoint.ClearRun = needing Post place.RunClear (at_dag Edit ∷ on_all Edit DagRuns ∷ [])
 route_of endpoint.ListInstances = needing Get place.Instances (at_dag Read ∷ on_all Read DagRuns ∷ on_all Read TaskInstances ∷ [])
 route_of endpoint.GetInstance = needing Get place.Instance (at_dag Read ∷ on_all Read DagRuns ∷ on_all Read TaskInstances ∷ [])
 route_of endpoint.ClearInstances = needing Post place.Clear (at_dag Edit ∷ on_all Read DagRuns ∷ on_all Edit TaskInstances ∷ [])
 
 abbrev pub endpoints : List Endpoint
-endpoints = endpoint.Version ∷ endpoint.ListDags ∷ endpoint.GetDag ∷ endpoint.PauseDag ∷ endpoint.ListTasks ∷ endpoint.ListRuns ∷ endpoint.TriggerRun ∷ endpoint.GetRun ∷ endpoint.MarkRun ∷ endpoint.ClearRun ∷ endpoint.ListInstances ∷ endpoint.GetInstance ∷ endpoint.ClearInstances ∷ []
+endpoints = endpoint.Version ∷ endpoint.ListDags ∷ endpoint.GetDag ∷ endpoint.PauseDag ∷ endpoint.ListTasks ∷ endpoint.ListRuns ∷ endpoint.TriggerRun ∷ endpoint.GetRun ∷ endpoint.MarkRun ∷ endpoint.DeleteRun ∷ endpoint.ClearRun ∷ endpoint.ListInstances ∷ endpoint.GetInstance ∷ endpoint.ClearInstances ∷ []
 
 -- ---- what is read off it
 

@@ -20,7 +20,7 @@ use Rattle.af_ops.specs.Table.{is_open}
 
 pub data Verdict : Type 0 where
   -- told to anybody, under no policy
-  Open : (reply : List ℕ) → Verdict
+  Open : (reply : Option (List ℕ)) → Verdict
   -- no user has the token
   Stranger : Verdict
   -- the user lacks this requirement, the first one lacked
@@ -28,16 +28,16 @@ pub data Verdict : Type 0 where
   -- the operation is permitted, and refused
   Refuses : (why : OpFault) → Verdict
   -- it leaves the state as it is
-  Tells : (reply : List ℕ) → Verdict
+  Tells : (reply : Option (List ℕ)) → Verdict
   -- it changes the state, and adds an entry
-  Changes : (reply : List ℕ) (next : StateRows) → Verdict
+  Changes : (reply : Option (List ℕ)) (next : StateRows) → Verdict
 
 -- the ids of the state's DAGs
 abbrev pub dag_ids : StateRows → List (List ℕ)
 dag_ids state = map (λ row. row.dag.dag_id) state.dags
 
 -- a change adds an entry, and is refused where there is no room for one
-abbrev pub recorded : Under → List ℕ → Option StateRows → Verdict
+abbrev pub recorded : Under → Option (List ℕ) → Option StateRows → Verdict
 recorded under reply None = Tells reply
 recorded under reply (Some next) = if nat_lt under.seq history_limit then Changes reply next else Refuses HistoryFull
 

@@ -26,7 +26,7 @@ use Rattle.af_ops.specs.Effects.{new_run}
 use Rattle.af_ops.specs.Rows.{ClearedTold, InstanceTold, TaskTold}
 use Rattle.af_ops.specs.Served.{answer_of}
 use Rattle.af_ops.specs.Standings.{StandingRows}
-use Rattle.af_ops.specs.Verdicts.{Verdict, judged}
+use Rattle.af_ops.specs.Verdicts.{Verdict, Changes, Tells, judged}
 
 abbrev pub users : List UserRow
 users =
@@ -87,6 +87,13 @@ opening = at_entries 0 false
 -- the verdict on what this user asks
 abbrev pub asks : StandingRows → List ℕ → Op → Verdict
 asks standing who asked = judged policy standing asked 0 (Some who)
+
+-- what is told as a text
+abbrev pub tells : List ℕ → Verdict
+tells text = Tells (Some text)
+
+abbrev pub changes : List ℕ → StateRows → Verdict
+changes text next = Changes (Some text) next
 
 -- what this user is told
 abbrev pub is_told : StandingRows → List ℕ → Op → Option Shown
@@ -234,3 +241,9 @@ cleared_later = record { under = record { version = 0; seq = 4 }; state = with_c
 
 abbrev pub full_at_work : StandingRows
 full_at_work = record at_work { under = record { version = 0; seq = 1_000_000 } }
+
+-- ---- runs that are deleted
+
+-- the state whose run of the DAG b is deleted: its number is not used again
+abbrev pub without_second : StateRows
+without_second = record with_runs { runs = queued_run 1 (new_run (dag (codes "a") true) (codes "a") (codes "r1") 1) ∷ [] }

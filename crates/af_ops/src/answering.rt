@@ -6,7 +6,7 @@ ghost use Rattle.af_ops.specs.Decisions.{fault_verdict, prepared_verdict};
 ghost use Rattle.af_ops.specs.Edits.{is_edit};
 ghost use Rattle.af_ops.specs.Effects.{effect_of};
 ghost use Rattle.af_ops.specs.Prepared.{CanDo};
-ghost use Rattle.af_ops.specs.Served.{IsServed, told_openly};
+ghost use Rattle.af_ops.specs.Served.{IsServed, reply_told, status_of, told_openly};
 ghost use Rattle.af_ops.specs.Standings.{history_limit};
 ghost use Rattle.af_ops.specs.Verdicts.{judged, opened, verdict};
 ghost use Rattle.af_policy.specs.Identity.{bearer_of};
@@ -24,7 +24,7 @@ use crate::shown_answer::Shown;
 use crate::standing::Standing;
 use crate::status::Status;
 use crate::table::route_of;
-use crate::telling::{shown_fault, shown_under};
+use crate::telling::shown_fault;
 use af_names::Instant;
 use af_policy::Policy;
 use af_sched::State;
@@ -66,7 +66,7 @@ fn openly(alloc: Global, state: &mut State, under: Under, op: &Op, now: Instant)
     ensures kept { result ≢ ReplyLost }
 {
     match prepare(alloc, state, op, &Nobody, now) {
-        Ok(prepared) => Served::Shown(shown_openly(prepared.into_body())),
+        Ok(prepared) => Served::Shown(shown_openly(prepared.into_reply())),
         Err(fault) => refused(alloc, op, CallFault::Op(fault), under),
     }
 }
@@ -112,18 +112,40 @@ fn done(state: &mut State, under: &mut Under, prepared: Prepared) -> Served
     if prepared.changes() {
         under.seq += 1;
     }
-    let body = commit(state, prepared);
-    Served::Shown(shown_under(*under, Status::Ok, body))
+    let reply = commit(state, prepared);
+    Served::Shown(shown_reply(*under, reply))
 }
 
 /// What is told under no policy.
-fn shown_openly(body: Body) -> Shown
-    ensures { result ≡ told_openly body }
+fn shown_openly(reply: Option<Body>) -> Shown
+    ensures { result ≡ told_openly reply }
 {
     Shown {
-        status: Status::Ok,
+        status: status_of(&reply),
         version: None,
         seq: None,
-        body: Some(body),
+        body: reply,
+    }
+}
+
+/// What is told of what is done, under a policy version.
+fn shown_reply(under: Under, reply: Option<Body>) -> Shown
+    ensures { result ≡ reply_told under reply }
+{
+    Shown {
+        status: status_of(&reply),
+        version: Some(under.version),
+        seq: Some(under.seq),
+        body: reply,
+    }
+}
+
+/// The status of a reply.
+fn status_of(reply: &Option<Body>) -> Status
+    ensures { result ≡ status_of reply.now }
+{
+    match reply {
+        Some(_) => Status::Ok,
+        None => Status::NoContent,
     }
 }

@@ -144,6 +144,7 @@ fn would_change(state: &State, op: &Op) -> bool
         Op::PauseDag(dag_id, Ok(is_paused)) => would_pause(state, dag_id, *is_paused),
         Op::TriggerRun(_, Ok(_)) => true,
         Op::MarkRun(dag_id, run_id, Ok(mark)) => would_mark(state, dag_id, run_id, *mark),
+        Op::DeleteRun(_, _) => true,
         Op::PauseDag(_, Err(_)) | Op::TriggerRun(_, Err(_)) | Op::MarkRun(_, _, Err(_)) => false,
         Op::Version
         | Op::ListDags

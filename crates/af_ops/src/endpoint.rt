@@ -19,6 +19,8 @@ pub enum Endpoint {
     GetRun,
     /// `PATCH /dags/{dag_id}/dagRuns/{dag_run_id}`
     MarkRun,
+    /// `DELETE /dags/{dag_id}/dagRuns/{dag_run_id}`
+    DeleteRun,
     /// `POST /dags/{dag_id}/dagRuns/{dag_run_id}/clear`
     ClearRun,
     /// `GET /dags/{dag_id}/dagRuns/{dag_run_id}/taskInstances`

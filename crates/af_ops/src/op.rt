@@ -30,6 +30,8 @@ pub enum Op {
     GetRun(DagId, RunId),
     /// A run of a DAG is marked success, failed or queued.
     MarkRun(DagId, RunId, Result<Mark, BodyFault>),
+    /// A run of a DAG is deleted.
+    DeleteRun(DagId, RunId),
     /// The instances of a run are cleared, or told as those that would be.
     ClearRun(DagId, RunId, Result<bool, BodyFault>),
     /// The instances of a run.
@@ -55,6 +57,7 @@ impl Op {
             Op::TriggerRun(_, _) => Endpoint::TriggerRun,
             Op::GetRun(_, _) => Endpoint::GetRun,
             Op::MarkRun(_, _, _) => Endpoint::MarkRun,
+            Op::DeleteRun(_, _) => Endpoint::DeleteRun,
             Op::ClearRun(_, _, _) => Endpoint::ClearRun,
             Op::ListInstances(_, _) => Endpoint::ListInstances,
             Op::GetInstance(_, _, _) => Endpoint::GetInstance,
@@ -73,7 +76,7 @@ impl Op {
             Op::ListRuns(dag) => dag.as_ref(),
             Op::TriggerRun(dag_id, _) | Op::GetRun(dag_id, _) => Some(dag_id),
             Op::MarkRun(dag_id, _, _) | Op::ClearRun(dag_id, _, _) => Some(dag_id),
-            Op::ClearInstances(dag_id, _) => Some(dag_id),
+            Op::DeleteRun(dag_id, _) | Op::ClearInstances(dag_id, _) => Some(dag_id),
             Op::ListInstances(dag_id, _) | Op::GetInstance(dag_id, _, _) => Some(dag_id),
         }
     }
@@ -84,7 +87,7 @@ impl Op {
     {
         match self {
             Op::GetRun(_, run_id) | Op::MarkRun(_, run_id, _) => Some(run_id),
-            Op::ClearRun(_, run_id, _) => Some(run_id),
+            Op::DeleteRun(_, run_id) | Op::ClearRun(_, run_id, _) => Some(run_id),
             Op::ListInstances(_, run_id) | Op::GetInstance(_, run_id, _) => Some(run_id),
             Op::ClearInstances(_, input) => cleared_run(input),
             Op::Version
@@ -112,6 +115,7 @@ impl Op {
             | Op::TriggerRun(_, _)
             | Op::GetRun(_, _)
             | Op::MarkRun(_, _, _)
+            | Op::DeleteRun(_, _)
             | Op::ClearRun(_, _, _)
             | Op::ListInstances(_, _)
             | Op::ClearInstances(_, _) => None,
@@ -132,6 +136,7 @@ impl Op {
             | Op::ListRuns(_)
             | Op::GetRun(_, _)
             | Op::MarkRun(_, _, _)
+            | Op::DeleteRun(_, _)
             | Op::ClearRun(_, _, _)
             | Op::ListInstances(_, _)
             | Op::GetInstance(_, _, _)
@@ -154,6 +159,7 @@ impl Op {
             | Op::TriggerRun(_, _)
             | Op::GetRun(_, _)
             | Op::MarkRun(_, _, _)
+            | Op::DeleteRun(_, _)
             | Op::ClearRun(_, _, _)
             | Op::ListInstances(_, _)
             | Op::GetInstance(_, _, _) => &[],

@@ -1,6 +1,7 @@
 // Each operation: what it answers and what it edits. All memory is taken here.
 pub(crate) mod clearing;
 pub(crate) mod dags;
+pub(crate) mod deleting;
 pub(crate) mod instances;
 pub(crate) mod marking;
 pub(crate) mod runs;

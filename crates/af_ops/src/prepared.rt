@@ -1,4 +1,4 @@
-ghost use Rattle.std.specs.Prelude.{◌≡◌};
+ghost use Rattle.std.specs.Prelude.{◌≡◌, Some, None};
 ghost use Rattle.af_ops.specs.Edits.{edited, is_edit, with_run};
 ghost use Rattle.af_ops.specs.Prepared.{CanAddRun, CanDo};
 
@@ -8,10 +8,10 @@ use af_runs::NewRun;
 use af_sched::State;
 use std::marker::Model;
 
-/// An operation that can be committed without memory. Contracts see the body of its reply, and its edit.
+/// An operation that can be committed without memory. Contracts see the body of its reply, if it has one, and its edit.
 #[derive(Drop)]
 pub struct Prepared {
-    body: Body,
+    reply: Option<Body>,
     edit: Edit,
 }
 
@@ -20,26 +20,33 @@ impl Model for Prepared {
 
     ghost Value = { Preparation };
 
-    ghost view = { λ p. record { body = p.body; edit = p.edit } };
+    ghost view = { λ p. record { reply = p.reply; edit = p.edit } };
 }
 
 impl Prepared {
     /// What gives a reply of these bytes and does this edit.
     pub(crate) fn of(body: Vec<u8>, edit: Edit) -> Prepared
-        ensures { result ≡ record { body = body.items; edit = edit } }
+        ensures { result ≡ record { reply = Some body.items; edit = edit } }
     {
         Prepared {
-            body: Body::of(body),
+            reply: Some(Body::of(body)),
             edit,
         }
     }
 
-    /// The body of its reply.
-    pub(crate) fn into_body(self) -> Body
-        ensures { result ≡ self.body }
+    /// What does this edit, and of which nothing is told.
+    pub(crate) fn without_reply(edit: Edit) -> Prepared
+        ensures { result ≡ record { reply = None; edit = edit } }
     {
-        let Prepared { body, edit: _ } = self;
-        body
+        Prepared { reply: None, edit }
+    }
+
+    /// The body of its reply, if it has one.
+    pub(crate) fn into_reply(self) -> Option<Body>
+        ensures { result ≡ self.reply }
+    {
+        let Prepared { reply, edit: _ } = self;
+        reply
     }
 
     /// Whether it will change the state.
@@ -51,20 +58,21 @@ impl Prepared {
             Edit::DagPaused(_, _)
             | Edit::RunAdded(_)
             | Edit::RunMarked(_, _, _)
-            | Edit::InstancesCleared(_, _) => true,
+            | Edit::InstancesCleared(_, _)
+            | Edit::RunRemoved(_) => true,
         }
     }
 }
 
-/// Does a prepared operation, on the state that it was prepared on, and gives the body of its reply. It takes no memory.
-pub fn commit(state: &mut State, prepared: Prepared) -> Body
+/// Does a prepared operation, on the state that it was prepared on, and gives the body of its reply, if it has one. It takes no memory.
+pub fn commit(state: &mut State, prepared: Prepared) -> Option<Body>
     requires { CanDo state.old prepared.edit }
-    ensures reply { result ≡ prepared.body }
+    ensures reply { result ≡ prepared.reply }
     ensures next { state.new.rows ≡ edited prepared.edit state.old.rows }
 {
-    let Prepared { body, edit } = prepared;
+    let Prepared { reply, edit } = prepared;
     do_edit(state, edit);
-    body
+    reply
 }
 
 /// Does an edit for which there is room. It takes no memory.
@@ -78,6 +86,7 @@ fn do_edit(state: &mut State, edit: Edit)
         Edit::RunAdded(new) => add_run(state, new),
         Edit::RunMarked(number, mark, at) => state.mark_run(number, mark, at),
         Edit::InstancesCleared(filter, selection) => state.clear_instances(&filter, &selection),
+        Edit::RunRemoved(number) => state.remove_run(number),
     }
 }
 

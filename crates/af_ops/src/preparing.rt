@@ -9,6 +9,7 @@ use crate::edit::Edit;
 use crate::op::Op;
 use crate::operations::clearing::{instances_cleared, run_cleared};
 use crate::operations::dags::{dags_text, got_dag, paused_dag};
+use crate::operations::deleting::run_deleted;
 use crate::operations::instances::{got_instance, listed_instances};
 use crate::operations::marking::run_marked;
 use crate::operations::runs::{got_run, listed_runs};
@@ -53,6 +54,7 @@ pub fn prepare<R: Reader>(
         Op::TriggerRun(dag_id, input) => triggered_run(alloc, state, dag_id, input, now),
         Op::GetRun(dag_id, run_id) => got_run(alloc, state, dag_id, run_id),
         Op::MarkRun(dag_id, run_id, input) => run_marked(alloc, state, dag_id, run_id, input, now),
+        Op::DeleteRun(dag_id, run_id) => run_deleted(state, dag_id, run_id),
         Op::ClearRun(dag_id, run_id, input) => run_cleared(alloc, state, dag_id, run_id, input),
         Op::ListInstances(dag_id, run_id) => listed_instances(alloc, state, dag_id, run_id),
         Op::GetInstance(dag_id, run_id, task_id) => {

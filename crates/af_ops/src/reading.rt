@@ -70,6 +70,12 @@ pub fn read_row(
             };
             Ok(Some(Op::MarkRun(dag_id, run_id, read_mark(alloc, body))))
         }
+        Endpoint::DeleteRun => {
+            let Some((dag_id, run_id)) = run_ids_in(alloc, parts)? else {
+                return Ok(None);
+            };
+            Ok(Some(Op::DeleteRun(dag_id, run_id)))
+        }
         Endpoint::ClearRun => {
             let Some((dag_id, run_id)) = run_ids_in(alloc, parts)? else {
                 return Ok(None);

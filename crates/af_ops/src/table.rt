@@ -11,7 +11,7 @@ use crate::route::Route;
 use af_role::{Action, Need, ResourceKind};
 
 /// All operations.
-pub const ENDPOINTS: [Endpoint; 13] = [
+pub const ENDPOINTS: [Endpoint; 14] = [
     Endpoint::Version,
     Endpoint::ListDags,
     Endpoint::GetDag,
@@ -21,6 +21,7 @@ pub const ENDPOINTS: [Endpoint; 13] = [
     Endpoint::TriggerRun,
     Endpoint::GetRun,
     Endpoint::MarkRun,
+    Endpoint::DeleteRun,
     Endpoint::ClearRun,
     Endpoint::ListInstances,
     Endpoint::GetInstance,
@@ -55,6 +56,7 @@ pub fn route_of(endpoint: Endpoint) -> Route
         Endpoint::TriggerRun => needing(Method::Post, Place::Runs, &CREATE_RUN),
         Endpoint::GetRun => needing(Method::Get, Place::Run, &READ_RUN),
         Endpoint::MarkRun => needing(Method::Patch, Place::Run, &EDIT_RUN),
+        Endpoint::DeleteRun => needing(Method::Delete, Place::Run, &DELETE_RUN),
         Endpoint::ClearRun => needing(Method::Post, Place::RunClear, &EDIT_RUN),
         Endpoint::ListInstances => needing(Method::Get, Place::Instances, &READ_INSTANCE),
         Endpoint::GetInstance => needing(Method::Get, Place::Instance, &READ_INSTANCE),
@@ -106,6 +108,20 @@ static EDIT_RUN: [Need; 2] = [
     },
     Need {
         action: Action::Edit,
+        kind: ResourceKind::DagRuns,
+        at_dag: false,
+    },
+];
+
+/// `can_edit` on `DAGs` at the DAG that the path names, and `can_delete` on `DAG Runs`.
+static DELETE_RUN: [Need; 2] = [
+    Need {
+        action: Action::Edit,
+        kind: ResourceKind::Dags,
+        at_dag: true,
+    },
+    Need {
+        action: Action::Delete,
         kind: ResourceKind::DagRuns,
         at_dag: false,
     },
@@ -231,6 +247,7 @@ pub fn needs_for(op: &Op) -> &'static [Need]
         Op::TriggerRun(_, _) => needs(Endpoint::TriggerRun),
         Op::GetRun(_, _) => needs(Endpoint::GetRun),
         Op::MarkRun(_, _, _) => needs(Endpoint::MarkRun),
+        Op::DeleteRun(_, _) => needs(Endpoint::DeleteRun),
         Op::ClearRun(_, _, _) => needs(Endpoint::ClearRun),
         Op::ListInstances(_, _) => needs(Endpoint::ListInstances),
         Op::GetInstance(_, _, _) => needs(Endpoint::GetInstance),

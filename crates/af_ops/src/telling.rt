@@ -167,7 +167,7 @@ fn shown_problem(
 }
 
 /// What is told under a policy version.
-pub(crate) fn shown_under(under: Under, status: Status, body: Body) -> Shown
+fn shown_under(under: Under, status: Status, body: Body) -> Shown
     ensures { result ≡ told_under under status body }
 {
     Shown {

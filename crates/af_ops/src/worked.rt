@@ -5,7 +5,7 @@ ghost use Rattle.af_ops.specs.declared.answer.OpFault.TheVariants as fault;
 ghost use Rattle.af_ops.specs.declared.body_fault.BodyFault.TheVariants.{BadBody, BadMember, OutOfMemory};
 ghost use Rattle.af_ops.specs.declared.body_fault.Member.TheVariants.{Conf, DagRunId, DryRun, EndDate, ExecutionDate, IsPaused, LogicalDate, OnlyFailed, StartDate, State, TaskIds};
 ghost use Rattle.af_ops.specs.declared.endpoint.Endpoint.TheVariants as endpoint;
-ghost use Rattle.af_ops.specs.declared.method.Method.TheVariants.{Get, Post, Patch};
+ghost use Rattle.af_ops.specs.declared.method.Method.TheVariants.{Delete, Get, Post, Patch};
 ghost use Rattle.af_ops.specs.declared.op.Op.TheVariants as op;
 ghost use Rattle.af_ops.specs.declared.place.Place.TheVariants as place;
 ghost use Rattle.af_ops.specs.declared.status.Status.TheVariants as status;
@@ -21,38 +21,38 @@ ghost use Rattle.af_ops.specs.Replies.{cleared_data, dag_data, fault_data, insta
 ghost use Rattle.af_ops.specs.Served.{answer_of, fault_told, left_by};
 ghost use Rattle.af_ops.specs.Statuses.{code_of, is_fault_status};
 ghost use Rattle.af_ops.specs.Table.{at_dag, at_some_dag, endpoint_at, methods_at, on_all, segments_of, spelled};
-ghost use Rattle.af_ops.specs.Verdicts.{Open, Stranger, Lacks, Refuses, Tells, Changes, judged, verdict};
-ghost use Rattle.af_ops.specs.Worked.{asks, at_entries, at_work, clear, cleared_half, cleared_later, dag, ended, ended_later, first_cleared, first_told, full_at_work, full_later, is_told, is_told_then, later, no_numbers, opening, policy, second, second_cleared, second_told, state_with, trigger, waited_told, waiting_told, with_cleared, with_ended};
+ghost use Rattle.af_ops.specs.Verdicts.{Changes, Open, Stranger, Lacks, Refuses, judged, verdict};
+ghost use Rattle.af_ops.specs.Worked.{asks, at_entries, at_work, changes, clear, cleared_half, cleared_later, dag, ended, ended_later, first_cleared, first_told, full_at_work, full_later, is_told, is_told_then, later, no_numbers, opening, policy, second, second_cleared, second_told, state_with, tells, trigger, waited_told, waiting_told, with_cleared, with_ended, without_second};
 
 /// Who asks for DAGs: a viewer is told all three, who may read one DAG that one, who has no permission the requirement that is
 /// lacked. Who may not read a DAG is told the same whether it is there or not; who may is told that it is not.
 pub fn readings_by_the_rule()
-    ensures viewer { asks opening (codes "vera") op.ListDags ≡ Tells (compact_text (listing_of (codes "dags") (map dag_data (state_with false).dags) 3)) }
-    ensures one { asks opening (codes "bob") op.ListDags ≡ Tells (compact_text (listing_of (codes "dags") (dag_data (dag (codes "b") false) ∷ []) 1)) }
+    ensures viewer { asks opening (codes "vera") op.ListDags ≡ tells (compact_text (listing_of (codes "dags") (map dag_data (state_with false).dags) 3)) }
+    ensures one { asks opening (codes "bob") op.ListDags ≡ tells (compact_text (listing_of (codes "dags") (dag_data (dag (codes "b") false) ∷ []) 1)) }
     ensures denied { asks opening (codes "pat") op.ListDags ≡ Lacks (at_some_dag Read) }
     ensures unknown { asks opening (codes "nobody") op.ListDags ≡ Lacks (at_some_dag Read) }
     ensures nobody { judged policy opening op.ListDags 0 None ≡ Stranger }
-    ensures shown { asks opening (codes "bob") (op.GetDag (codes "b")) ≡ Tells (compact_text (dag_data (dag (codes "b") false))) }
+    ensures shown { asks opening (codes "bob") (op.GetDag (codes "b")) ≡ tells (compact_text (dag_data (dag (codes "b") false))) }
     ensures hidden { asks opening (codes "bob") (op.GetDag (codes "a")) ≡ Lacks (at_dag Read) }
     ensures hidden_absent { asks opening (codes "bob") (op.GetDag (codes "nosuch")) ≡ Lacks (at_dag Read) }
     ensures absent { asks opening (codes "vera") (op.GetDag (codes "nosuch")) ≡ Refuses fault.NoSuchDag }
-    ensures open { verdict policy opening None op.Version 0 ≡ Open (compact_text version_data) }
+    ensures open { verdict policy opening None op.Version 0 ≡ Open (Some (compact_text version_data)) }
 {}
 
 /// A DAG is paused, and paused again: the first is a change. A denial comes before a bad body, that before an absent DAG, and
 /// both before a history that is full.
 pub fn changes_by_the_rule()
-    ensures paused { asks opening (codes "uma") (op.PauseDag (codes "b") (Ok true)) ≡ Changes (compact_text (dag_data (dag (codes "b") true))) (state_with true) }
+    ensures paused { asks opening (codes "uma") (op.PauseDag (codes "b") (Ok true)) ≡ changes (compact_text (dag_data (dag (codes "b") true))) (state_with true) }
     ensures left { left_by (asks opening (codes "uma") (op.PauseDag (codes "b") (Ok true))) opening ≡ at_entries 1 true }
-    ensures again { asks (at_entries 1 true) (codes "uma") (op.PauseDag (codes "b") (Ok true)) ≡ Tells (compact_text (dag_data (dag (codes "b") true))) }
-    ensures back { asks (at_entries 1 true) (codes "uma") (op.PauseDag (codes "b") (Ok false)) ≡ Changes (compact_text (dag_data (dag (codes "b") false))) (state_with false) }
+    ensures again { asks (at_entries 1 true) (codes "uma") (op.PauseDag (codes "b") (Ok true)) ≡ tells (compact_text (dag_data (dag (codes "b") true))) }
+    ensures back { asks (at_entries 1 true) (codes "uma") (op.PauseDag (codes "b") (Ok false)) ≡ changes (compact_text (dag_data (dag (codes "b") false))) (state_with false) }
     ensures denied { asks opening (codes "vera") (op.PauseDag (codes "b") (Err BadBody)) ≡ Lacks (at_dag Edit) }
     ensures bad_body { asks opening (codes "uma") (op.PauseDag (codes "nosuch") (Err BadBody)) ≡ Refuses fault.BadBody }
     ensures bad_member { asks opening (codes "uma") (op.PauseDag (codes "nosuch") (Err (BadMember IsPaused))) ≡ Refuses (fault.BadMember IsPaused) }
     ensures absent { asks opening (codes "uma") (op.PauseDag (codes "nosuch") (Ok true)) ≡ Refuses fault.NoSuchDag }
-    ensures last { asks (at_entries 999_999 false) (codes "uma") (op.PauseDag (codes "b") (Ok true)) ≡ Changes (compact_text (dag_data (dag (codes "b") true))) (state_with true) }
+    ensures last { asks (at_entries 999_999 false) (codes "uma") (op.PauseDag (codes "b") (Ok true)) ≡ changes (compact_text (dag_data (dag (codes "b") true))) (state_with true) }
     ensures full { asks (at_entries 1_000_000 false) (codes "uma") (op.PauseDag (codes "b") (Ok true)) ≡ Refuses fault.HistoryFull }
-    ensures full_reads { asks (at_entries 1_000_000 true) (codes "uma") (op.PauseDag (codes "b") (Ok true)) ≡ Tells (compact_text (dag_data (dag (codes "b") true))) }
+    ensures full_reads { asks (at_entries 1_000_000 true) (codes "uma") (op.PauseDag (codes "b") (Ok true)) ≡ tells (compact_text (dag_data (dag (codes "b") true))) }
 {}
 
 /// What each of them is told.
@@ -116,13 +116,13 @@ pub fn faults_by_the_rule()
 
 /// Who asks for runs: who may read one DAG and runs is told the runs of that one alone, of all too.
 pub fn runs_by_the_rule()
-    ensures all { asks later (codes "ron") (op.ListRuns None) ≡ Tells (compact_text (listing_of (codes "dag_runs") (run_data second ∷ []) 1)) }
-    ensures one { asks later (codes "ron") (op.ListRuns (Some (codes "b"))) ≡ Tells (compact_text (listing_of (codes "dag_runs") (run_data second ∷ []) 1)) }
+    ensures all { asks later (codes "ron") (op.ListRuns None) ≡ tells (compact_text (listing_of (codes "dag_runs") (run_data second ∷ []) 1)) }
+    ensures one { asks later (codes "ron") (op.ListRuns (Some (codes "b"))) ≡ tells (compact_text (listing_of (codes "dag_runs") (run_data second ∷ []) 1)) }
     ensures hidden { asks later (codes "ron") (op.ListRuns (Some (codes "a"))) ≡ Lacks (at_dag Read) }
     ensures no_runs { asks later (codes "bob") (op.ListRuns None) ≡ Lacks (on_all Read DagRuns) }
     ensures no_dags { asks later (codes "pat") (op.ListRuns None) ≡ Lacks (at_some_dag Read) }
     ensures absent_dag { asks later (codes "vera") (op.ListRuns (Some (codes "nosuch"))) ≡ Refuses fault.NoSuchDag }
-    ensures shown { asks later (codes "ron") (op.GetRun (codes "b") (codes "r2")) ≡ Tells (compact_text (run_data second)) }
+    ensures shown { asks later (codes "ron") (op.GetRun (codes "b") (codes "r2")) ≡ tells (compact_text (run_data second)) }
     ensures absent { asks later (codes "ron") (op.GetRun (codes "b") (codes "r1")) ≡ Refuses fault.NoSuchRun }
     ensures not_created { asks later (codes "vera") (op.TriggerRun (codes "b") (Err BadBody)) ≡ Lacks (at_dag Edit) }
     ensures bad_body { asks later (codes "uma") (op.TriggerRun (codes "nosuch") (Err BadBody)) ≡ Refuses fault.BadBody }
@@ -168,7 +168,7 @@ pub fn tasks_by_the_rule()
     ensures path { spelled (segments_of place.Tasks) ≡ codes "/api/v1/dags/{dag_id}/tasks" }
     ensures row { op_of_row endpoint.ListTasks (codes "f" ∷ []) (codes "{") ≡ Some (op.ListTasks (codes "f")) }
     ensures each_dag { op_of_row endpoint.ListTasks (codes "~" ∷ []) [] ≡ None }
-    ensures listed { asks at_work (codes "vera") (op.ListTasks (codes "f")) ≡ Tells (compact_text (listing_of (codes "tasks") (task_data waiting_told ∷ task_data waited_told ∷ []) 2)) }
+    ensures listed { asks at_work (codes "vera") (op.ListTasks (codes "f")) ≡ tells (compact_text (listing_of (codes "tasks") (task_data waiting_told ∷ task_data waited_told ∷ []) 2)) }
     ensures no_instances { asks opening (codes "bob") (op.ListTasks (codes "b")) ≡ Lacks (on_all Read TaskInstances) }
     ensures hidden { asks opening (codes "bob") (op.ListTasks (codes "nosuch")) ≡ Lacks (at_dag Read) }
     ensures absent { asks opening (codes "vera") (op.ListTasks (codes "nosuch")) ≡ Refuses fault.NoSuchDag }
@@ -193,8 +193,8 @@ pub fn instance_routes_by_the_rule()
 /// Who asks for instances: a viewer is told those of a run in the order of its DAG's tasks. A denial comes before an absence; of DAG,
 /// run and task the first that is not there is told.
 pub fn instances_by_the_rule()
-    ensures listed { asks at_work (codes "vera") (op.ListInstances (codes "f") (codes "r")) ≡ Tells (compact_text (listing_of (codes "task_instances") (instance_data first_told ∷ instance_data second_told ∷ []) 2)) }
-    ensures shown { asks at_work (codes "vera") (op.GetInstance (codes "f") (codes "r") (codes "t")) ≡ Tells (compact_text (instance_data second_told)) }
+    ensures listed { asks at_work (codes "vera") (op.ListInstances (codes "f") (codes "r")) ≡ tells (compact_text (listing_of (codes "task_instances") (instance_data first_told ∷ instance_data second_told ∷ []) 2)) }
+    ensures shown { asks at_work (codes "vera") (op.GetInstance (codes "f") (codes "r") (codes "t")) ≡ tells (compact_text (instance_data second_told)) }
     ensures no_instances { asks later (codes "ron") (op.ListInstances (codes "b") (codes "r2")) ≡ Lacks (on_all Read TaskInstances) }
     ensures no_runs { asks later (codes "bob") (op.GetInstance (codes "b") (codes "r2") (codes "t")) ≡ Lacks (on_all Read DagRuns) }
     ensures hidden { asks later (codes "ron") (op.GetInstance (codes "nosuch") (codes "r2") (codes "t")) ≡ Lacks (at_dag Read) }
@@ -216,19 +216,19 @@ pub fn instance_messages_by_the_rule()
 /// Who marks a run: one who may edit its DAG and runs. The first time is a change, and marking what stands is none; a denial comes
 /// before a bad body, that before an absence, and all before a history that is full.
 pub fn marks_by_the_rule()
-    ensures success { asks later (codes "uma") (op.MarkRun (codes "b") (codes "r2") (Ok mark.Success)) ≡ Changes (compact_text (run_data ended)) with_ended }
-    ensures again { asks ended_later (codes "uma") (op.MarkRun (codes "b") (codes "r2") (Ok mark.Success)) ≡ Tells (compact_text (run_data ended)) }
-    ensures queued { asks later (codes "uma") (op.MarkRun (codes "b") (codes "r2") (Ok mark.Queued)) ≡ Tells (compact_text (run_data second)) }
+    ensures success { asks later (codes "uma") (op.MarkRun (codes "b") (codes "r2") (Ok mark.Success)) ≡ changes (compact_text (run_data ended)) with_ended }
+    ensures again { asks ended_later (codes "uma") (op.MarkRun (codes "b") (codes "r2") (Ok mark.Success)) ≡ tells (compact_text (run_data ended)) }
+    ensures queued { asks later (codes "uma") (op.MarkRun (codes "b") (codes "r2") (Ok mark.Queued)) ≡ tells (compact_text (run_data second)) }
     ensures denied { asks later (codes "vera") (op.MarkRun (codes "nosuch") (codes "r2") (Err BadBody)) ≡ Lacks (at_dag Edit) }
     ensures bad_body { asks later (codes "uma") (op.MarkRun (codes "nosuch") (codes "r2") (Err BadBody)) ≡ Refuses fault.BadBody }
     ensures bad_member { asks later (codes "uma") (op.MarkRun (codes "nosuch") (codes "r2") (Err (BadMember State))) ≡ Refuses (fault.BadMember State) }
     ensures no_dag { asks later (codes "uma") (op.MarkRun (codes "nosuch") (codes "r2") (Ok mark.Failed)) ≡ Refuses fault.NoSuchDag }
     ensures no_run { asks later (codes "uma") (op.MarkRun (codes "b") (codes "r1") (Ok mark.Failed)) ≡ Refuses fault.NoSuchRun }
     ensures full { asks full_later (codes "uma") (op.MarkRun (codes "b") (codes "r2") (Ok mark.Success)) ≡ Refuses fault.HistoryFull }
-    ensures full_stands { asks full_later (codes "uma") (op.MarkRun (codes "b") (codes "r2") (Ok mark.Queued)) ≡ Tells (compact_text (run_data second)) }
+    ensures full_stands { asks full_later (codes "uma") (op.MarkRun (codes "b") (codes "r2") (Ok mark.Queued)) ≡ tells (compact_text (run_data second)) }
     ensures row { op_of_row endpoint.MarkRun (codes "b" ∷ codes "r~1" ∷ []) (codes "{") ≡ Some (op.MarkRun (codes "b") (codes "r~1") (Err BadBody)) }
     ensures no_name { op_of_row endpoint.MarkRun (codes "~" ∷ codes "r" ∷ []) [] ≡ None }
-    ensures methods { methods_at place.Run ≡ record { get = true; post = false; patch = true; delete = false } }
+    ensures methods { methods_at place.Run ≡ record { get = true; post = false; patch = true; delete = true } }
 {}
 
 /// What is told of marks, and their bodies: a state that a run is put into, which `running` is not.
@@ -248,13 +248,13 @@ pub fn mark_messages_by_the_rule()
 /// changes. A denial comes before a bad body, that before an absent DAG, run and task, in this order, and all before a history that
 /// is full.
 pub fn clears_by_the_rule()
-    ensures told { asks at_work (codes "uma") (op.ClearInstances (codes "f") (Ok (clear true false None None))) ≡ Tells (compact_text (list_of (codes "task_instances") (cleared_data first_cleared ∷ cleared_data second_cleared ∷ []))) }
-    ensures done { asks at_work (codes "uma") (op.ClearInstances (codes "f") (Ok (clear false false None None))) ≡ Changes (compact_text (list_of (codes "task_instances") (cleared_data first_cleared ∷ cleared_data second_cleared ∷ []))) with_cleared }
-    ensures again { asks cleared_later (codes "uma") (op.ClearRun (codes "f") (codes "r") (Ok false)) ≡ Tells (compact_text (list_of (codes "task_instances") (cleared_data (record { run = cleared_half; task_id = codes "u" }) ∷ cleared_data (record { run = cleared_half; task_id = codes "t" }) ∷ []))) }
-    ensures run { asks at_work (codes "uma") (op.ClearRun (codes "f") (codes "r") (Ok false)) ≡ Changes (compact_text (list_of (codes "task_instances") (cleared_data first_cleared ∷ cleared_data second_cleared ∷ []))) with_cleared }
-    ensures none_failed { asks at_work (codes "uma") (op.ClearInstances (codes "f") (Ok (clear false true None None))) ≡ Tells (compact_text (list_of (codes "task_instances") [])) }
-    ensures one { asks at_work (codes "uma") (op.ClearInstances (codes "f") (Ok (clear false false (Some (codes "t" ∷ codes "t" ∷ [])) (Some (codes "r"))))) ≡ Tells (compact_text (list_of (codes "task_instances") (cleared_data second_cleared ∷ []))) }
-    ensures no_tasks { asks at_work (codes "uma") (op.ClearInstances (codes "f") (Ok (clear false false (Some []) None))) ≡ Tells (compact_text (list_of (codes "task_instances") [])) }
+    ensures told { asks at_work (codes "uma") (op.ClearInstances (codes "f") (Ok (clear true false None None))) ≡ tells (compact_text (list_of (codes "task_instances") (cleared_data first_cleared ∷ cleared_data second_cleared ∷ []))) }
+    ensures done { asks at_work (codes "uma") (op.ClearInstances (codes "f") (Ok (clear false false None None))) ≡ changes (compact_text (list_of (codes "task_instances") (cleared_data first_cleared ∷ cleared_data second_cleared ∷ []))) with_cleared }
+    ensures again { asks cleared_later (codes "uma") (op.ClearRun (codes "f") (codes "r") (Ok false)) ≡ tells (compact_text (list_of (codes "task_instances") (cleared_data (record { run = cleared_half; task_id = codes "u" }) ∷ cleared_data (record { run = cleared_half; task_id = codes "t" }) ∷ []))) }
+    ensures run { asks at_work (codes "uma") (op.ClearRun (codes "f") (codes "r") (Ok false)) ≡ changes (compact_text (list_of (codes "task_instances") (cleared_data first_cleared ∷ cleared_data second_cleared ∷ []))) with_cleared }
+    ensures none_failed { asks at_work (codes "uma") (op.ClearInstances (codes "f") (Ok (clear false true None None))) ≡ tells (compact_text (list_of (codes "task_instances") [])) }
+    ensures one { asks at_work (codes "uma") (op.ClearInstances (codes "f") (Ok (clear false false (Some (codes "t" ∷ codes "t" ∷ [])) (Some (codes "r"))))) ≡ tells (compact_text (list_of (codes "task_instances") (cleared_data second_cleared ∷ []))) }
+    ensures no_tasks { asks at_work (codes "uma") (op.ClearInstances (codes "f") (Ok (clear false false (Some []) None))) ≡ tells (compact_text (list_of (codes "task_instances") [])) }
     ensures denied { asks later (codes "vera") (op.ClearInstances (codes "nosuch") (Err BadBody)) ≡ Lacks (at_dag Edit) }
     ensures bad_body { asks later (codes "uma") (op.ClearInstances (codes "nosuch") (Err BadBody)) ≡ Refuses fault.BadBody }
     ensures bad_member { asks later (codes "uma") (op.ClearRun (codes "nosuch") (codes "r") (Err (BadMember DryRun))) ≡ Refuses (fault.BadMember DryRun) }
@@ -263,7 +263,7 @@ pub fn clears_by_the_rule()
     ensures no_task { asks at_work (codes "uma") (op.ClearInstances (codes "f") (Ok (clear true true (Some (codes "t" ∷ codes "x" ∷ codes "y" ∷ [])) (Some (codes "r"))))) ≡ Refuses (fault.NoSuchTaskAt 1) }
     ensures no_run_cleared { asks at_work (codes "uma") (op.ClearRun (codes "f") (codes "r2") (Ok true)) ≡ Refuses fault.NoSuchRun }
     ensures full { asks full_at_work (codes "uma") (op.ClearRun (codes "f") (codes "r") (Ok false)) ≡ Refuses fault.HistoryFull }
-    ensures full_told { asks full_at_work (codes "uma") (op.ClearInstances (codes "f") (Ok (clear false true None None))) ≡ Tells (compact_text (list_of (codes "task_instances") [])) }
+    ensures full_told { asks full_at_work (codes "uma") (op.ClearInstances (codes "f") (Ok (clear false true None None))) ≡ tells (compact_text (list_of (codes "task_instances") [])) }
 {}
 
 /// What is told of clears.
@@ -298,4 +298,19 @@ pub fn clear_bodies_by_the_rule()
     ensures dag_path { spelled (segments_of place.Clear) ≡ codes "/api/v1/dags/{dag_id}/clearTaskInstances" }
     ensures methods { methods_at place.Clear ≡ record { get = false; post = true; patch = false; delete = false } }
     ensures names { are_names (Some Post) place.RunClear (codes "b" ∷ codes "~" ∷ []) ≡ false }
+{}
+
+/// Who deletes a run: one who may edit its DAG and delete runs. Nothing is told of it; a denial comes before an absence, and both
+/// before a history that is full. Once it is deleted, it is absent.
+pub fn deletes_by_the_rule()
+    ensures deleted { asks later (codes "uma") (op.DeleteRun (codes "b") (codes "r2")) ≡ Changes None without_second }
+    ensures told { is_told later (codes "uma") (op.DeleteRun (codes "b") (codes "r2")) ≡ Some (record { status = status.NoContent; version = Some 0; seq = Some 3; body = None }) }
+    ensures again { asks (record { under = later.under; state = without_second }) (codes "uma") (op.DeleteRun (codes "b") (codes "r2")) ≡ Refuses fault.NoSuchRun }
+    ensures of_another { asks later (codes "uma") (op.DeleteRun (codes "a") (codes "r2")) ≡ Refuses fault.NoSuchRun }
+    ensures no_dag { asks later (codes "uma") (op.DeleteRun (codes "nosuch") (codes "r2")) ≡ Refuses fault.NoSuchDag }
+    ensures denied { asks later (codes "vera") (op.DeleteRun (codes "nosuch") (codes "r2")) ≡ Lacks (at_dag Edit) }
+    ensures full { asks full_later (codes "uma") (op.DeleteRun (codes "b") (codes "r2")) ≡ Refuses fault.HistoryFull }
+    ensures row { op_of_row endpoint.DeleteRun (codes "b" ∷ codes "r~1" ∷ []) (codes "{") ≡ Some (op.DeleteRun (codes "b") (codes "r~1")) }
+    ensures no_name { op_of_row endpoint.DeleteRun (codes "b" ∷ codes "~" ∷ []) [] ≡ None }
+    ensures found { endpoint_at Delete place.Run ≡ Some endpoint.DeleteRun }
 {}

@@ -3,8 +3,8 @@ use af_http::Ended;
 use std::test::Fail;
 
 /// Instances that are cleared, in one connection: who may not clear them, bodies that are none, what is not there, dry runs, and
-/// clears. What stands already is no change, and is told with the count of changes as it was.
-const CLEARS: [(&str, &str); 24] = [
+/// clears. What stands already is no change, and is told with the count of changes as it was. Then the run is deleted, once.
+const CLEARS: [(&str, &str); 31] = [
     (
         "POST /api/v1/dags/b/dagRuns HTTP/1.1\r\nHost: h\r\nAuthorization: Bearer abc\r\nContent-Length: 18\r\n\r\n{\"dag_run_id\":\"r\"}",
         "HTTP/1.1 200 OK\r\nContent-Type: application/json\r\nContent-Length: 243\r\nX-Policy-Version: 0\r\nX-Plane-Seq: 1\r\n\r\n{\"dag_id\":\"b\",\"dag_run_id\":\"r\",\"data_interval_end\":\"2024-01-01T00:00:00+00:00\",\"data_interval_start\":\"2024-01-01T00:00:00+00:00\",\"end_date\":null,\"logical_date\":\"2024-01-01T00:00:00+00:00\",\"run_type\":\"manual\",\"start_date\":null,\"state\":\"queued\"}",
@@ -100,6 +100,34 @@ const CLEARS: [(&str, &str); 24] = [
     (
         "PATCH /api/v1/dags/b/dagRuns/r/clear HTTP/1.1\r\nHost: h\r\nAuthorization: Bearer abc\r\nContent-Length: 2\r\n\r\n{}",
         "HTTP/1.1 405 Method Not Allowed\r\nContent-Type: application/problem+json\r\nContent-Length: 94\r\nAllow: POST\r\n\r\n{\"detail\":\"method not allowed\",\"status\":405,\"title\":\"Method Not Allowed\",\"type\":\"about:blank\"}",
+    ),
+    (
+        "DELETE /api/v1/dags/b/dagRuns/r HTTP/1.1\r\nHost: h\r\nAuthorization: Bearer test\r\n\r\n",
+        "HTTP/1.1 403 Forbidden\r\nContent-Type: application/problem+json\r\nContent-Length: 100\r\nX-Policy-Version: 0\r\nX-Plane-Seq: 5\r\n\r\n{\"detail\":\"missing permission DAG:b.can_edit\",\"status\":403,\"title\":\"Forbidden\",\"type\":\"about:blank\"}",
+    ),
+    (
+        "DELETE /api/v1/dags/x/dagRuns/r HTTP/1.1\r\nHost: h\r\nAuthorization: Bearer abc\r\n\r\n",
+        "HTTP/1.1 404 Not Found\r\nContent-Type: application/problem+json\r\nContent-Length: 81\r\nX-Policy-Version: 0\r\nX-Plane-Seq: 5\r\n\r\n{\"detail\":\"no such dag: x\",\"status\":404,\"title\":\"Not Found\",\"type\":\"about:blank\"}",
+    ),
+    (
+        "DELETE /api/v1/dags/b/dagRuns/s HTTP/1.1\r\nHost: h\r\nAuthorization: Bearer abc\r\n\r\n",
+        "HTTP/1.1 404 Not Found\r\nContent-Type: application/problem+json\r\nContent-Length: 81\r\nX-Policy-Version: 0\r\nX-Plane-Seq: 5\r\n\r\n{\"detail\":\"no such run: s\",\"status\":404,\"title\":\"Not Found\",\"type\":\"about:blank\"}",
+    ),
+    (
+        "DELETE /api/v1/dags/b/dagRuns/r HTTP/1.1\r\nHost: h\r\nAuthorization: Bearer abc\r\n\r\n",
+        "HTTP/1.1 204 No Content\r\nX-Policy-Version: 0\r\nX-Plane-Seq: 6\r\n\r\n",
+    ),
+    (
+        "DELETE /api/v1/dags/b/dagRuns/r HTTP/1.1\r\nHost: h\r\nAuthorization: Bearer abc\r\n\r\n",
+        "HTTP/1.1 404 Not Found\r\nContent-Type: application/problem+json\r\nContent-Length: 81\r\nX-Policy-Version: 0\r\nX-Plane-Seq: 6\r\n\r\n{\"detail\":\"no such run: r\",\"status\":404,\"title\":\"Not Found\",\"type\":\"about:blank\"}",
+    ),
+    (
+        "GET /api/v1/dags/b/dagRuns/r HTTP/1.1\r\nHost: h\r\nAuthorization: Bearer abc\r\n\r\n",
+        "HTTP/1.1 404 Not Found\r\nContent-Type: application/problem+json\r\nContent-Length: 81\r\nX-Policy-Version: 0\r\nX-Plane-Seq: 6\r\n\r\n{\"detail\":\"no such run: r\",\"status\":404,\"title\":\"Not Found\",\"type\":\"about:blank\"}",
+    ),
+    (
+        "POST /api/v1/dags/b/dagRuns/r HTTP/1.1\r\nHost: h\r\nAuthorization: Bearer abc\r\n\r\n",
+        "HTTP/1.1 405 Method Not Allowed\r\nContent-Type: application/problem+json\r\nContent-Length: 94\r\nAllow: GET, PATCH, DELETE\r\n\r\n{\"detail\":\"method not allowed\",\"status\":405,\"title\":\"Method Not Allowed\",\"type\":\"about:blank\"}",
     ),
 ];
 

@@ -70,8 +70,8 @@ const MARKS: [(&str, &str); 17] = [
         "HTTP/1.1 404 Not Found\r\nContent-Type: application/problem+json\r\nContent-Length: 79\r\n\r\n{\"detail\":\"no such path\",\"status\":404,\"title\":\"Not Found\",\"type\":\"about:blank\"}",
     ),
     (
-        "DELETE /api/v1/dags/b/dagRuns/r HTTP/1.1\r\nHost: h\r\nAuthorization: Bearer abc\r\n\r\n",
-        "HTTP/1.1 405 Method Not Allowed\r\nContent-Type: application/problem+json\r\nContent-Length: 94\r\nAllow: GET, PATCH\r\n\r\n{\"detail\":\"method not allowed\",\"status\":405,\"title\":\"Method Not Allowed\",\"type\":\"about:blank\"}",
+        "POST /api/v1/dags/b/dagRuns/r HTTP/1.1\r\nHost: h\r\nAuthorization: Bearer abc\r\n\r\n",
+        "HTTP/1.1 405 Method Not Allowed\r\nContent-Type: application/problem+json\r\nContent-Length: 94\r\nAllow: GET, PATCH, DELETE\r\n\r\n{\"detail\":\"method not allowed\",\"status\":405,\"title\":\"Method Not Allowed\",\"type\":\"about:blank\"}",
     ),
 ];
 
