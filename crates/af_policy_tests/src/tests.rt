@@ -6,3 +6,4 @@ mod steps;
 mod syncs;
 mod tables;
 mod versions;
+mod words;

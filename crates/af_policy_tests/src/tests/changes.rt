@@ -1,103 +1,93 @@
 //! Changes told as steps: what each makes of the policy that the one before left, or its first fault.
 use crate::tests::openings::{policy, role_over, user};
 use crate::tests::steps::{Step, after};
+use crate::tests::words::{
+    ADAM, ADAMS, ADMIN, ANOTHER, BAD_CAN_FLY, BAD_FLY, BAD_LARGE_READ, BOB, BOBS, CAN_CREATE,
+    CAN_EDIT, CAN_FLY, CAN_READ, CY, DAG_A, DAG_B, DAG_RUN_B, DAGS, DEFAULT_ROLE, DONE, EDNA,
+    EDNAS, EVE, EXISTS, FLY, LARGE_READ, LAST, LAST_ADMIN, MORE, NO_CREATE_AT_B, NO_DAG,
+    NO_READ_AT_NO_DAG, NO_READ_OF_RUN_B, NO_SUCH_ROLE, NO_SUCH_USER, NONE, ONLY_B, OP, PAT, PATS,
+    POOLS, PUBLIC, ROLE_7, ROLE_IN_USE, SEA, SKY, SMALL_DAGS, TOO_MANY, UNKNOWN_SKY, VERA, VERAS,
+    VIEWER, X, Y,
+};
 use af_policy::{Policy, PolicyDraft};
-use af_role::ResourceKind;
+use af_role::{ResourceKind, Role};
 use std::alloc::Global;
 use std::test::Fail;
 
 /// Each fault of each change of a role, two at once in their order, and what is accepted between them.
 const OF_ROLES: &[(Step, &str)] = &[
+    (Step::AddRole(X, &[(CAN_FLY, DAGS)]), BAD_CAN_FLY),
+    (Step::AddRole(X, &[(CAN_READ, SKY), (FLY, DAGS)]), BAD_FLY),
     (
-        Step::AddRole("X", &[("can_fly", "DAGs")]),
-        "bad action: can_fly",
+        Step::AddRole(X, &[(LARGE_READ, DAGS), (FLY, DAGS)]),
+        BAD_LARGE_READ,
     ),
     (
-        Step::AddRole("X", &[("can_read", "Sky"), ("fly", "DAGs")]),
-        "bad action: fly",
+        Step::AddRole(VIEWER, &[(CAN_CREATE, DAG_B)]),
+        NO_CREATE_AT_B,
     ),
     (
-        Step::AddRole("X", &[("Can_Read", "DAGs"), ("fly", "DAGs")]),
-        "bad action: Can_Read",
+        Step::AddRole(X, &[(CAN_READ, NO_DAG), (CAN_READ, SMALL_DAGS)]),
+        NO_READ_AT_NO_DAG,
     ),
+    (Step::AddRole(X, &[(CAN_READ, DAG_RUN_B)]), NO_READ_OF_RUN_B),
+    (Step::AddRole(VIEWER, &[]), EXISTS),
+    (Step::AddRole(ONLY_B, &[]), EXISTS),
     (
-        Step::AddRole("Viewer", &[("can_create", "DAG:b")]),
-        "not allowed: DAG:b.can_create",
+        Step::AddRole(X, &[(CAN_EDIT, DAG_B), (CAN_CREATE, POOLS)]),
+        DONE,
     ),
-    (
-        Step::AddRole("X", &[("can_read", "DAG:a b"), ("can_read", "dags")]),
-        "not allowed: DAG:a b.can_read",
-    ),
-    (
-        Step::AddRole("X", &[("can_read", "DAG Run:b")]),
-        "not allowed: DAG Run:b.can_read",
-    ),
-    (Step::AddRole("Viewer", &[]), "exists"),
-    (Step::AddRole("OnlyB", &[]), "exists"),
-    (
-        Step::AddRole("X", &[("can_edit", "DAG:b"), ("can_create", "Pools")]),
-        "ok",
-    ),
-    (Step::AddRole("X", &[]), "exists"),
-    (
-        Step::SetRole("Viewer", &[("can_fly", "DAGs")]),
-        "bad action: can_fly",
-    ),
-    (
-        Step::SetRole("Y", &[("can_create", "DAG:b")]),
-        "not allowed: DAG:b.can_create",
-    ),
-    (Step::SetRole("Y", &[]), "no such role"),
-    (Step::SetRole("Op", &[]), "default role"),
-    (Step::SetRole("X", &[("can_read", "DAG:a")]), "ok"),
-    (Step::DropRole("Y"), "no such role"),
-    (Step::DropRole("Public"), "default role"),
-    (Step::DropRole("Admin"), "default role"),
-    (Step::DropRole("OnlyB"), "role in use"),
-    (Step::DropRole("X"), "ok"),
-    (Step::DropRole("X"), "no such role"),
+    (Step::AddRole(X, &[]), EXISTS),
+    (Step::SetRole(VIEWER, &[(CAN_FLY, DAGS)]), BAD_CAN_FLY),
+    (Step::SetRole(Y, &[(CAN_CREATE, DAG_B)]), NO_CREATE_AT_B),
+    (Step::SetRole(Y, &[]), NO_SUCH_ROLE),
+    (Step::SetRole(OP, &[]), DEFAULT_ROLE),
+    (Step::SetRole(X, &[(CAN_READ, DAG_A)]), DONE),
+    (Step::DropRole(Y), NO_SUCH_ROLE),
+    (Step::DropRole(PUBLIC), DEFAULT_ROLE),
+    (Step::DropRole(ADMIN), DEFAULT_ROLE),
+    (Step::DropRole(ONLY_B), ROLE_IN_USE),
+    (Step::DropRole(X), DONE),
+    (Step::DropRole(X), NO_SUCH_ROLE),
 ];
 
 /// The same of a user, and of roles while users come and go.
 const OF_USERS: &[(Step, &str)] = &[
-    (
-        Step::AddUser("bob", "test", &["Viewer", "Sky", "Sea"]),
-        "unknown role: Sky",
-    ),
-    (Step::AddUser("bob", "new", &["Viewer"]), "exists"),
-    (Step::AddUser("cy", "test", &["Viewer"]), "exists"),
-    (Step::AddUser("cy", "new", &["Viewer", "OnlyB"]), "ok"),
-    (Step::SetRoles("eve", &["Sky"]), "unknown role: Sky"),
-    (Step::SetRoles("eve", &["Viewer"]), "no such user"),
-    (Step::SetToken("eve", "test"), "no such user"),
-    (Step::SetToken("adam", "foo"), "exists"),
-    (Step::SetToken("bob", "foo"), "ok"),
-    (Step::SetBoth("adam", "foo", &["Sky"]), "unknown role: Sky"),
-    (Step::SetBoth("adam", "foo", &["Viewer"]), "exists"),
-    (Step::SetRoles("adam", &["Viewer"]), "last admin"),
-    (Step::SetRoles("adam", &[]), "last admin"),
-    (Step::SetBoth("bob", "foo", &["Viewer"]), "ok"),
-    (Step::DropRole("OnlyB"), "role in use"),
-    (Step::DropUser("cy"), "ok"),
-    (Step::DropUser("cy"), "no such user"),
-    (Step::DropRole("OnlyB"), "ok"),
-    (Step::DropUser("adam"), "last admin"),
-    (Step::SetBoth("vera", "new", &["Admin", "Admin"]), "ok"),
-    (Step::DropUser("adam"), "ok"),
-    (Step::SetRoles("vera", &["Viewer"]), "last admin"),
-    (Step::DropUser("vera"), "last admin"),
-    (Step::SetRoles("vera", &["Admin"]), "ok"),
-    (Step::AddUser("adam", "admin", &["Op", "Op"]), "ok"),
-    (Step::AddUser("eve", "hello", &[]), "exists"),
+    (Step::AddUser(BOB, VERAS, &[VIEWER, SKY, SEA]), UNKNOWN_SKY),
+    (Step::AddUser(BOB, ANOTHER, &[VIEWER]), EXISTS),
+    (Step::AddUser(CY, VERAS, &[VIEWER]), EXISTS),
+    (Step::AddUser(CY, ANOTHER, &[VIEWER, ONLY_B]), DONE),
+    (Step::SetRoles(EVE, &[SKY]), UNKNOWN_SKY),
+    (Step::SetRoles(EVE, &[VIEWER]), NO_SUCH_USER),
+    (Step::SetToken(EVE, VERAS), NO_SUCH_USER),
+    (Step::SetToken(ADAM, BOBS), EXISTS),
+    (Step::SetToken(BOB, BOBS), DONE),
+    (Step::SetBoth(ADAM, BOBS, &[SKY]), UNKNOWN_SKY),
+    (Step::SetBoth(ADAM, BOBS, &[VIEWER]), EXISTS),
+    (Step::SetRoles(ADAM, &[VIEWER]), LAST_ADMIN),
+    (Step::SetRoles(ADAM, &[]), LAST_ADMIN),
+    (Step::SetBoth(BOB, BOBS, &[VIEWER]), DONE),
+    (Step::DropRole(ONLY_B), ROLE_IN_USE),
+    (Step::DropUser(CY), DONE),
+    (Step::DropUser(CY), NO_SUCH_USER),
+    (Step::DropRole(ONLY_B), DONE),
+    (Step::DropUser(ADAM), LAST_ADMIN),
+    (Step::SetBoth(VERA, ANOTHER, &[ADMIN, ADMIN]), DONE),
+    (Step::DropUser(ADAM), DONE),
+    (Step::SetRoles(VERA, &[VIEWER]), LAST_ADMIN),
+    (Step::DropUser(VERA), LAST_ADMIN),
+    (Step::SetRoles(VERA, &[ADMIN]), DONE),
+    (Step::AddUser(ADAM, ADAMS, &[OP, OP]), DONE),
+    (Step::AddUser(EVE, EDNAS, &[]), EXISTS),
 ];
 
 /// Who is found by the tokens after those changes.
 const FOUND: &[(&str, &str)] = &[
-    ("admin", "adam"),
-    ("test", ""),
-    ("foo", "bob"),
-    ("bar", "pat"),
-    ("hello", "edna"),
+    (ADAMS, ADAM),
+    (VERAS, NONE),
+    (BOBS, BOB),
+    (PATS, PAT),
+    (EDNAS, EDNA),
 ];
 
 /// The policy that these steps leave, where each is told as it says; else the first that is not.
@@ -114,48 +104,65 @@ fn played(alloc: Global, steps: &[(Step, &str)]) -> Result<(Policy, String), Fai
     Ok((left, String::new(alloc)))
 }
 
+/// The name of who brings a token, or the empty text for nobody.
+fn bearer<'a>(policy: &'a Policy, token: &str) -> &'a str {
+    match policy.bearer(Some(token.as_bytes())) {
+        Some(user) => user.as_str(),
+        None => NONE,
+    }
+}
+
 #[test]
-fn changes_are_made_or_refused_in_order(rt: HostRuntime) -> Result<(), Fail> {
+fn changes_of_roles_are_made_or_refused_in_order(rt: HostRuntime) -> Result<(), Fail> {
     let (_, other) = played(rt.alloc(), OF_ROLES)?;
-    assert_eq!(rt; other.as_str(), "");
+    assert_eq!(rt; other.as_str(), NONE);
+    Ok(())
+}
+
+#[test]
+fn changes_of_users_are_made_or_refused_in_order(rt: HostRuntime) -> Result<(), Fail> {
     let (left, other) = played(rt.alloc(), OF_USERS)?;
-    assert_eq!(rt; other.as_str(), "");
+    assert_eq!(rt; other.as_str(), NONE);
     for (token, name) in FOUND {
-        let found = match left.bearer(Some(token.as_bytes())) {
-            Some(user) => user.as_str(),
-            None => "",
-        };
-        assert_eq!(rt; found, *name, "of {token}");
+        assert_eq!(rt; bearer(&left, token), *name, "of {token}");
     }
     Ok(())
+}
+
+/// The role of a number.
+fn numbered(alloc: Global, number: u32) -> Result<Role, Fail> {
+    let name = format!(in alloc; "role {number}")?;
+    role_over(alloc, name.as_str(), ResourceKind::Pools)
 }
 
 /// A policy of so many roles beside the default ones.
 fn crowded(alloc: Global, roles: u32) -> Result<Policy, Fail> {
     let mut draft = PolicyDraft::new(alloc)?;
     for number in 0..roles {
-        let name = format!(in alloc; "role {number}")?;
-        draft.add_role(role_over(alloc, name.as_str(), ResourceKind::Pools)?)?;
+        draft.add_role(numbered(alloc, number)?)?;
     }
-    draft.add_user(alloc, user(alloc, "adam", "admin", ["Admin"].as_slice())?)?;
+    draft.add_user(alloc, user(alloc, ADAM, ADAMS, [ADMIN].as_slice())?)?;
     Ok(draft.finish(alloc)?)
 }
+
+/// What is told where there is room for one role more.
+const CROWDED: &[(Step, &str)] = &[
+    (Step::AddRole(LAST, &[]), DONE),
+    (Step::AddRole(MORE, &[]), TOO_MANY),
+    (Step::AddRole(LAST, &[]), EXISTS),
+    (Step::SetRole(LAST, &[(CAN_READ, DAGS)]), DONE),
+    (Step::DropRole(ROLE_7), DONE),
+    (Step::AddRole(MORE, &[]), DONE),
+];
 
 #[test]
 fn a_policy_has_4096_roles_at_most(rt: HostRuntime) -> Result<(), Fail> {
     let alloc = rt.alloc();
     let mut left = crowded(alloc, 4090)?;
-    for (step, wanted) in [
-        (Step::AddRole("last", &[]), "ok"),
-        (Step::AddRole("more", &[]), "too many"),
-        (Step::AddRole("last", &[]), "exists"),
-        (Step::SetRole("last", &[("can_read", "DAGs")]), "ok"),
-        (Step::DropRole("role 7"), "ok"),
-        (Step::AddRole("more", &[]), "ok"),
-    ] {
-        let (later, told) = after(alloc, &left, step)?;
+    for (step, wanted) in CROWDED {
+        let (later, told) = after(alloc, &left, *step)?;
         left = later;
-        assert_eq!(rt; told.as_str(), wanted);
+        assert_eq!(rt; told.as_str(), *wanted);
     }
     Ok(())
 }

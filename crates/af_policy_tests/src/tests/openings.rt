@@ -1,3 +1,7 @@
+use crate::tests::words::{
+    ADAM, ADAMS, ADMIN, B, BOB, BOBS, EDIT_B, EDNA, EDNAS, NO_SUCH_PERMISSION, ONLY_B, PAT, PATS,
+    PUBLIC, VERA, VERAS, VIEWER,
+};
 use af_names::{DagId, RoleName, UserName};
 use af_policy::{Policy, PolicyDraft, User};
 use af_role::{Action, Pair, Permissions, Resource, ResourceKind, Role};
@@ -5,74 +9,81 @@ use std::alloc::Global;
 use std::test::Fail;
 
 /// The SHA-256 of `admin`.
-const ADMIN: [u8; 32] = [
+const OF_ADAM: [u8; 32] = [
     0x8c, 0x69, 0x76, 0xe5, 0xb5, 0x41, 0x04, 0x15, 0xbd, 0xe9, 0x08, 0xbd, 0x4d, 0xee, 0x15, 0xdf,
     0xb1, 0x67, 0xa9, 0xc8, 0x73, 0xfc, 0x4b, 0xb8, 0xa8, 0x1f, 0x6f, 0x2a, 0xb4, 0x48, 0xa9, 0x18,
 ];
 
 /// The SHA-256 of `test`.
-const TEST: [u8; 32] = [
+const OF_VERA: [u8; 32] = [
     0x9f, 0x86, 0xd0, 0x81, 0x88, 0x4c, 0x7d, 0x65, 0x9a, 0x2f, 0xea, 0xa0, 0xc5, 0x5a, 0xd0, 0x15,
     0xa3, 0xbf, 0x4f, 0x1b, 0x2b, 0x0b, 0x82, 0x2c, 0xd1, 0x5d, 0x6c, 0x15, 0xb0, 0xf0, 0x0a, 0x08,
 ];
 
 /// The SHA-256 of `foo`.
-const FOO: [u8; 32] = [
+const OF_BOB: [u8; 32] = [
     0x2c, 0x26, 0xb4, 0x6b, 0x68, 0xff, 0xc6, 0x8f, 0xf9, 0x9b, 0x45, 0x3c, 0x1d, 0x30, 0x41, 0x34,
     0x13, 0x42, 0x2d, 0x70, 0x64, 0x83, 0xbf, 0xa0, 0xf9, 0x8a, 0x5e, 0x88, 0x62, 0x66, 0xe7, 0xae,
 ];
 
 /// The SHA-256 of `bar`.
-const BAR: [u8; 32] = [
+const OF_PAT: [u8; 32] = [
     0xfc, 0xde, 0x2b, 0x2e, 0xdb, 0xa5, 0x6b, 0xf4, 0x08, 0x60, 0x1f, 0xb7, 0x21, 0xfe, 0x9b, 0x5c,
     0x33, 0x8d, 0x10, 0xee, 0x42, 0x9e, 0xa0, 0x4f, 0xae, 0x55, 0x11, 0xb6, 0x8f, 0xbf, 0x8f, 0xb9,
 ];
 
 /// The SHA-256 of `hello`.
-const HELLO: [u8; 32] = [
+const OF_EDNA: [u8; 32] = [
     0x2c, 0xf2, 0x4d, 0xba, 0x5f, 0xb0, 0xa3, 0x0e, 0x26, 0xe8, 0x3b, 0x2a, 0xc5, 0xb9, 0xe2, 0x9e,
     0x1b, 0x16, 0x1e, 0x5c, 0x1f, 0xa7, 0x42, 0x5e, 0x73, 0x04, 0x33, 0x62, 0x93, 0x8b, 0x98, 0x24,
 ];
 
 /// A digest that is nobody's.
-const NEW: [u8; 32] = [7; 32];
+const OF_NOBODY: [u8; 32] = [7; 32];
 
-/// The digest of a token, as the standard gives it; of any other text one that is nobody's.
+/// Tokens, and their digests as the standard gives them.
+const DIGESTS: &[(&str, [u8; 32])] = &[
+    (ADAMS, OF_ADAM),
+    (VERAS, OF_VERA),
+    (BOBS, OF_BOB),
+    (PATS, OF_PAT),
+    (EDNAS, OF_EDNA),
+];
+
+/// The digest of a token; of any other text one that is nobody's.
 pub fn digest_of(token: &str) -> [u8; 32] {
-    match token {
-        "admin" => ADMIN,
-        "test" => TEST,
-        "foo" => FOO,
-        "bar" => BAR,
-        "hello" => HELLO,
-        _ => NEW,
+    for (text, digest) in DIGESTS {
+        if *text == token {
+            return *digest;
+        }
     }
+    OF_NOBODY
 }
 
 /// The users: a name, a token, and roles. They stand in another order than that of their names.
 const USERS: &[(&str, &str, &[&str])] = &[
-    ("vera", "test", &["Viewer"]),
-    ("bob", "foo", &["OnlyB"]),
-    ("adam", "admin", &["Admin"]),
-    ("pat", "bar", &["Public"]),
-    ("edna", "hello", &["Viewer", "EditB"]),
+    (VERA, VERAS, &[VIEWER]),
+    (BOB, BOBS, &[ONLY_B]),
+    (ADAM, ADAMS, &[ADMIN]),
+    (PAT, PATS, &[PUBLIC]),
+    (EDNA, EDNAS, &[VIEWER, EDIT_B]),
 ];
 
 /// The roles beside the default ones: a name, and actions on the DAG b.
-const ROLES: &[(&str, Action)] = &[("OnlyB", Action::Read), ("EditB", Action::Edit)];
+const ROLES: &[(&str, Action)] = &[(ONLY_B, Action::Read), (EDIT_B, Action::Edit)];
 
 /// The role of this name with one action on one DAG.
 pub fn role_on(alloc: Global, name: &str, action: Action, dag: &str) -> Result<Role, Fail> {
     let mut permissions = Permissions::new(alloc);
     let dag = DagId::parse(alloc, dag)?;
-    permissions.add(Pair::new(action, Resource::Dag(dag)).ok_or("no such permission")?)?;
+    permissions.add(Pair::new(action, Resource::Dag(dag)).ok_or(NO_SUCH_PERMISSION)?)?;
     Ok(Role::new(RoleName::parse(alloc, name)?, permissions))
 }
 
 /// The role of this name with one action on a whole kind.
 pub fn role_over(alloc: Global, name: &str, kind: ResourceKind) -> Result<Role, Fail> {
     let mut permissions = Permissions::new(alloc);
-    permissions.add(Pair::new(Action::Read, Resource::Kind(kind)).ok_or("no such permission")?)?;
+    permissions.add(Pair::new(Action::Read, Resource::Kind(kind)).ok_or(NO_SUCH_PERMISSION)?)?;
     Ok(Role::new(RoleName::parse(alloc, name)?, permissions))
 }
 
@@ -95,7 +106,7 @@ pub fn user(alloc: Global, name: &str, token: &str, roles: &[&str]) -> Result<Us
 pub fn policy(alloc: Global) -> Result<Policy, Fail> {
     let mut draft = PolicyDraft::new(alloc)?;
     for (name, action) in ROLES {
-        draft.add_role(role_on(alloc, name, *action, "b")?)?;
+        draft.add_role(role_on(alloc, name, *action, B)?)?;
     }
     for (name, token, roles) in USERS {
         draft.add_user(alloc, user(alloc, name, token, roles)?)?;

@@ -1,6 +1,12 @@
 //! Who is told what of a policy: one's own permissions, roles and users, or why not.
 use crate::tests::openings::policy;
 use crate::tests::steps::{Step, change_of};
+use crate::tests::words::{
+    ABSENT, ADAMS, BAD, BLANK, BOB, BOB_CHANGED, BOB_SELF, BOBS, CLOSE, COLON, COMMA, DENIED, EDNA,
+    EDNA_SELF, EDNA_SHOWN, EDNAS, FIRST_USER, LAST_ROLE, NO_SUCH_ANSWER, NO_SUCH_ROLE,
+    NO_SUCH_USER, NO_USER, NOBODY, ONLY_B, ONLY_B_SHOWN, OPEN, PAT_SELF, PATS, PUBLIC,
+    PUBLIC_SHOWN, SEMICOLON, STRANGERS, THIRD_TO_FIFTH, TWO_ROLES, UNAUTHENTICATED, VERAS,
+};
 use af_names::{RoleName, UserName};
 use af_policy::{
     Ask, BadInput, Me, MeFault, Page, Parameter, PolicyRead, PolicyReply, ReadFault, ReadKind,
@@ -25,38 +31,31 @@ enum Asked {
 
 /// A token, what its bearer asks for, and what is told: names, roles of a user in parentheses, how many there are in all.
 const READS: &[(&str, Asked, &str)] = &[
-    ("nope", Asked::BadRoles, "unauthenticated"),
-    ("test", Asked::BadRoles, "denied"),
-    ("test", Asked::Role("Nobody"), "denied"),
-    ("hello", Asked::User("nobody"), "denied"),
-    ("admin", Asked::BadRoles, "bad"),
-    ("admin", Asked::Role("Nobody"), "no such role"),
-    ("admin", Asked::User("nobody"), "no such user"),
-    ("admin", Asked::Role("OnlyB"), "OnlyB: DAG:b.can_read,"),
-    ("admin", Asked::Role("Public"), "Public: "),
-    ("admin", Asked::User("edna"), "edna(EditB,Viewer,)"),
-    ("admin", Asked::Users(1, 0), "adam(Admin,) of 5"),
-    (
-        "admin",
-        Asked::Users(100, 2),
-        "edna(EditB,Viewer,)pat(Public,)vera(Viewer,) of 5",
-    ),
-    ("admin", Asked::Users(0, 0), " of 5"),
-    ("admin", Asked::Users(100, 5), " of 5"),
-    ("admin", Asked::Users(4294967295, 4294967295), " of 5"),
-    ("admin", Asked::Roles(2, 1), "EditB;OnlyB; of 7"),
-    ("admin", Asked::Roles(100, 6), "Viewer; of 7"),
+    (STRANGERS, Asked::BadRoles, UNAUTHENTICATED),
+    (VERAS, Asked::BadRoles, DENIED),
+    (VERAS, Asked::Role(ABSENT), DENIED),
+    (EDNAS, Asked::User(NOBODY), DENIED),
+    (ADAMS, Asked::BadRoles, BAD),
+    (ADAMS, Asked::Role(ABSENT), NO_SUCH_ROLE),
+    (ADAMS, Asked::User(NOBODY), NO_SUCH_USER),
+    (ADAMS, Asked::Role(ONLY_B), ONLY_B_SHOWN),
+    (ADAMS, Asked::Role(PUBLIC), PUBLIC_SHOWN),
+    (ADAMS, Asked::User(EDNA), EDNA_SHOWN),
+    (ADAMS, Asked::Users(1, 0), FIRST_USER),
+    (ADAMS, Asked::Users(100, 2), THIRD_TO_FIFTH),
+    (ADAMS, Asked::Users(0, 0), NO_USER),
+    (ADAMS, Asked::Users(100, 5), NO_USER),
+    (ADAMS, Asked::Users(4294967295, 4294967295), NO_USER),
+    (ADAMS, Asked::Roles(2, 1), TWO_ROLES),
+    (ADAMS, Asked::Roles(100, 6), LAST_ROLE),
 ];
 
 /// A token, and who its bearer is: the user with the roles, and the permissions.
 const SELVES: &[(&str, &str)] = &[
-    ("nope", "unauthenticated"),
-    ("foo", "bob(OnlyB,) DAG:b.can_read,"),
-    ("bar", "pat(Public,) "),
-    (
-        "hello",
-        "edna(EditB,Viewer,) DAGs.can_read,DAG Runs.can_read,Task Instances.can_read,DAG:b.can_edit,",
-    ),
+    (STRANGERS, UNAUTHENTICATED),
+    (BOBS, BOB_SELF),
+    (PATS, PAT_SELF),
+    (EDNAS, EDNA_SELF),
 ];
 
 fn read_of(alloc: Global, asked: Asked) -> Result<PolicyRead, Fail> {
@@ -78,12 +77,12 @@ fn permissions(alloc: Global, text: &mut String, permissions: &Permissions) -> R
 
 fn user(text: &mut String, user: &UserShown<'_>) -> Result<(), Fail> {
     text.push_str(user.name().as_str())?;
-    text.push_str("(")?;
+    text.push_str(OPEN)?;
     for role in user.roles() {
         text.push_str(role.as_str())?;
-        text.push_str(",")?;
+        text.push_str(COMMA)?;
     }
-    text.push_str(")")?;
+    text.push_str(CLOSE)?;
     Ok(())
 }
 
@@ -97,19 +96,19 @@ fn users(text: &mut String, page: &Page<UserShown<'_>>) -> Result<usize, Fail> {
 fn roles(text: &mut String, page: &Page<RoleShown<'_>>) -> Result<usize, Fail> {
     for row in page.rows() {
         text.push_str(row.name().as_str())?;
-        text.push_str(";")?;
+        text.push_str(SEMICOLON)?;
     }
     Ok(page.total())
 }
 
 fn word(fault: ReadFault) -> &'static str {
     match fault {
-        ReadFault::Unauthenticated => "unauthenticated",
-        ReadFault::Denied(_) => "denied",
-        ReadFault::BadBody(_) => "bad",
-        ReadFault::NoSuchRole => "no such role",
-        ReadFault::NoSuchUser => "no such user",
-        _ => "no such answer",
+        ReadFault::Unauthenticated => UNAUTHENTICATED,
+        ReadFault::Denied(_) => DENIED,
+        ReadFault::BadBody(_) => BAD,
+        ReadFault::NoSuchRole => NO_SUCH_ROLE,
+        ReadFault::NoSuchUser => NO_SUCH_USER,
+        _ => NO_SUCH_ANSWER,
     }
 }
 
@@ -120,7 +119,7 @@ fn text_of(alloc: Global, told: &Result<PolicyReply<'_>, ReadFault>) -> Result<S
         Ok(PolicyReply::Users(page)) => users(&mut text, page)?,
         Ok(PolicyReply::Role(role)) => {
             text.push_str(role.name().as_str())?;
-            text.push_str(": ")?;
+            text.push_str(COLON)?;
             permissions(alloc, &mut text, role.permissions())?;
             return Ok(text);
         }
@@ -142,24 +141,39 @@ fn self_of(alloc: Global, told: &Result<Me<'_>, MeFault>) -> Result<String, Fail
     match told {
         Ok(me) => {
             user(&mut text, &me.user)?;
-            text.push_str(" ")?;
+            text.push_str(BLANK)?;
             permissions(alloc, &mut text, &me.permissions)?;
         }
-        Err(MeFault::Unauthenticated) => text.push_str("unauthenticated")?,
-        Err(_) => text.push_str("no such answer")?,
+        Err(MeFault::Unauthenticated) => text.push_str(UNAUTHENTICATED)?,
+        Err(_) => text.push_str(NO_SUCH_ANSWER)?,
     }
     Ok(text)
 }
 
+/// What is told to the bearer of a token, and under which version.
+fn told(
+    alloc: Global,
+    versions: &Versions,
+    token: &str,
+    asked: Asked,
+) -> Result<(u32, String), Fail> {
+    let read = read_of(alloc, asked)?;
+    let told = versions.read(alloc, Some(token.as_bytes()), &read);
+    Ok((told.version, text_of(alloc, &told.answer)?))
+}
+
+/// Who is told to be the bearer of a token, and under which version.
+fn told_self(alloc: Global, versions: &Versions, token: &str) -> Result<(u32, String), Fail> {
+    let told = versions.me(alloc, Some(token.as_bytes()));
+    Ok((told.version, self_of(alloc, &told.answer)?))
+}
+
 #[test]
 fn reads_are_told_or_refused_in_order(rt: HostRuntime) -> Result<(), Fail> {
-    let alloc = rt.alloc();
-    let versions = Versions::open(alloc, policy(alloc)?, 2);
+    let versions = Versions::open(rt.alloc(), policy(rt.alloc())?, 2);
     for (token, asked, wanted) in READS {
-        let read = read_of(alloc, *asked)?;
-        let told = versions.read(alloc, Some(token.as_bytes()), &read);
-        assert_eq!(rt; told.version, 0);
-        let text = text_of(alloc, &told.answer)?;
+        let (version, text) = told(rt.alloc(), &versions, token, *asked)?;
+        assert_eq!(rt; version, 0);
         assert_eq!(rt; text.as_str(), *wanted, "to {token}");
     }
     Ok(())
@@ -167,22 +181,32 @@ fn reads_are_told_or_refused_in_order(rt: HostRuntime) -> Result<(), Fail> {
 
 #[test]
 fn each_is_told_who_it_is(rt: HostRuntime) -> Result<(), Fail> {
-    let alloc = rt.alloc();
-    let mut versions = Versions::open(alloc, policy(alloc)?, 2);
+    let versions = Versions::open(rt.alloc(), policy(rt.alloc())?, 2);
     for (token, wanted) in SELVES {
-        let told = versions.me(alloc, Some(token.as_bytes()));
-        let text = self_of(alloc, &told.answer)?;
+        let (version, text) = told_self(rt.alloc(), &versions, token)?;
+        assert_eq!(rt; version, 0);
         assert_eq!(rt; text.as_str(), *wanted, "to {token}");
     }
-    let ask = Ask::Made(change_of(alloc, Step::SetRoles("bob", &["Public", "OnlyB", "OnlyB"]))?);
-    assert!(rt;
-        versions
-            .submit(alloc, Some(b"admin".as_slice()), &ask)
-            .is_ok()
-    );
-    let told = versions.me(alloc, Some(b"foo".as_slice()));
-    assert_eq!(rt; told.version, 1);
-    let text = self_of(alloc, &told.answer)?;
-    assert_eq!(rt; text.as_str(), "bob(OnlyB,OnlyB,Public,) DAG:b.can_read,");
+    Ok(())
+}
+
+/// The versions where bob has a further role, and one twice.
+fn changed(alloc: Global) -> Result<Versions, Fail> {
+    let mut versions = Versions::open(alloc, policy(alloc)?, 2);
+    let ask = Ask::Made(change_of(alloc, Step::SetRoles(BOB, MORE_ROLES))?);
+    match versions.submit(alloc, Some(ADAMS.as_bytes()), &ask) {
+        Ok(_) => Ok(versions),
+        Err(_) => Err(Fail::new("an Admin may not change a user")),
+    }
+}
+
+const MORE_ROLES: &[&str] = &[PUBLIC, ONLY_B, ONLY_B];
+
+#[test]
+fn a_changed_user_is_told_under_the_next_version(rt: HostRuntime) -> Result<(), Fail> {
+    let versions = changed(rt.alloc())?;
+    let (version, text) = told_self(rt.alloc(), &versions, BOBS)?;
+    assert_eq!(rt; version, 1);
+    assert_eq!(rt; text.as_str(), BOB_CHANGED);
     Ok(())
 }

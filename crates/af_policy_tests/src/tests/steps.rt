@@ -1,4 +1,8 @@
 use crate::tests::openings::{digest_of, names, user};
+use crate::tests::words::{
+    A_TEXT, B, DEFAULT_ROLE, DONE, EXISTS, LAST_ADMIN, NO_SUCH_ROLE, NO_SUCH_USER, NOBODY,
+    OUT_OF_MEMORY, ROLE_IN_USE, TOO_MANY,
+};
 use af_names::{DagId, RoleName, UserName};
 use af_policy::{Change, ChangeFault, DagAccess, Policy, RoleInput, RoleNames, UserPatch};
 use af_role::{AccessControl, AccessRow, PairText, PairTexts, Text, Texts};
@@ -82,7 +86,7 @@ fn access(alloc: Global, rows: &[(&str, &[&str])]) -> Result<AccessControl, Fail
 }
 
 fn sync(alloc: Global, access: Option<AccessControl>) -> Result<Change, Fail> {
-    let dag = DagId::parse(alloc, "b")?;
+    let dag = DagId::parse(alloc, B)?;
     Ok(Change::SyncDag(DagAccess { dag, access }))
 }
 
@@ -106,7 +110,7 @@ fn change_of_user(alloc: Global, step: Step) -> Result<Change, Fail> {
         Step::SetToken(name, token) => patch(alloc, name, Some(token), None),
         Step::SetBoth(name, token, roles) => patch(alloc, name, Some(token), Some(roles)),
         Step::DropUser(name) => Ok(Change::DropUser(UserName::parse(alloc, name)?)),
-        _ => patch(alloc, "nobody", None, None),
+        _ => patch(alloc, NOBODY, None, None),
     }
 }
 
@@ -130,15 +134,15 @@ pub fn told(alloc: Global, fault: &ChangeFault) -> Result<String, Fail> {
 /// A fault that names no text.
 fn word(fault: &ChangeFault) -> &'static str {
     match fault {
-        ChangeFault::NoSuchRole => "no such role",
-        ChangeFault::NoSuchUser => "no such user",
-        ChangeFault::DefaultRole => "default role",
-        ChangeFault::Exists => "exists",
-        ChangeFault::RoleInUse => "role in use",
-        ChangeFault::LastAdmin => "last admin",
-        ChangeFault::TooMany => "too many",
-        ChangeFault::OutOfMemory => "out of memory",
-        _ => "a text",
+        ChangeFault::NoSuchRole => NO_SUCH_ROLE,
+        ChangeFault::NoSuchUser => NO_SUCH_USER,
+        ChangeFault::DefaultRole => DEFAULT_ROLE,
+        ChangeFault::Exists => EXISTS,
+        ChangeFault::RoleInUse => ROLE_IN_USE,
+        ChangeFault::LastAdmin => LAST_ADMIN,
+        ChangeFault::TooMany => TOO_MANY,
+        ChangeFault::OutOfMemory => OUT_OF_MEMORY,
+        _ => A_TEXT,
     }
 }
 
@@ -146,7 +150,7 @@ fn word(fault: &ChangeFault) -> &'static str {
 pub fn after(alloc: Global, before: &Policy, step: Step) -> Result<(Policy, String), Fail> {
     let change = change_of(alloc, step)?.copy(alloc)?;
     match before.changed(alloc, &change) {
-        Ok(later) => Ok((later, String::from_str(alloc, "ok")?)),
+        Ok(later) => Ok((later, String::from_str(alloc, DONE)?)),
         Err(fault) => Ok((before.copy()?, told(alloc, &fault)?)),
     }
 }

@@ -38,37 +38,66 @@ fn words(alloc: Global, falling: bool) -> Result<Table<Word>, AllocError> {
     Ok(table)
 }
 
+const TAKEN: [u8; 2] = [3, 7];
+
+const BESIDE: [u8; 2] = [3, 8];
+
+const ADDED: [u8; 2] = [255, 0];
+
+const ABSENT: [u8; 2] = [200, 1];
+
+/// How many words a table has, and whether it has the one that is taken out, the one beside it, and the one that is added.
+fn shown(table: &Table<Word>) -> (usize, bool, bool, bool) {
+    let taken = table.has(TAKEN.as_slice());
+    let beside = table.has(BESIDE.as_slice());
+    (table.len(), taken, beside, table.has(ADDED.as_slice()))
+}
+
+/// A table without the word that is taken out, and that table with the one that is added.
+fn changed(alloc: Global, old: &Table<Word>) -> Result<(Table<Word>, Table<Word>), AllocError> {
+    let less = old.without(alloc, TAKEN.as_slice())?;
+    let more = less.with(alloc, Word { bytes: ADDED })?;
+    Ok((less, more))
+}
+
 #[test]
 fn a_change_leaves_the_older_version(rt: HostRuntime) -> Result<(), Fail> {
-    let alloc = rt.alloc();
     for falling in [false, true] {
-        let old = words(alloc, falling)?;
-        assert_eq!(&rt; old.len(), 4096);
-        let less = old.without(alloc, [3, 7].as_slice())?;
-        let more = less.with(alloc, Word { bytes: [255, 0] })?;
-        assert_eq!(&rt; old.len(), 4096);
-        assert!(&rt; old.has([3, 7].as_slice()));
-        assert_eq!(&rt; less.len(), 4095);
-        assert!(&rt; !less.has([3, 7].as_slice()));
-        assert!(&rt; less.has([3, 8].as_slice()));
-        assert!(&rt; !less.has([255, 0].as_slice()));
-        assert!(&rt; more.has([255, 0].as_slice()));
-        assert_eq!(&rt; more.rows(alloc)?.len(), 4096);
-        let absent = more.without(alloc, [200, 1].as_slice())?;
-        assert_eq!(&rt; absent.len(), 4096);
+        let old = words(rt.alloc(), falling)?;
+        assert_eq!(&rt; shown(&old), (4096, true, true, false));
+        let (less, more) = changed(rt.alloc(), &old)?;
+        assert_eq!(&rt; shown(&old), (4096, true, true, false));
+        assert_eq!(&rt; shown(&less), (4095, false, true, false));
+        assert_eq!(&rt; shown(&more), (4096, false, true, true));
+    }
+    Ok(())
+}
+
+#[test]
+fn all_words_are_listed(rt: HostRuntime) -> Result<(), Fail> {
+    for falling in [false, true] {
+        let table = words(rt.alloc(), falling)?;
+        assert_eq!(&rt; table.rows(rt.alloc())?.len(), 4096);
+        let same = table.without(rt.alloc(), ABSENT.as_slice())?;
+        assert_eq!(&rt; same.len(), 4096);
+    }
+    Ok(())
+}
+
+/// Takes the lower half of the words out.
+fn halve(alloc: Global, table: &mut Table<Word>) -> Result<(), AllocError> {
+    for k in 0..2048u16 {
+        table.remove(alloc, k.to_be_bytes().as_slice())?;
     }
     Ok(())
 }
 
 #[test]
 fn a_search_is_short(rt: HostRuntime) -> Result<(), Fail> {
-    let alloc = rt.alloc();
     for falling in [false, true] {
-        let mut table = words(alloc, falling)?;
+        let mut table = words(rt.alloc(), falling)?;
         assert!(&rt; table.height() <= 18);
-        for k in 0..2048u16 {
-            table.remove(alloc, k.to_be_bytes().as_slice())?;
-        }
+        halve(rt.alloc(), &mut table)?;
         assert_eq!(&rt; table.len(), 2048);
         assert!(&rt; table.height() <= 16);
     }

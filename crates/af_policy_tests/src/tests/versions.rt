@@ -1,6 +1,11 @@
 //! Changes that users ask for, one after the other: which version each makes, or why it makes none.
 use crate::tests::openings::policy;
 use crate::tests::steps::{Step, change_of, told};
+use crate::tests::words::{
+    ADAM, ADAMS, ADMIN, BAD_BODY, DEFAULT_ROLE, DENIED, EDIT_B, EDNA, EDNAS, EXISTS, FULL,
+    LAST_ADMIN, NO_SUCH_ANSWER, NOBODY, ONLY_B, OP, OUT_OF_MEMORY, PATS, PUBLIC, ROLE_IN_USE,
+    STRANGERS, UNAUTHENTICATED, VERA, VERAS, VERSION_1, VERSION_2, VERSION_3, VIEWER,
+};
 use af_policy::{Ask, BadInput, ChangeKind, SubmitFault, Versions};
 use std::alloc::Global;
 use std::test::Fail;
@@ -16,25 +21,21 @@ enum Asked {
 
 /// A token, what its bearer asks for, and what is told; two versions are left.
 const ASKED: &[(&str, Asked, &str)] = &[
-    ("nope", Asked::Badly(ChangeKind::AddRole), "unauthenticated"),
-    ("test", Asked::Badly(ChangeKind::AddRole), "denied"),
-    ("bar", Asked::For(Step::DropUser("nobody")), "denied"),
-    ("admin", Asked::Badly(ChangeKind::SyncDag), "bad body"),
-    ("admin", Asked::For(Step::AddRole("Op", &[])), "exists"),
-    ("admin", Asked::For(Step::Unlisted), "version 1"),
-    ("admin", Asked::For(Step::DropUser("vera")), "version 2"),
     (
-        "test",
-        Asked::For(Step::DropRole("EditB")),
-        "unauthenticated",
+        STRANGERS,
+        Asked::Badly(ChangeKind::AddRole),
+        UNAUTHENTICATED,
     ),
-    ("hello", Asked::For(Step::Unlisted), "denied"),
-    (
-        "admin",
-        Asked::For(Step::DropRole("Viewer")),
-        "default role",
-    ),
-    ("admin", Asked::For(Step::Unlisted), "full"),
+    (VERAS, Asked::Badly(ChangeKind::AddRole), DENIED),
+    (PATS, Asked::For(Step::DropUser(NOBODY)), DENIED),
+    (ADAMS, Asked::Badly(ChangeKind::SyncDag), BAD_BODY),
+    (ADAMS, Asked::For(Step::AddRole(OP, &[])), EXISTS),
+    (ADAMS, Asked::For(Step::Unlisted), VERSION_1),
+    (ADAMS, Asked::For(Step::DropUser(VERA)), VERSION_2),
+    (VERAS, Asked::For(Step::DropRole(EDIT_B)), UNAUTHENTICATED),
+    (EDNAS, Asked::For(Step::Unlisted), DENIED),
+    (ADAMS, Asked::For(Step::DropRole(VIEWER)), DEFAULT_ROLE),
+    (ADAMS, Asked::For(Step::Unlisted), FULL),
 ];
 
 fn ask_of(alloc: Global, asked: Asked) -> Result<Ask, Fail> {
@@ -54,57 +55,86 @@ fn outcome(alloc: Global, outcome: &Result<u32, SubmitFault>) -> Result<String, 
 
 fn word(fault: &SubmitFault) -> &'static str {
     match fault {
-        SubmitFault::Unauthenticated => "unauthenticated",
-        SubmitFault::Denied(_) => "denied",
-        SubmitFault::BadBody(_) => "bad body",
-        SubmitFault::Full => "full",
-        SubmitFault::OutOfMemory => "out of memory",
-        _ => "no such answer",
+        SubmitFault::Unauthenticated => UNAUTHENTICATED,
+        SubmitFault::Denied(_) => DENIED,
+        SubmitFault::BadBody(_) => BAD_BODY,
+        SubmitFault::Full => FULL,
+        SubmitFault::OutOfMemory => OUT_OF_MEMORY,
+        _ => NO_SUCH_ANSWER,
     }
+}
+
+/// What is told of what the bearer of a token asks for.
+fn asked_for(
+    alloc: Global,
+    versions: &mut Versions,
+    token: &str,
+    asked: Asked,
+) -> Result<String, Fail> {
+    let ask = ask_of(alloc, asked)?;
+    let made = versions.submit(alloc, Some(token.as_bytes()), &ask);
+    outcome(alloc, &made)
+}
+
+/// The versions after all that is asked for.
+fn played(alloc: Global) -> Result<Versions, Fail> {
+    let mut versions = Versions::open(alloc, policy(alloc)?, 2);
+    for (token, asked, _) in ASKED {
+        asked_for(alloc, &mut versions, token, *asked)?;
+    }
+    Ok(versions)
 }
 
 #[test]
 fn versions_are_made_by_who_may_make_them(rt: HostRuntime) -> Result<(), Fail> {
-    let alloc = rt.alloc();
-    let mut versions = Versions::open(alloc, policy(alloc)?, 2);
+    let mut versions = Versions::open(rt.alloc(), policy(rt.alloc())?, 2);
     for (token, asked, wanted) in ASKED {
-        let ask = ask_of(alloc, *asked)?;
-        let made = versions.submit(alloc, Some(token.as_bytes()), &ask);
-        let told = outcome(alloc, &made)?;
+        let told = asked_for(rt.alloc(), &mut versions, token, *asked)?;
         assert_eq!(rt; told.as_str(), *wanted, "for {token}");
     }
     assert_eq!(rt; versions.current(), 2);
-    assert!(rt; versions.policy(3).is_none());
-    for (version, known) in [(0, true), (1, true), (2, false)] {
-        let found = match versions.policy(version) {
-            Some(policy) => policy.bearer(Some(b"test".as_slice())).is_some(),
-            None => !known,
-        };
-        assert_eq!(rt; found, known, "under version {version}");
+    Ok(())
+}
+
+/// A version, and whether vera is known under it.
+const KNOWN: &[(u32, bool)] = &[(0, true), (1, true), (2, false)];
+
+/// Whether vera is known under a version; none past the latest.
+fn knows_vera(versions: &Versions, version: u32) -> Option<bool> {
+    match versions.policy(version) {
+        Some(policy) => Some(policy.bearer(Some(VERAS.as_bytes())).is_some()),
+        None => None,
     }
+}
+
+#[test]
+fn earlier_versions_stay(rt: HostRuntime) -> Result<(), Fail> {
+    let versions = played(rt.alloc())?;
+    for (version, known) in KNOWN {
+        let found = knows_vera(&versions, *version);
+        assert_eq!(rt; found, Some(*known), "under version {version}");
+    }
+    assert!(rt; versions.policy(3).is_none());
     Ok(())
 }
 
 /// Rows of the last Admin: a token, a change, and what is told, with one version left more than they make.
 const ADMINS: &[(&str, Step, &str)] = &[
-    ("admin", Step::DropRole("OnlyB"), "role in use"),
-    ("admin", Step::SetRole("Viewer", &[]), "default role"),
-    ("admin", Step::SetRoles("edna", &["Admin"]), "version 1"),
-    ("admin", Step::DropUser("adam"), "version 2"),
-    ("admin", Step::DropUser("edna"), "unauthenticated"),
-    ("hello", Step::DropUser("edna"), "last admin"),
-    ("hello", Step::SetRoles("edna", &["Op"]), "last admin"),
-    ("hello", Step::SetRoles("vera", &["Public"]), "version 3"),
+    (ADAMS, Step::DropRole(ONLY_B), ROLE_IN_USE),
+    (ADAMS, Step::SetRole(VIEWER, &[]), DEFAULT_ROLE),
+    (ADAMS, Step::SetRoles(EDNA, &[ADMIN]), VERSION_1),
+    (ADAMS, Step::DropUser(ADAM), VERSION_2),
+    (ADAMS, Step::DropUser(EDNA), UNAUTHENTICATED),
+    (EDNAS, Step::DropUser(EDNA), LAST_ADMIN),
+    (EDNAS, Step::SetRoles(EDNA, &[OP]), LAST_ADMIN),
+    (EDNAS, Step::SetRoles(VERA, &[PUBLIC]), VERSION_3),
 ];
 
 #[test]
 fn the_last_admin_stays(rt: HostRuntime) -> Result<(), Fail> {
-    let alloc = rt.alloc();
-    let mut versions = Versions::open(alloc, policy(alloc)?, 4);
+    let mut versions = Versions::open(rt.alloc(), policy(rt.alloc())?, 4);
     for (token, step, wanted) in ADMINS {
-        let ask = Ask::Made(change_of(alloc, *step)?);
-        let made = versions.submit(alloc, Some(token.as_bytes()), &ask);
-        let told = outcome(alloc, &made)?;
+        let told = asked_for(rt.alloc(), &mut versions, token, Asked::For(*step))?;
         assert_eq!(rt; told.as_str(), *wanted, "for {token}");
     }
     assert_eq!(rt; versions.current(), 3);
