@@ -1,7 +1,8 @@
 ghost use Rattle.std.specs.Prelude.{◌≡◌, IfOk};
 
+use af_graph::TaskIds;
 use af_names::{DagId, RunId};
-use af_ops::{BodyFault, Op, Trigger};
+use af_ops::{BodyFault, Clear, Op, Trigger};
 use std::alloc::{AllocError, Global};
 
 /// The same operation again. `AllocError` only where a growth was refused.
@@ -26,6 +27,18 @@ pub(crate) fn copied(alloc: Global, op: &Op) -> Result<Op, AllocError>
         Op::MarkRun(dag_id, run_id, input) => {
             let (dag_id, run_id) = copied_ids(alloc, dag_id, run_id)?;
             Ok(Op::MarkRun(dag_id, run_id, *input))
+        }
+        Op::DeleteRun(dag_id, run_id) => {
+            let (dag_id, run_id) = copied_ids(alloc, dag_id, run_id)?;
+            Ok(Op::DeleteRun(dag_id, run_id))
+        }
+        Op::ClearRun(dag_id, run_id, input) => {
+            let (dag_id, run_id) = copied_ids(alloc, dag_id, run_id)?;
+            Ok(Op::ClearRun(dag_id, run_id, *input))
+        }
+        Op::ClearInstances(dag_id, input) => {
+            let dag_id = dag_id.copied(alloc)?;
+            Ok(Op::ClearInstances(dag_id, copied_clear(alloc, input)?))
         }
         Op::ListInstances(dag_id, run_id) => {
             let (dag_id, run_id) = copied_ids(alloc, dag_id, run_id)?;
@@ -89,5 +102,44 @@ fn copied_run(alloc: Global, run: &Option<RunId>) -> Result<Option<RunId>, Alloc
     match run {
         None => Ok(None),
         Some(run_id) => Ok(Some(run_id.copied(alloc)?)),
+    }
+}
+
+/// What was read of a body that clears instances, again.
+fn copied_clear(
+    alloc: Global,
+    input: &Result<Clear, BodyFault>,
+) -> Result<Result<Clear, BodyFault>, AllocError>
+    ensures { IfOk result (λ copy. copy ≡ input.now) }
+{
+    match input {
+        Ok(asked) => Ok(Ok(copied_asked(alloc, asked)?)),
+        Err(fault) => Ok(Err(*fault)),
+    }
+}
+
+/// The same clear again.
+fn copied_asked(alloc: Global, asked: &Clear) -> Result<Clear, AllocError>
+    ensures { IfOk result (λ copy. copy ≡ asked.now) }
+{
+    let task_ids = copied_tasks(alloc, &asked.task_ids)?;
+    let dag_run_id = copied_run(alloc, &asked.dag_run_id)?;
+    Ok(Clear {
+        dry_run: asked.dry_run,
+        only_failed: asked.only_failed,
+        task_ids,
+        dag_run_id,
+        start_date: asked.start_date,
+        end_date: asked.end_date,
+    })
+}
+
+/// The same list of tasks' ids again, if there is one.
+fn copied_tasks(alloc: Global, task_ids: &Option<TaskIds>) -> Result<Option<TaskIds>, AllocError>
+    ensures { IfOk result (λ copy. copy ≡ task_ids.now) }
+{
+    match task_ids {
+        None => Ok(None),
+        Some(task_ids) => Ok(Some(task_ids.copied(alloc)?)),
     }
 }
