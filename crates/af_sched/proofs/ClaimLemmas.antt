@@ -8,7 +8,7 @@ use Rattle.std.specs.declared.cmp.Ordering.TheVariants.{Less, Equal, Greater}
 use Rattle.std.proofs.lemmas.Bool.{true≢false}
 use Rattle.af_runs.specs.Runs.{AreRuns, with_instance}
 use Rattle.af_sched.specs.Choosing.{same_seat}
-use Rattle.af_sched.specs.Claims.{Claims, claim_of, claimed_instance}
+use Rattle.af_sched.specs.Claims.{Claims, IsNextClaim, claim_of, claimed_instance}
 use Rattle.af_sched.specs.Laws.{IsClaim}
 use Rattle.af_sched.specs.Placed.{Placed, placed_cmp, placed_in}
 use Rattle.af_sched.specs.State.{StateRows}
@@ -53,3 +53,10 @@ claim_is_one t old one other None (Some second) are a b = absurd (true≢false (
 claim_is_one t old one other (Some first) None are a b = absurd (true≢false (sym a.is_first.passes ∙ b.none a.first a.is_first.member))
 claim_is_one t old one other (Some first) (Some second) are a b =
     let both = claims_are_one t old one other first second are a b in (both.0, ap Some both.1)
+
+-- where something is told, the state after the claim is the one that it gives
+pub next_is_told : (t : ℕ) (old new : StateRows) (next told : Option Claim) → AreRuns old.runs old.next_run → IsNextClaim old next → IsClaim t old new told → next ≡ told
+next_is_told t old new None told are next is = (claim_is_one t old old new None told are (record { none = next; state = refl }) is).1
+next_is_told t old new (Some claim) told are next is =
+    let after : StateRows = record old { runs = with_instance old.runs next.first.run.number next.first.place (claimed_instance t next.first.instance) } in
+    (claim_is_one t old after new (Some claim) told are (record { first = next.first; is_first = next.is_first; told = next.told; state = refl }) is).1

@@ -1,15 +1,17 @@
 -- What a search for the id of a DAG found, and what is changed there.
-use Rattle.std.proofs.Common.{◌≡◌, ◌∙◌, ℕ, List, [], ◌∷◌, Bool, true, false, cond, ◌||◌, ◌==◌, map, length, get_or, set, ap, refl}
+use Rattle.std.proofs.Common.{◌≡◌, ◌∙◌, ℕ, List, [], ◌∷◌, ◌<◌, Bool, true, false, cond, ◌||◌, ◌==◌, map, length, get_or, set, sym, ap, refl}
 use Rattle.std.specs.Prelude.{find, nat_le, not, Option, None, Some, Result, Ok, Err, MatchResult}
 use Rattle.std.specs.List.{list_any}
 use Rattle.std.specs.Option.{option_map_or}
 use Rattle.std.specs.List.Sorted.{IsSearchInRange, IsBinarySearchResult}
 use Rattle.std.specs.Ordering.{nat_cmp, is_eq}
 use Rattle.std.specs.Cmp.Lexicographic.{slice_cmp, nat_list_cmp_total, texts_ties}
-use Rattle.std.proofs.lemmas.Bool.{true≢false}
+use Rattle.std.proofs.lemmas.Bool.{true≢false, false≢true}
+use Rattle.std.specs.declared.cmp.Ordering.{Ordering}
+use Rattle.std.specs.declared.cmp.Ordering.TheVariants.{Less, Equal, Greater}
 use Rattle.af_names.proofs.OrderLemmas.{find-only, list_any-none, list_any-only, map-only, search_alone, search_none, search_rises}
 use Rattle.af_sched.specs.Steps.{StandsAt}
-use Rattle.af_sched.specs.State.{AreInOrder, FitsAt, StateRows, dag_fault, dag_of, has_dag, has_no_step, have_pools, is_of_id, with_paused}
+use Rattle.af_sched.specs.State.{AreInOrder, FitsAt, StateRows, dag_fault, dag_of, has_dag, has_no_step, have_pools, is_of_id, most_dags, with_paused}
 use Rattle.af_sched.specs.declared.add_dag_fault.AddDagFault.{AddDagFault}
 use Rattle.af_sched.specs.declared.add_dag_fault.AddDagFault.TheVariants.{NoActiveRuns, NoStep, NoSuchPool, Exists, Full}
 use Rattle.af_sched.specs.declared.dag_row.DagRow.{DagRow}
@@ -47,6 +49,23 @@ place_from_search dags dag_id (Err place) in_order within ended =
       parted = parted;
     }
 
+-- ---- what a guess is compared with
+equal_from : (o : Ordering) → is_eq o ≡ true → o ≡ Equal
+equal_from Less e = absurd (false≢true e)
+equal_from Equal e = refl
+equal_from Greater e = absurd (false≢true e)
+
+-- a row of the id stands here alone
+pub stands_here : (dags : List DagRow) (dag_id : List ℕ) (place : ℕ) → AreInOrder dags → place < length dags → ((d : DagRow) → is_of_id dag_id (get_or dags place d) ≡ true) → StandsAt dags dag_id place
+stands_here dags dag_id place in_order within here =
+    let found : (d : DagRow) → slice_cmp nat_cmp (get_or dags place d).dag.dag_id dag_id ≡ Equal =
+    λ d. equal_from (slice_cmp nat_cmp (get_or dags place d).dag.dag_id dag_id) (sym (texts_ties (get_or dags place d).dag.dag_id dag_id) ∙ here d) in
+    record {
+      within = within;
+      here = here;
+      alone = λ other e inside apart. texts_ties (get_or dags other e).dag.dag_id dag_id ∙ search_alone id_of nat_list_cmp_total dag_id dags place in_order within found other e inside apart;
+    }
+
 module _ (dags : List DagRow) (dag_id : List ℕ) (place : ℕ) (stands : StandsAt dags dag_id place) where
   pub dag_of-is : (d : DagRow) → dag_of dags dag_id ≡ Some (get_or dags place d)
   dag_of-is d = find-only (is_of_id dag_id) dags place d stands.within stands.here stands.alone
@@ -70,4 +89,4 @@ exists_by no_runs no_step have has rest first second third fourth = rw (first, s
 
 pub exists_fault : (state : StateRows) (row : DagRow) → (row.dag.max_active_runs == 0) ≡ false → option_map_or (λ schedule. has_no_step schedule.points) row.dag.schedule false ≡ false → have_pools state.pools row.dag.tasks ≡ true → has_dag state.dags row.dag.dag_id ≡ true → dag_fault state row ≡ Some Exists
 exists_fault state row first second third fourth =
-    exists_by (row.dag.max_active_runs == 0) (option_map_or (λ schedule. has_no_step schedule.points) row.dag.schedule false) (have_pools state.pools row.dag.tasks) (has_dag state.dags row.dag.dag_id) (cond (nat_le 1_024 (length state.dags)) (Some Full) None) first second third fourth
+    exists_by (row.dag.max_active_runs == 0) (option_map_or (λ schedule. has_no_step schedule.points) row.dag.schedule false) (have_pools state.pools row.dag.tasks) (has_dag state.dags row.dag.dag_id) (cond (nat_le most_dags (length state.dags)) (Some Full) None) first second third fourth

@@ -17,7 +17,7 @@ use Rattle.af_graph.specs.declared.dag_spec.DagSpec.{DagSpec}
 use Rattle.af_graph.specs.declared.dag_fault.DagFault.{DagFault}
 use Rattle.af_names.proofs.OrderLemmas.{rows_before, rows_after, order-inserted, All-inserted}
 use Rattle.af_sched.proofs.StandingLemmas.{find-absent}
-use Rattle.af_sched.specs.State.{AreRows, IsWhole, dag_of, has_dag, is_of_id, with_dag, FitsAt}
+use Rattle.af_sched.specs.State.{AreRows, IsWhole, dag_of, has_dag, is_of_id, most_dags, with_dag, FitsAt}
 use Rattle.af_sched.specs.declared.dag_row.DagRow.{DagRow}
 
 pub AreRows-none : AreRows [] []
@@ -86,7 +86,7 @@ module _ (dags : List DagRow) (row : DagRow) (place : ℕ) (fits : FitsAt dags r
       ap (λ (front : List DagRow). front ++ row ∷ filter (λ (other : DagRow). is_lt (slice_cmp nat_cmp row.dag.dag_id other.dag.dag_id)) dags) (rows_before (λ (r : DagRow). r.dag.dag_id) nat_list_cmp_total row.dag.dag_id dags place fits.parted)
       ∙ ap (λ (back : List DagRow). take place dags ++ row ∷ back) (rows_after (λ (r : DagRow). r.dag.dag_id) nat_list_cmp_total row.dag.dag_id dags place fits.parted)
 
-  pub AreRows-insert : (runs : List Run) → checked row.dag ≡ Ok row.dag → length dags < 1_024 → AreRows dags runs → AreRows (insert dags place row) runs
+  pub AreRows-insert : (runs : List Run) → checked row.dag ≡ Ok row.dag → length dags < most_dags → AreRows dags runs → AreRows (insert dags place row) runs
   AreRows-insert runs sound few are = record {
     in_order = order-inserted (λ (r : DagRow). r.dag.dag_id) nat_list_cmp_total dags row place are.in_order fits.parted;
     few = rw (length-insert dags place row fits.within) (omega arith);

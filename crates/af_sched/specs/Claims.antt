@@ -1,5 +1,5 @@
 -- How an executor claims an instance (this product's own rule).
-use Rattle.std.specs.Prelude.{ℕ, ◌≡◌, ◌+◌, ◌&&◌, Bool, nat_lt, Some, None}
+use Rattle.std.specs.Prelude.{ℕ, ◌≡◌, ◌+◌, ◌&&◌, Bool, nat_lt, Option, Some, None, MatchOption}
 use Rattle.af_graph.specs.States.{same_state}
 use Rattle.af_graph.specs.declared.task_state.TaskState.TheVariants as task_state
 use Rattle.af_runs.specs.Runs.{with_instance}
@@ -43,3 +43,13 @@ pub record Claims (t : ℕ) (old new : StateRows) (claim : Claim) : Type 0 where
 pub record ClaimsNone (old new : StateRows) : Type 0 where
   pub none : NonePasses is_claimable (placed_in old.dags old.runs)
   pub state : new ≡ old
+
+-- what the executor is told by the next claim: of the first instance that may be claimed
+pub record IsToldNext (state : StateRows) (claim : Claim) : Type 0 where
+  pub first : Placed
+  pub is_first : IsFirst is_claimable (placed_in state.dags state.runs) first
+  pub told : claim ≡ claim_of first
+
+-- what the next claim tells, or that there is nothing to claim
+abbrev pub IsNextClaim : StateRows → Option Claim → Type 0
+IsNextClaim state told = MatchOption told (NonePasses is_claimable (placed_in state.dags state.runs)) (IsToldNext state)

@@ -6,7 +6,7 @@ use Rattle.af_pool.specs.Pools.{slots_of}
 use Rattle.af_runs.specs.Runs.{AreRuns, is_finished, without_run}
 use Rattle.af_runs.specs.declared.instance.Instance.{Instance}
 use Rattle.af_runs.specs.declared.run.Run.{Run}
-use Rattle.af_sched.specs.Claims.{Claims, ClaimsNone}
+use Rattle.af_sched.specs.Claims.{Claims, ClaimsNone, IsNextClaim}
 use Rattle.af_sched.specs.Create.{runs_of_row}
 use Rattle.af_sched.specs.Due.{moved_cursor, taken_points}
 use Rattle.af_sched.specs.Finish.{ends}
@@ -83,3 +83,8 @@ ReportsOfRemovedRunsFindNone =
 abbrev pub ClaimIsOne : Type 0
 ClaimIsOne =
     (t : ℕ) (old one other : StateRows) (first second : Option Claim) → AreRuns old.runs old.next_run → IsClaim t old one first → IsClaim t old other second → (one ≡ other) × (first ≡ second)
+
+-- a claim at any moment tells what was told before it
+abbrev pub ClaimTellsTheNext : Type 0
+ClaimTellsTheNext =
+    (t : ℕ) (old new : StateRows) (next told : Option Claim) → AreRuns old.runs old.next_run → IsNextClaim old next → IsClaim t old new told → next ≡ told

@@ -31,6 +31,10 @@ pub record StateWithRoom : Type 0 where
   pub spare_runs : ℕ
   pub spare_pools : ℕ
 
+-- the most DAGs that there are
+abbrev pub most_dags : ℕ
+most_dags = 1_024
+
 -- the DAGs are in byte order of their ids, and no two have one id
 abbrev pub AreInOrder : List DagRow → Type 0
 AreInOrder dags = IsStrictlySortedBy (slice_cmp nat_cmp) (map (λ row. row.dag.dag_id) dags)
@@ -62,7 +66,7 @@ IsWhole dags run = option_map (λ row. length row.dag.tasks) (dag_of dags run.da
 -- what holds of the rows at all times
 pub record AreRows (dags : List DagRow) (runs : List Run) : Type 0 where
   pub in_order : AreInOrder dags
-  pub few : length dags ≤ 1_024
+  pub few : length dags ≤ most_dags
   -- no definition has a fault
   pub sound : All (λ row. fault_of row.dag.tasks ≡ None) dags
   pub whole : All (IsWhole dags) runs
@@ -87,7 +91,7 @@ dag_fault state row =
     else (if option_map_or (λ schedule. has_no_step schedule.points) row.dag.schedule false then Some NoStep
     else (if not (have_pools state.pools row.dag.tasks) then Some NoSuchPool
     else (if has_dag state.dags row.dag.dag_id then Some Exists
-    else (if nat_le 1_024 (length state.dags) then Some Full else None))))
+    else (if nat_le most_dags (length state.dags) then Some Full else None))))
 
 -- the DAGs with one more, in its place by id
 abbrev pub with_dag : List DagRow → DagRow → List DagRow
@@ -109,5 +113,5 @@ pub record FitsAt (dags : List DagRow) (dag_id : List ℕ) (place : ℕ) : Type 
 pub record CanAdd (state : StateRows) (row : DagRow) (place : ℕ) : Type 0 where
   pub no_fault : dag_fault state row ≡ None
   pub sound : checked row.dag ≡ Ok row.dag
-  pub few : length state.dags < 1_024
+  pub few : length state.dags < most_dags
   pub fits : FitsAt state.dags row.dag.dag_id place

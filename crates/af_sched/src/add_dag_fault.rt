@@ -2,7 +2,7 @@ ghost use Rattle.std.specs.Prelude.{◌≡◌, Some};
 ghost use Rattle.af_sched.specs.FaultTexts.{add_dag_text};
 
 use crate::dag_row::DagRow;
-use std::alloc::AllocFailed;
+use std::alloc::{AllocError, AllocFailed};
 use std::fmt;
 
 /// Why a DAG is not added, in the order in which faults are told.
@@ -29,6 +29,17 @@ impl From<AllocFailed<DagRow>> for AddDagFault {
     ghost from_gives = { λ _ fault. fault ≡ OutOfMemory };
 
     fn from(_error: AllocFailed<DagRow>) -> AddDagFault {
+        AddDagFault::OutOfMemory
+    }
+}
+
+impl From<AllocError> for AddDagFault {
+    ghost use Rattle.std.specs.Prelude.{◌≡◌};
+    ghost use Rattle.af_sched.specs.declared.add_dag_fault.AddDagFault.TheVariants.{OutOfMemory};
+
+    ghost from_gives = { λ _ fault. fault ≡ OutOfMemory };
+
+    fn from(_error: AllocError) -> AddDagFault {
         AddDagFault::OutOfMemory
     }
 }

@@ -1,8 +1,9 @@
-ghost use Rattle.std.specs.Prelude.{◌≡◌, MatchResult, option_copied};
+ghost use Rattle.std.specs.Prelude.{◌≡◌, IfSome, MatchResult, option_copied, true};
 ghost use Rattle.af_sched.specs.State.{AreInOrder, FitsAt, dag_of, tasks_of};
 ghost use Rattle.af_sched.specs.Steps.{StandsAt};
 
 use crate::dag_row::DagRow;
+use crate::guesses::{Guesses, beside, code_of};
 use af_graph::TaskSpec;
 use af_names::DagId;
 use std::marker::Model;
@@ -11,6 +12,7 @@ use std::marker::Model;
 #[derive(Drop)]
 pub(crate) struct Dags<'a> {
     rows: &'a [DagRow],
+    guesses: &'a Guesses,
 }
 
 impl<'a> Model for Dags<'a> {
@@ -26,11 +28,11 @@ impl<'a> Model for Dags<'a> {
 }
 
 impl<'a> Dags<'a> {
-    pub(crate) fn of(rows: &'a [DagRow]) -> Dags<'a>
+    pub(crate) fn of(rows: &'a [DagRow], guesses: &'a Guesses) -> Dags<'a>
         requires { AreInOrder rows.now }
         ensures { result ≡ rows.now }
     {
-        Dags { rows }
+        Dags { rows, guesses }
     }
 
     /// The rows, by id.
@@ -40,7 +42,7 @@ impl<'a> Dags<'a> {
         self.rows
     }
 
-    /// The DAG of this id, found by binary search.
+    /// The DAG of this id.
     pub(crate) fn get(&self, dag_id: &DagId) -> Option<&'a DagRow>
         ensures { option_copied result ≡ dag_of self.now dag_id.now }
     {
@@ -51,8 +53,45 @@ impl<'a> Dags<'a> {
         Some(&rows[place])
     }
 
-    /// Where the row of the DAG of this id stands, or where it would.
+    /// Where the row of the DAG of this id stands, or where it would. It is guessed, and searched for where no guess is right.
     pub(crate) fn place_of(&self, dag_id: &DagId) -> Result<usize, usize>
+        ensures { MatchResult result (StandsAt self.now dag_id.now) (FitsAt self.now dag_id.now) }
+    {
+        match self.guessed(dag_id) {
+            Some(place) => Ok(place),
+            None => self.searched(dag_id),
+        }
+    }
+
+    /// Where the row of the DAG of this id stands, if one of its two guesses is right.
+    fn guessed(&self, dag_id: &DagId) -> Option<usize>
+        ensures { IfSome result (StandsAt self.now dag_id.now) }
+    {
+        let code = code_of(dag_id);
+        let first = usize::from(self.guesses.at(code));
+        if self.is_at(first, dag_id) {
+            return Some(first);
+        }
+        let second = usize::from(self.guesses.at(beside(code)));
+        if self.is_at(second, dag_id) {
+            return Some(second);
+        }
+        None
+    }
+
+    /// Whether the row at a place is that of the DAG of this id.
+    fn is_at(&self, place: usize, dag_id: &DagId) -> bool
+        ensures { result ≡ true → StandsAt self.now dag_id.now place }
+    {
+        let rows = self.rows;
+        if place >= rows.len() {
+            return false;
+        }
+        rows[place].dag.dag_id() == dag_id
+    }
+
+    /// Where the row of the DAG of this id stands, or where it would, found by binary search.
+    fn searched(&self, dag_id: &DagId) -> Result<usize, usize>
         ensures { MatchResult result (StandsAt self.now dag_id.now) (FitsAt self.now dag_id.now) }
     {
         self.rows

@@ -1,4 +1,4 @@
-ghost use Rattle.af_sched.specs.Laws.{ClaimIsOne, EndedRunsStay, NoPointIsTakenTwice, NothingChangesExactlyWhereNothingIsDue, QueuedStateIsOne, ReportsOfRemovedRunsFindNone, SettlingIsOne, SettledStateIsOne, SlotsAreKept, TickIsOne, TickKeepsRows};
+ghost use Rattle.af_sched.specs.Laws.{ClaimIsOne, ClaimTellsTheNext, EndedRunsStay, NoPointIsTakenTwice, NothingChangesExactlyWhereNothingIsDue, QueuedStateIsOne, ReportsOfRemovedRunsFindNone, SettlingIsOne, SettledStateIsOne, SlotsAreKept, TickIsOne, TickKeepsRows};
 
 /// The trigger rules decide in one way what becomes of a run's instances, since no definition has a cycle.
 pub fn settling_is_one()
@@ -53,4 +53,9 @@ pub fn a_claim_is_one()
 /// A report of an instance of a run that was taken out finds none.
 pub fn reports_of_removed_runs_find_none()
     ensures { ReportsOfRemovedRunsFindNone }
+{}
+
+/// A claim at any moment tells what was told before it.
+pub fn a_claim_tells_the_next()
+    ensures { ClaimTellsTheNext }
 {}

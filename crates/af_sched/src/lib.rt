@@ -11,6 +11,7 @@ mod dags;
 mod due;
 mod executor;
 mod finishing;
+mod guesses;
 pub mod laws;
 mod moving;
 mod outcome;

@@ -4,6 +4,7 @@ ghost use Rattle.af_sched.specs.State.{AreRows, dag_of};
 
 use crate::dag_row::DagRow;
 use crate::dags::Dags;
+use crate::guesses::Guesses;
 use af_names::DagId;
 use af_pool::{Pool, Pools};
 use af_runs::Runs;
@@ -25,6 +26,8 @@ mod ticking;
 #[derive(Drop)]
 pub struct State {
     dags: Vec<DagRow>,
+    /// Where the rows of DAGs stand, so that none is searched for.
+    guesses: Guesses,
     runs: Runs,
     pools: Pools,
 }
@@ -59,6 +62,7 @@ impl State {
         let pools = Pools::new(alloc)?;
         Ok(State {
             dags: Vec::new(alloc),
+            guesses: Guesses::new(alloc),
             runs: Runs::new(alloc),
             pools,
         })
@@ -72,7 +76,7 @@ impl State {
         self.dags.as_slice()
     }
 
-    /// The DAG of this id, found by binary search.
+    /// The DAG of this id, found where it is guessed to stand, or else by binary search.
     pub fn dag(&self, dag_id: &DagId) -> Option<&DagRow>
         ensures { option_copied result ≡ dag_of self.now.rows.dags dag_id.now }
     {
@@ -83,7 +87,7 @@ impl State {
     fn by_id(&self) -> Dags<'_>
         ensures { result ≡ self.now.rows.dags }
     {
-        Dags::of(self.dags())
+        Dags::of(self.dags(), &self.guesses)
     }
 
     /// The pools, by name.

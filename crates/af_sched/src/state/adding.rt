@@ -7,6 +7,7 @@ ghost use Rattle.af_sched.specs.State.{CanAdd, dag_fault, has_no_step, have_pool
 
 use crate::add_dag_fault::AddDagFault;
 use crate::dag_row::DagRow;
+use crate::guesses::code_of;
 use crate::state::State;
 use af_graph::{Points, Schedule, TaskSpec};
 use af_names::{DagId, Instant, PoolName, RunId};
@@ -28,7 +29,11 @@ impl State {
         ensures err { OnErr result (self.new ≡ self.old) }
     {
         let place = self.place_to_add(&row)?;
+        self.guesses.open()?;
+        let code = code_of(row.dag.dag_id());
+        let is_last = place == self.dags.len();
         self.dags.insert(place, row)?;
+        self.guesses.put(code, place, is_last);
         Ok(())
     }
 

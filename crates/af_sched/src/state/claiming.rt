@@ -1,5 +1,5 @@
 ghost use Rattle.std.specs.Prelude.{◌≡◌, IfOk, None, Ok, OnErr, MatchOption, true};
-ghost use Rattle.af_sched.specs.Claims.{is_claimable, Claims, ClaimsNone, claim_of};
+ghost use Rattle.af_sched.specs.Claims.{is_claimable, Claims, ClaimsNone, IsNextClaim, claim_of};
 ghost use Rattle.af_sched.specs.Placed.{IsFirstOf, NonePasses, placed_of, placed_in};
 ghost use Rattle.af_sched.specs.State.{tasks_of};
 ghost use Rattle.af_sched.specs.Steps.{Continues, first_with, has_queued};
@@ -32,6 +32,17 @@ impl State {
         let instance = first.claimed(at);
         self.runs.set_instance(claim.run_number, place, instance);
         Ok(Some(claim))
+    }
+
+    /// What `claim` would tell, at any moment. `AllocError` only where a growth was refused, so never where none is queued.
+    pub fn next_claim(&self, alloc: Global) -> Result<Option<Claim>, AllocError>
+        ensures ok { IfOk result (IsNextClaim self.now.rows) }
+        ensures none { NonePasses is_claimable (placed_in self.now.rows.dags self.now.rows.runs) → result ≡ Ok None }
+    {
+        match first_claimable(&self.by_id(), &self.runs) {
+            Some(first) => Ok(Some(claim_of(alloc, &first)?)),
+            None => Ok(None),
+        }
     }
 }
 

@@ -39,6 +39,16 @@ impl State {
         self.runs.set_instance(number, place, instance);
         Ok(())
     }
+
+    /// Why `report` would not take the outcome of a claimed try: the first of `ReportFault` that applies.
+    pub fn report_fault(&self, claim: &Claim) -> Option<ReportFault>
+        ensures { result ≡ report_fault self.now.rows claim.now }
+    {
+        match instance_of(&self.by_id(), &self.runs, claim) {
+            Some(placed) => fault_at(claim, &placed),
+            None => Some(ReportFault::NoSuchInstance),
+        }
+    }
 }
 
 /// The instance that a claim names: by the number of its run and the id of its task.

@@ -3,7 +3,7 @@ use Rattle.std.specs.Ordering.{nat_cmp}
 use Rattle.std.specs.Cmp.Lexicographic.{slice_cmp}
 use Rattle.std.proofs.lemmas.Fn.{always_returns_same}
 use Rattle.af_sched.proofs.StandingLemmas.{place_from_search}
-use Rattle.af_sched.proofs.dags.Dags.place_of.Goals as goal
+use Rattle.af_sched.proofs.dags.Dags.searched.Goals as goal
 
 -- the closure gives how a row's id stands to the id sought
 pub returns : goal.returns
