@@ -2,6 +2,7 @@ ghost use Rattle.std.specs.Prelude.{◌≡◌, IfOk};
 
 use af_names::{DagId, RunId};
 use af_ops::{BodyFault, Op, Trigger};
+use af_sched::Claim;
 use std::alloc::{AllocError, Global};
 
 /// The same operation again. `AllocError` only where a growth was refused.
@@ -90,4 +91,19 @@ fn copied_run(alloc: Global, run: &Option<RunId>) -> Result<Option<RunId>, Alloc
         None => Ok(None),
         Some(run_id) => Ok(Some(run_id.copied(alloc)?)),
     }
+}
+
+/// The same claim again.
+pub(crate) fn copied_claim(alloc: Global, claim: &Claim) -> Result<Claim, AllocError>
+    ensures { IfOk result (λ copy. copy ≡ claim.now) }
+{
+    let (dag_id, run_id) = copied_ids(alloc, &claim.dag_id, &claim.run_id)?;
+    let task_id = claim.task_id.copied(alloc)?;
+    Ok(Claim {
+        run_number: claim.run_number,
+        dag_id,
+        run_id,
+        task_id,
+        try_number: claim.try_number,
+    })
 }
