@@ -1,9 +1,10 @@
 -- What holds of entries once there is one more.
-use Rattle.std.proofs.Common.{◌≡◌, ◌∙◌, sym, ap, refl, ℕ, zero, suc, ◌+◌, ◌<◌, List, [], ◌∷◌, ◌++◌, length, get_or, add-one, arith}
+use Rattle.std.proofs.Common.{◌≡◌, ◌∙◌, sym, ap, refl, ℕ, zero, suc, ◌+◌, ◌-◌, ◌<◌, ◌≤◌, List, [], ◌∷◌, ◌++◌, length, get_or, take, add-one, arith}
 use Rattle.std.specs.List.{range_with_len}
-use Rattle.std.proofs.lemmas.List.{length-append, map-append}
+use Rattle.std.proofs.lemmas.List.{length-append, length-take-le, map-append, take-map}
 use Rattle.std.proofs.lemmas.List.FromFn.{get_or-range_with_len}
 use Rattle.std.proofs.Math.ListN.{get_or-map}
+use Rattle.std.proofs.Math.Seq.{take-append_seam}
 use Rattle.af_audit.specs.declared.entry.Entry.{Entry}
 use Rattle.af_audit.specs.Entries.{AreNumbered, AuditRows, IsAudit, with_entry}
 use Rattle.af_audit.specs.Laws.{NumbersHaveNoGap}
@@ -35,3 +36,33 @@ no_gap entries place d numbered inside =
     ∙ ap (λ (numbers : List ℕ). get_or numbers place d.seq) numbered
     ∙ get_or-range_with_len 1 (length entries) place d.seq inside
     ∙ omega arith
+
+-- the first numbers
+range_front : (a n k : ℕ) → k ≤ n → take k (range_with_len a n) ≡ range_with_len a k
+range_front a n zero le = refl
+range_front a zero (suc k) le = absurd (omega (arith, le))
+range_front a (suc n) (suc k) le = ap (λ (rest : List ℕ). a ∷ rest) (range_front (a + 1) n k (omega (arith, le)))
+
+-- the first entries of an audit
+pub audit_front : (audit : AuditRows) (k : ℕ) → k ≤ length audit.entries → IsAudit audit → IsAudit (record audit { entries = take k audit.entries })
+audit_front audit k le is =
+    let long : length (take k audit.entries) ≡ k = length-take-le k audit.entries le in
+    record {
+      numbered =
+          sym (take-map (λ (entry : Entry). entry.seq) k audit.entries)
+          ∙ ap (take k) is.numbered
+          ∙ range_front 1 (length audit.entries) k le
+          ∙ ap (range_with_len 1) (sym long);
+      within = let small = is.within in omega (arith, long, le, small);
+    }
+
+-- an entry that is taken back
+taken_back : (entries : List Entry) (entry : Entry) → take (length (entries ++ entry ∷ []) - 1) (entries ++ entry ∷ []) ≡ entries
+taken_back entries entry =
+    let k : length (entries ++ entry ∷ []) - 1 ≡ length entries = omega (arith, length-append entries (entry ∷ [])) in
+    ap (λ (n : ℕ). take n (entries ++ entry ∷ [])) k ∙ take-append_seam entries (entry ∷ [])
+
+pub audit_back : (old audit : AuditRows) (entry : Entry) → old ≡ with_entry audit entry → record old { entries = take (length old.entries - 1) old.entries } ≡ audit
+audit_back old audit entry is =
+    ap (λ (grown : AuditRows). record grown { entries = take (length grown.entries - 1) grown.entries }) is
+    ∙ ap (λ (entries : List Entry). record audit { entries = entries }) (taken_back audit.entries entry)

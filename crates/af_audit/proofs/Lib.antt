@@ -1,3 +1,4 @@
+pub mod ClaimedLemmas
 pub mod EntryLemmas
 pub mod LedgerLemmas
 pub mod OperatedLemmas

@@ -55,15 +55,6 @@ fronts_make one front rest opening state was opens is first =
     subst (λ (s : StateRows). IsReplay s rest state) (one front opening there.0 was opens there.1 first) there.2
 
 pub no_change_depends : NoChangeDependsOnTheReader
-no_change_depends reads others state op.Version t = refl
-no_change_depends reads others state op.ListDags t = refl
-no_change_depends reads others state (op.GetDag dag_id) t = refl
-no_change_depends reads others state (op.PauseDag dag_id input) t = refl
-no_change_depends reads others state (op.ListTasks dag_id) t = refl
 no_change_depends reads others state (op.ListRuns None) t = refl
 no_change_depends reads others state (op.ListRuns (Some dag_id)) t = refl
-no_change_depends reads others state (op.TriggerRun dag_id input) t = refl
-no_change_depends reads others state (op.GetRun dag_id run_id) t = refl
-no_change_depends reads others state (op.MarkRun dag_id run_id input) t = refl
-no_change_depends reads others state (op.ListInstances dag_id run_id) t = refl
-no_change_depends reads others state (op.GetInstance dag_id run_id task_id) t = refl
+no_change_depends reads others state asked t = refl

@@ -1,5 +1,6 @@
 ghost use Rattle.std.specs.Prelude.{◌≡◌, ◌≤◌, ◌+◌, [], ◌∷◌, ◌++◌, length, Err, OnErr, OnOk, false, true};
-ghost use Rattle.af_audit.specs.Entries.{AreNumbered, has_room, next_seq, with_entry};
+ghost use Rattle.af_audit.specs.Entries.{AreNumbered, AuditRows, has_room, next_seq, with_entry};
+ghost use Rattle.af_audit.specs.declared.entry.Entry.{Entry};
 
 use crate::act::Act;
 use crate::actor::Actor;
@@ -125,5 +126,13 @@ impl Audit {
             version,
             act,
         })
+    }
+
+    /// Takes the last entry out again, where its act was not done after all.
+    pub(crate) fn take_back(&mut self)
+        ensures { (audit : AuditRows) (entry : Entry) → self.old ≡ with_entry audit entry → self.new ≡ audit }
+    {
+        let count = self.entries.len();
+        self.entries.truncate(count.saturating_sub(1));
     }
 }

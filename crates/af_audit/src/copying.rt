@@ -3,6 +3,7 @@ ghost use Rattle.std.specs.Prelude.{◌≡◌, IfOk};
 use af_graph::TaskIds;
 use af_names::{DagId, RunId};
 use af_ops::{BodyFault, Clear, Op, Trigger};
+use af_sched::Claim;
 use std::alloc::{AllocError, Global};
 
 /// The same operation again. `AllocError` only where a growth was refused.
@@ -142,4 +143,19 @@ fn copied_tasks(alloc: Global, task_ids: &Option<TaskIds>) -> Result<Option<Task
         None => Ok(None),
         Some(task_ids) => Ok(Some(task_ids.copied(alloc)?)),
     }
+}
+
+/// The same claim again.
+pub(crate) fn copied_claim(alloc: Global, claim: &Claim) -> Result<Claim, AllocError>
+    ensures { IfOk result (λ copy. copy ≡ claim.now) }
+{
+    let (dag_id, run_id) = copied_ids(alloc, &claim.dag_id, &claim.run_id)?;
+    let task_id = claim.task_id.copied(alloc)?;
+    Ok(Claim {
+        run_number: claim.run_number,
+        dag_id,
+        run_id,
+        task_id,
+        try_number: claim.try_number,
+    })
 }

@@ -7,7 +7,9 @@ use af_sched::State;
 use std::alloc::Global;
 use std::marker::Model;
 
+mod claiming;
 mod operating;
+mod reporting;
 mod ticking;
 
 /// The state that stands, the one that it was opened with, and the entries that made it of that one: at all times it is their

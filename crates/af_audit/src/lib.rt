@@ -12,6 +12,7 @@ pub mod laws;
 mod ledger;
 mod nobody;
 mod replaying;
+mod report_refusal;
 
 pub use act::Act;
 pub use actor::Actor;
@@ -20,3 +21,4 @@ pub use audit_fault::AuditFault;
 pub use entry::Entry;
 pub use ledger::Ledger;
 pub use replaying::replay;
+pub use report_refusal::ReportRefusal;
