@@ -16,13 +16,13 @@ abbrev pub op_fault : AuditFault → OpFault
 op_fault HistoryFull = fault.HistoryFull
 op_fault OutOfMemory = fault.OutOfMemory
 
--- the text of its reply, and the ledger after it
+-- the text of its reply, or none where there is nothing to tell, and the ledger after it
 pub record Operated : Type 0 where
-  pub reply : List ℕ
+  pub reply : Option (List ℕ)
   pub next : LedgerRows
 
 -- a change adds one entry, and is refused where there is no room for it; what changes nothing adds none
-abbrev pub recorded : LedgerRows → List ℕ → Op → ℕ → List ℕ → Option StateRows → Result Operated OpFault
+abbrev pub recorded : LedgerRows → List ℕ → Op → ℕ → Option (List ℕ) → Option StateRows → Result Operated OpFault
 recorded ledger user asked t reply None = Ok (record { reply = reply; next = ledger })
 recorded ledger user asked t reply (Some next) =
     if has_room ledger.audit then Ok (record { reply = reply; next = entered ledger (User user) (Did asked) t next })

@@ -16,7 +16,7 @@ use af_policy::Reader;
 use std::alloc::Global;
 
 impl Ledger {
-    /// Does a permitted operation of a user, for a reader, at a moment, and gives the body of its reply. Where it changes the
+    /// Does a permitted operation of a user, for a reader, at a moment, and gives the body of its reply, if it has one. Where it changes the
     /// state there is one entry, of that user, under the ledger's version. The faults are those of `OpFault`, in its order; after one
     /// the ledger is as before.
     pub fn operate<R: Reader>(
@@ -26,7 +26,7 @@ impl Ledger {
         reader: &R,
         op: &Op,
         now: Instant,
-    ) -> Result<Body, OpFault>
+    ) -> Result<Option<Body>, OpFault>
         ensures ok { IfOk result (λ reply. operated (R.reads reader.now) self.old user.now op.now now ≡ Ok (record { reply = reply; next = self.new })) }
         ensures refused { IfErr result (IsRefused (operated (R.reads reader.now) self.old user.now op.now now)) }
         ensures err { OnErr result (self.new ≡ self.old) }
