@@ -1,5 +1,5 @@
 -- What a claim leaves of a ledger.
-use Rattle.std.specs.Prelude.{ℕ, ◌≡◌, Bool, true, false, Option, Some, None, Result, Ok, Err}
+use Rattle.std.specs.Prelude.{ℕ, ◌≡◌, true, false, Option, Some, None, Result, Ok, Err}
 use Rattle.af_sched.specs.Claims.{Claims, IsToldNext, is_claimable}
 use Rattle.af_sched.specs.Placed.{NonePasses, placed_in}
 use Rattle.af_sched.specs.declared.claim.Claim.{Claim}

@@ -1,11 +1,10 @@
 -- What a report leaves of a ledger.
-use Rattle.std.specs.Prelude.{ℕ, ◌≡◌, Bool, true, false, Some, None, Result, Ok, Err, Option}
+use Rattle.std.specs.Prelude.{ℕ, ◌≡◌, true, false, Some, None, Result, Ok, Err}
 use Rattle.af_sched.specs.Reports.{report_fault, reported}
 use Rattle.af_sched.specs.declared.claim.Claim.{Claim}
 use Rattle.af_sched.specs.declared.outcome.Outcome.{Outcome}
 use Rattle.af_audit.specs.declared.act.Act.TheVariants as act
 use Rattle.af_audit.specs.declared.actor.Actor.TheVariants.{Executor}
-use Rattle.af_audit.specs.declared.audit_fault.AuditFault.{AuditFault}
 use Rattle.af_audit.specs.declared.audit_fault.AuditFault.TheVariants.{HistoryFull, OutOfMemory}
 use Rattle.af_audit.specs.declared.report_refusal.ReportRefusal.{ReportRefusal}
 use Rattle.af_audit.specs.declared.report_refusal.ReportRefusal.TheVariants as refusal

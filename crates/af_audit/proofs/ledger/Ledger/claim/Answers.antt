@@ -1,4 +1,4 @@
-use Rattle.std.proofs.Common.{◌≡◌, ◌∙◌, ap, sym, subst, refl, rules}
+use Rattle.std.proofs.Common.{subst, refl}
 use Rattle.af_audit.specs.declared.act.Act.TheVariants as act
 use Rattle.af_audit.specs.declared.actor.Actor.TheVariants.{Executor}
 use Rattle.af_audit.specs.Claimed.{ClaimsOne}
