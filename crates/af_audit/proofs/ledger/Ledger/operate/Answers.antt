@@ -1,11 +1,17 @@
 use Rattle.std.proofs.Common.{◌≡◌, ◌∙◌, ap, refl, rules, true}
+use Rattle.std.proofs.lemmas.Result.{err_from_is_err_and}
 use Rattle.af_ops.specs.Edits.{edited, is_edit}
 use Rattle.af_ops.specs.Prepared.{done_on}
 use Rattle.af_audit.specs.declared.act.Act.TheVariants.{Did}
 use Rattle.af_audit.specs.declared.actor.Actor.TheVariants.{User}
 use Rattle.af_audit.proofs.LedgerLemmas.{after_change, ledger_grown}
-use Rattle.af_audit.proofs.OperatedLemmas.{comes_to_fault, some_edit}
+use Rattle.af_audit.proofs.OperatedLemmas.{comes_to_fault, comes_to_refusal, some_edit}
 use Rattle.af_audit.proofs.ledger.Ledger.operate.Goals as goal
+
+pub returns-in_err-prepared-clause-refused : goal.returns-in_err-prepared-clause-refused
+returns-in_err-prepared-clause-refused g c =
+    let p = err_from_is_err_and c.from_residual.result c.from_residual.ensures.1 in
+    rw (p.1, p.2, ← c.self.view_is) (comes_to_refusal _ c.args.user.now c.args.op.now c.args.now _ c.in_err-prepared.field-0.0 c.in_err-prepared.ensures.told)
 
 pub returns-in-Err-clause-refused : goal.returns-in-Err-clause-refused
 returns-in-Err-clause-refused g c =
