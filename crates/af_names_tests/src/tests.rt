@@ -1,6 +1,8 @@
 //! Texts and moments from outside: Airflow's ids, RFC 3339 and RFC 9557 texts as jiff reads them, and the calendar.
-use af_names::{DagKind, PoolKind, RoleKind, RunKind, TaskKind, UserKind, VarKind};
-use af_names::{DagId, Instant, InstantError, Name, NameError, NameKind, Preset};
+use af_names::{
+    DagId, DagKind, Instant, InstantError, Name, NameError, NameKind, PoolKind, Preset, RoleKind,
+    RunKind, TaskKind, UserKind, VarKind,
+};
 use std::alloc::Global;
 use std::test::Fail;
 

@@ -1,7 +1,7 @@
 //! Rows worked by hand: the default roles with all their permissions, requirements as they are written, and which texts
 //! are resources.
-use af_role::{Action, Actions, Need, Pair, Permissions, Resource, ResourceKind, default_roles};
 use af_names::{DagId, NameError};
+use af_role::{Action, Actions, Need, Pair, Permissions, Resource, ResourceKind, default_roles};
 use std::alloc::{AllocError, Global};
 
 const ROLES: [(&str, &str); 5] = [
