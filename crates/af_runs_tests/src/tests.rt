@@ -1,5 +1,8 @@
 mod additions;
+mod asked;
+mod clears;
 mod lookups;
+mod marks;
 
 use af_graph::{Dag, DagSpec, Rule, TaskIds, TaskSpec, TaskSpecs, TaskState};
 use af_names::{DagId, Instant, PoolName, RunId, TaskId};
@@ -58,51 +61,85 @@ fn new_run(alloc: Global, dag_id: &str, run_id: &str, date: u64) -> Result<NewRu
     })
 }
 
+/// A run that is to be added, by its DAG, its id and its date; what is told; and the words for it.
+type Asked<'a> = (&'a str, &'a str, u64, Result<u64, RunFault>, &'a str);
+
+fn adds(alloc: Global, runs: &mut Runs, row: &Asked<'_>) -> Result<bool, Fail> {
+    let new = new_run(alloc, row.0, row.1, row.2)?;
+    Ok(runs.add_run(new) == row.3)
+}
+
 #[test]
-fn runs_of_two_dags(rt: HostRuntime) -> Result<(), Fail> {
-    use RunState::{Queued, Running, Success};
-    let alloc = rt.alloc();
-    let mut runs = Runs::new(alloc);
-    assert!(rt;
-        runs.add_run(new_run(alloc, "a", "r1", 1)?)? == 1,
-        "the first of a"
-    );
-    assert!(rt;
-        runs.add_run(new_run(alloc, "b", "r2", 2)?)? == 2,
-        "the first of b"
-    );
-    let both = runs.add_run(new_run(alloc, "a", "r1", 1)?);
-    assert!(rt; both == Err(RunFault::RunExists), "the id before the date");
-    let dated = runs.add_run(new_run(alloc, "a", "r3", 1)?);
-    assert!(rt; dated == Err(RunFault::DateTaken), "the date of r1");
-    assert!(rt;
-        runs.add_run(new_run(alloc, "b", "r1", 1)?)? == 3,
-        "id and date of another DAG"
-    );
+fn runs_of_two_dags_are_added_or_refused(rt: HostRuntime) -> Result<(), Fail> {
+    use RunFault::{DateTaken, RunExists};
+    let table = [
+        ("a", "r1", 1, Ok(1), "the first of a"),
+        ("b", "r2", 2, Ok(2), "the first of b"),
+        ("a", "r1", 1, Err(RunExists), "the id before the date"),
+        ("a", "r3", 1, Err(DateTaken), "the date of r1"),
+        ("b", "r1", 1, Ok(3), "id and date of another DAG"),
+    ];
+    let mut runs = Runs::new(rt.alloc());
+    for row in &table {
+        assert!(rt; adds(rt.alloc(), &mut runs, row)?, "{}", row.4);
+    }
     let added = [
-        (1, "a", "r1", Queued),
-        (2, "b", "r2", Queued),
-        (3, "b", "r1", Queued),
+        (1, "a", "r1", RunState::Queued),
+        (2, "b", "r2", RunState::Queued),
+        (3, "b", "r1", RunState::Queued),
     ];
     assert!(rt; has_rows(runs.rows(), &added), "in order of number");
+    Ok(())
+}
 
-    let b = DagId::parse(alloc, "b")?;
-    let r1 = RunId::parse(alloc, "r1")?;
-    let r3 = RunId::parse(alloc, "r3")?;
+/// Run r1 of a, then r2 and r1 of b.
+fn three_runs(alloc: Global) -> Result<Runs, Fail> {
+    let mut runs = Runs::new(alloc);
+    for (dag_id, run_id, date) in [("a", "r1", 1), ("b", "r2", 2), ("b", "r1", 1)] {
+        runs.add_run(new_run(alloc, dag_id, run_id, date)?)?;
+    }
+    Ok(runs)
+}
+
+/// The number of the run of these ids.
+fn number_of(alloc: Global, runs: &Runs, dag_id: &str, run_id: &str) -> Result<Option<u64>, Fail> {
+    let dag_id = DagId::parse(alloc, dag_id)?;
+    let run_id = RunId::parse(alloc, run_id)?;
+    Ok(runs.find(&dag_id, &run_id).map(|run| run.number))
+}
+
+/// Why r3 of b would not be added, at the date of r2.
+fn fault_of_b(alloc: Global, runs: &Runs) -> Result<Option<RunFault>, Fail> {
+    let dag_id = DagId::parse(alloc, "b")?;
+    let run_id = RunId::parse(alloc, "r3")?;
+    Ok(runs.add_fault(&dag_id, &run_id, moment(2)?))
+}
+
+#[test]
+fn runs_are_found(rt: HostRuntime) -> Result<(), Fail> {
+    let alloc = rt.alloc();
+    let runs = three_runs(alloc)?;
+    assert!(rt; number_of(alloc, &runs, "b", "r1")? == Some(3), "r1 of b");
     assert!(rt;
-        runs.find(&b, &r1).is_some_and(|run| run.number == 3),
-        "r1 of b"
+        number_of(alloc, &runs, "b", "r3")?.is_none(),
+        "b has no r3"
     );
-    assert!(rt; runs.find(&b, &r3).is_none(), "b has no r3");
+    let second = (2, "b", "r2", RunState::Queued);
     assert!(rt;
-        runs.get(2).is_some_and(|run| is_row(run, &added[1])),
+        runs.get(2).is_some_and(|run| is_row(run, &second)),
         "number 2"
     );
     assert!(rt; runs.get(4).is_none(), "no number 4");
-    let full = runs.add_fault(&b, &r3, moment(2)?);
-    assert!(rt; full == Some(RunFault::DateTaken), "the date of r2");
+    let told = fault_of_b(alloc, &runs)?;
+    assert!(rt; told == Some(RunFault::DateTaken), "the date of r2");
+    Ok(())
+}
 
+#[test]
+fn one_run_is_set(rt: HostRuntime) -> Result<(), Fail> {
+    use RunState::{Queued, Running, Success};
     let at = Some(moment(9)?);
+    let mut runs = three_runs(rt.alloc())?;
     runs.set_state(2, Running, at, None);
     runs.set_state(1, Success, at, at);
     runs.set_state(7, Success, at, at);
@@ -117,18 +154,31 @@ fn runs_of_two_dags(rt: HostRuntime) -> Result<(), Fail> {
             .is_some_and(|run| run.start_date == at && run.end_date.is_none()),
         "start"
     );
+    Ok(())
+}
+
+/// Whether the run of these ids has these instances.
+fn has_instances(
+    alloc: Global,
+    runs: &Runs,
+    ids: (&str, &str),
+    wanted: &[Instance],
+) -> Result<bool, Fail> {
+    let dag_id = DagId::parse(alloc, ids.0)?;
+    let run_id = RunId::parse(alloc, ids.1)?;
+    Ok(runs.instances(&dag_id, &run_id) == Some(wanted))
+}
+
+#[test]
+fn one_instance_is_set(rt: HostRuntime) -> Result<(), Fail> {
+    let alloc = rt.alloc();
+    let mut runs = three_runs(alloc)?;
     runs.set_instance(3, 1, failed());
     runs.set_instance(3, 2, failed());
-    let of_b = runs.instances(&b, &r1);
-    assert!(rt;
-        of_b == Some([untried(), failed()].as_slice()),
-        "the second of run 3"
-    );
-    let of_a = runs.instances(&DagId::parse(alloc, "a")?, &r1);
-    assert!(rt;
-        of_a == Some([untried(), untried()].as_slice()),
-        "run 1 as it was"
-    );
+    let of_b = has_instances(alloc, &runs, ("b", "r1"), &[untried(), failed()])?;
+    assert!(rt; of_b, "the second of run 3");
+    let of_a = has_instances(alloc, &runs, ("a", "r1"), &[untried(), untried()])?;
+    assert!(rt; of_a, "run 1 as it was");
     Ok(())
 }
 

@@ -1,5 +1,4 @@
-use super::{failed, has_rows, moment, new_run, untried};
-use af_names::{DagId, RunId};
+use super::{Asked, failed, has_instances, has_rows, moment, new_run, untried};
 use af_runs::{Additions, Instances, Run, RunFault, RunState, Runs};
 use std::alloc::Global;
 use std::test::Fail;
@@ -11,31 +10,29 @@ fn one_run(alloc: Global) -> Result<Runs, Fail> {
     Ok(runs)
 }
 
+fn adds(alloc: Global, additions: &mut Additions<'_>, row: &Asked<'_>) -> Result<bool, Fail> {
+    let new = new_run(alloc, row.0, row.1, row.2)?;
+    Ok(additions.add_run(new) == row.3)
+}
+
 #[test]
 fn an_addition_clashes_with_lent_and_added_runs(rt: HostRuntime) -> Result<(), Fail> {
     use RunFault::{DateTaken, RunExists};
-    let alloc = rt.alloc();
-    let runs = one_run(alloc)?;
-    let mut additions = Additions::of(alloc, &runs);
+    let table = [
+        ("b", "r2", 2, Ok(2), "after the lent run"),
+        ("a", "r1", 9, Err(RunExists), "the id of a lent run"),
+        ("a", "r9", 1, Err(DateTaken), "the date of a lent run"),
+        ("b", "r2", 9, Err(RunExists), "the id of an addition"),
+        ("b", "r9", 2, Err(DateTaken), "the date of an addition"),
+        ("b", "r2", 2, Err(RunExists), "the id before the date"),
+        ("b", "r1", 1, Ok(3), "id and date of another DAG"),
+    ];
+    let runs = one_run(rt.alloc())?;
+    let mut additions = Additions::of(rt.alloc(), &runs);
     assert!(rt; additions.rows().is_empty(), "none yet");
-    assert!(rt;
-        additions.add_run(new_run(alloc, "b", "r2", 2)?)? == 2,
-        "after the lent run"
-    );
-    let lent_id = additions.add_run(new_run(alloc, "a", "r1", 9)?);
-    assert!(rt; lent_id == Err(RunExists), "the id of a lent run");
-    let lent_date = additions.add_run(new_run(alloc, "a", "r9", 1)?);
-    assert!(rt; lent_date == Err(DateTaken), "the date of a lent run");
-    let added_id = additions.add_run(new_run(alloc, "b", "r2", 9)?);
-    assert!(rt; added_id == Err(RunExists), "the id of an addition");
-    let added_date = additions.add_run(new_run(alloc, "b", "r9", 2)?);
-    assert!(rt; added_date == Err(DateTaken), "the date of an addition");
-    let both = additions.add_run(new_run(alloc, "b", "r2", 2)?);
-    assert!(rt; both == Err(RunExists), "the id before the date");
-    assert!(rt;
-        additions.add_run(new_run(alloc, "b", "r1", 1)?)? == 3,
-        "id and date of another DAG"
-    );
+    for row in &table {
+        assert!(rt; adds(rt.alloc(), &mut additions, row)?, "{}", row.4);
+    }
     let rows = [
         (2, "b", "r2", RunState::Queued),
         (3, "b", "r1", RunState::Queued),
@@ -107,14 +104,19 @@ fn ended(alloc: Global, number: u64) -> Result<Run, Fail> {
     })
 }
 
-#[test]
-fn a_run_advances(rt: HostRuntime) -> Result<(), Fail> {
-    use RunState::{Failed, Queued};
-    let alloc = rt.alloc();
+/// The run r1 of a and the run r2 of b, advanced by later forms of the runs 2 and 3.
+fn advanced(alloc: Global) -> Result<Runs, Fail> {
     let mut runs = one_run(alloc)?;
     runs.add_run(new_run(alloc, "b", "r2", 2)?)?;
     runs.advance(ended(alloc, 2)?);
     runs.advance(ended(alloc, 3)?);
+    Ok(runs)
+}
+
+#[test]
+fn a_run_advances(rt: HostRuntime) -> Result<(), Fail> {
+    use RunState::{Failed, Queued};
+    let runs = advanced(rt.alloc())?;
     let rows = [(1, "a", "r1", Queued), (2, "b", "r2", Failed)];
     assert!(rt; has_rows(runs.rows(), &rows), "the state of 2 alone");
     let (start, end) = (moment(7)?, moment(9)?);
@@ -122,15 +124,9 @@ fn a_run_advances(rt: HostRuntime) -> Result<(), Fail> {
         runs.get(2).is_some_and(|run| run.start_date == Some(start) && run.end_date == Some(end)),
         "start and end"
     );
-    let of_b = runs.instances(&DagId::parse(alloc, "b")?, &RunId::parse(alloc, "r2")?);
-    assert!(rt;
-        of_b == Some([failed()].as_slice()),
-        "the instances of the later one"
-    );
-    let of_a = runs.instances(&DagId::parse(alloc, "a")?, &RunId::parse(alloc, "r1")?);
-    assert!(rt;
-        of_a == Some([untried(), untried()].as_slice()),
-        "run 1 as it was"
-    );
+    let of_b = has_instances(rt.alloc(), &runs, ("b", "r2"), &[failed()])?;
+    assert!(rt; of_b, "the instances of the later one");
+    let of_a = has_instances(rt.alloc(), &runs, ("a", "r1"), &[untried(), untried()])?;
+    assert!(rt; of_a, "run 1 as it was");
     Ok(())
 }
