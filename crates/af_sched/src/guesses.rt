@@ -50,9 +50,7 @@ impl Guesses {
     /// Notes that the rows that stood from a place on stand one further.
     fn shift(&mut self, place: u16) {
         for guess in self.places.as_mut_slice() {
-            if *guess >= place {
-                *guess = guess.saturating_add(1);
-            }
+            *guess = guess.saturating_add((*guess >= place) as u16);
         }
     }
 
