@@ -4,3 +4,4 @@ pub mod LedgerLemmas
 pub mod OperatedLemmas
 pub mod ReplayLemmas
 pub mod TickedLemmas
+pub mod RowLemmas

@@ -3,6 +3,7 @@ pub mod Claimed
 pub mod Entries
 pub mod Laws
 pub mod Ledgers
+pub mod Logs
 pub mod Operated
 pub mod Reported
 pub mod Ticked

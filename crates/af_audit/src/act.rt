@@ -1,3 +1,8 @@
+ghost use Rattle.std.specs.Prelude.{◌≡◌};
+ghost use Rattle.std.specs.Option.{option_copied};
+ghost use Rattle.af_audit.specs.Logs.{act_dag, act_run, act_task, event_of, op_event};
+
+use af_names::{DagId, RunId, TaskId};
 use af_ops::Op;
 use af_sched::{Claim, Outcome};
 
@@ -12,4 +17,66 @@ pub enum Act {
     Claim(Claim),
     /// An executor reported this outcome of a try that it had claimed.
     Report(Claim, Outcome),
+}
+
+impl Act {
+    /// The DAG that it names, if it names one.
+    pub fn dag(&self) -> Option<&DagId>
+        ensures { option_copied result ≡ act_dag self.now }
+    {
+        match self {
+            Act::Did(op) => op.dag(),
+            Act::Tick => None,
+            Act::Claim(claim) | Act::Report(claim, _) => Some(&claim.dag_id),
+        }
+    }
+
+    /// The run that it names, if it names one.
+    pub fn run(&self) -> Option<&RunId>
+        ensures { option_copied result ≡ act_run self.now }
+    {
+        match self {
+            Act::Did(op) => op.run(),
+            Act::Tick => None,
+            Act::Claim(claim) | Act::Report(claim, _) => Some(&claim.run_id),
+        }
+    }
+
+    /// The task that it names, if it names one.
+    pub fn task(&self) -> Option<&TaskId>
+        ensures { option_copied result ≡ act_task self.now }
+    {
+        match self {
+            Act::Did(op) => op.task(),
+            Act::Tick => None,
+            Act::Claim(claim) | Act::Report(claim, _) => Some(&claim.task_id),
+        }
+    }
+
+    /// The name of its event.
+    pub fn event(&self) -> &'static str
+        ensures { result.now ≡ event_of self.now }
+    {
+        match self {
+            Act::Did(op) => op_event(op),
+            Act::Tick => "tick",
+            Act::Claim(_) => "claim",
+            Act::Report(_, _) => "report",
+        }
+    }
+}
+
+/// The name of the event of an operation; empty for one that never changes anything.
+fn op_event(op: &Op) -> &'static str
+    ensures { result.now ≡ op_event op.now }
+{
+    match op {
+        Op::PauseDag(_, _) => "patch_dag",
+        Op::TriggerRun(_, _) => "trigger_dag_run",
+        Op::MarkRun(_, _, _) => "patch_dag_run",
+        Op::DeleteRun(_, _) => "delete_dag_run",
+        Op::ClearRun(_, _, _) => "clear_dag_run",
+        Op::ClearInstances(_, _) => "clear_task_instances",
+        _ => "",
+    }
 }

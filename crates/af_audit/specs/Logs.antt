@@ -1,0 +1,72 @@
+-- Event logs: the entries as rows that are told (Airflow 2, "Stable REST API": event logs). The names of events that have no
+-- operation of Airflow's are this product's own rule.
+use Rattle.std.specs.Prelude.{ℕ, List, [], ◌∷◌, Option, Some, None, codes}
+use Rattle.serde_json.specs.Data.{Data, null, number, unsigned, string}
+use Rattle.af_ops.specs.declared.op.Op.{Op}
+use Rattle.af_ops.specs.declared.op.Op.TheVariants as op
+use Rattle.af_ops.specs.Endpoints.{dag_of, run_of, task_of}
+use Rattle.af_ops.specs.Fields.{Field, instant_data}
+use Rattle.af_audit.specs.declared.act.Act.{Act}
+use Rattle.af_audit.specs.declared.act.Act.TheVariants as act
+use Rattle.af_audit.specs.declared.actor.Actor.{Actor}
+use Rattle.af_audit.specs.declared.actor.Actor.TheVariants as actor
+use Rattle.af_audit.specs.declared.entry.Entry.{Entry}
+
+-- the event of an operation; one that never changes anything has none
+abbrev pub op_event : Op → List ℕ
+op_event (op.PauseDag dag_id input) = codes "patch_dag"
+op_event (op.TriggerRun dag_id input) = codes "trigger_dag_run"
+op_event (op.MarkRun dag_id run_id input) = codes "patch_dag_run"
+op_event (op.DeleteRun dag_id run_id) = codes "delete_dag_run"
+op_event (op.ClearRun dag_id run_id input) = codes "clear_dag_run"
+op_event (op.ClearInstances dag_id input) = codes "clear_task_instances"
+op_event _ = []
+
+abbrev pub event_of : Act → List ℕ
+event_of (act.Did asked) = op_event asked
+event_of act.Tick = codes "tick"
+event_of (act.Claim claimed) = codes "claim"
+event_of (act.Report claimed outcome) = codes "report"
+
+-- the DAG that an act names: that of the request's path, or of the instance that is claimed or reported; a tick names none
+abbrev pub act_dag : Act → Option (List ℕ)
+act_dag (act.Did asked) = dag_of asked
+act_dag act.Tick = None
+act_dag (act.Claim claimed) = Some claimed.dag_id
+act_dag (act.Report claimed outcome) = Some claimed.dag_id
+
+-- the run
+abbrev pub act_run : Act → Option (List ℕ)
+act_run (act.Did asked) = run_of asked
+act_run act.Tick = None
+act_run (act.Claim claimed) = Some claimed.run_id
+act_run (act.Report claimed outcome) = Some claimed.run_id
+
+-- the task
+abbrev pub act_task : Act → Option (List ℕ)
+act_task (act.Did asked) = task_of asked
+act_task act.Tick = None
+act_task (act.Claim claimed) = Some claimed.task_id
+act_task (act.Report claimed outcome) = Some claimed.task_id
+
+abbrev pub owner_of : Actor → List ℕ
+owner_of (actor.User user) = user
+owner_of actor.Scheduler = codes "scheduler"
+owner_of actor.Executor = codes "executor"
+
+-- a name, or null for none
+abbrev pub name_data : Option (List ℕ) → Data
+name_data None = null
+name_data (Some name) = string name
+
+abbrev pub entry_fields : Entry → List Field
+entry_fields entry =
+    (codes "dag_id", name_data (act_dag entry.act))
+    ∷ (codes "event", string (event_of entry.act))
+    ∷ (codes "event_log_id", number (unsigned entry.seq))
+    ∷ (codes "owner", string (owner_of entry.actor))
+    ∷ (codes "policy_version", number (unsigned entry.version))
+    ∷ (codes "run_id", name_data (act_run entry.act))
+    ∷ (codes "task_id", name_data (act_task entry.act))
+    ∷ (codes "when", instant_data (Some entry.moment))
+    ∷ []
