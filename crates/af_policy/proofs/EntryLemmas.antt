@@ -1,5 +1,5 @@
 -- Rows that are kept as entries at their keys, while a policy is put together.
-use Rattle.std.proofs.Common.{◌≡◌, ℕ, List, [], ◌∷◌, Bool, true, false, cond, Option, Some, None, refl, sym, ap, ◌∙◌, map, is_some}
+use Rattle.std.proofs.Common.{◌≡◌, ℕ, List, [], ◌∷◌, Bool, true, false, cond, Option, Some, None, refl, sym, ap, ◌∙◌, map, is_some, not, ◌||◌}
 use Rattle.std.specs.List.{AllByRecursion, find}
 use Rattle.std.specs.Option.{option_map}
 use Rattle.std.specs.Ordering.{nat_cmp, is_eq, match_ordering}
@@ -10,8 +10,9 @@ use Rattle.std.specs.Map.{keys_of, values_of, lookup, remove_entry}
 use Rattle.std.specs.BTreeMap.{insert_entry, is_at}
 use Rattle.std.proofs.lemmas.Map.Lookups.{exact_bytes}
 use Rattle.af_policy.specs.SharedRows.{found, same_key, with_row}
-use Rattle.af_policy.specs.Rows.{UserRow, has_digest, has_user, same_digest, with_user}
+use Rattle.af_policy.specs.Rows.{UserRow, has_digest, has_user, same_digest, same_name, with_user}
 use Rattle.af_policy.specs.Tables.{IsUserDraft}
+use Rattle.af_policy.proofs.NameLemmas.{is_some-find}
 use Rattle.af_policy.proofs.UserLemmas.{IsUserTable-insert, is_some-digest_user}
 
 at_itself : (k : List ℕ) → is_eq (slice_cmp nat_cmp k k) ≡ true
@@ -78,6 +79,33 @@ is_some-digest_entry names digests digest draft =
     ∙ is_some-option_map (λ (user : UserRow). user.name) (find (λ (user : UserRow). same_digest digest user.digest) (values_of digests))
     ∙ ap is_some (draft.table.indexed digest)
     ∙ is_some-digest_user (values_of names) digest
+
+-- a name is found exactly where a user has it
+pub is_some-name_entry : (names : List (List ℕ × UserRow)) (name : List ℕ) → AllByRecursion (λ e. e.0 ≡ e.1.name) names → is_some (lookup (is_at (slice_cmp nat_cmp name)) names) ≡ has_user (values_of names) name
+is_some-name_entry names name named =
+    ap is_some (lookup-keyed (λ (user : UserRow). user.name) name names named)
+    ∙ is_some-find (λ (user : UserRow). same_name name user.name) (values_of names)
+
+-- what is new is not found
+pub not_found : (new found has : Bool) → new ≡ not found → found ≡ has → new ≡ true → has ≡ false
+not_found new true has is same sure = cc
+not_found new false has is same sure = sym same
+
+-- what is not new is found
+pub is_found : (new found has : Bool) → new ≡ not found → found ≡ has → new ≡ false → has ≡ true
+is_found new true has is same sure = sym same
+is_found new false has is same sure = cc
+
+-- a user is new where neither the name nor the digest is found
+pub neither_found : (name digest : Bool) → name ≡ false → digest ≡ false → true ≡ not (name || digest)
+neither_found name digest no_name no_digest = (λ i. not (sym no_name i || sym no_digest i))
+
+pub name_found : (name digest : Bool) → name ≡ true → false ≡ not (name || digest)
+name_found name digest has = ap (λ b. not (b || digest)) (sym has)
+
+pub digest_found : (name digest : Bool) → digest ≡ true → false ≡ not (name || digest)
+digest_found true digest has = refl
+digest_found false digest has = ap not (sym has)
 
 -- the entries of one more user
 pub IsUserDraft-insert : (names digests : List (List ℕ × UserRow)) (n d : List ℕ) (x y : UserRow) → n ≡ x.name → d ≡ y.digest → y ≡ x → IsUserDraft names digests → has_user (values_of names) x.name ≡ false → has_digest (values_of names) x.digest ≡ false → IsUserDraft (insert_entry (slice_cmp nat_cmp) names n x) (insert_entry (slice_cmp nat_cmp) digests d y)

@@ -1,14 +1,17 @@
 ghost use Rattle.std.specs.Prelude.{◌≡◌, List, ℕ, Some, IfOk, nat_eq, refl};
+ghost use Rattle.std.specs.Arc.{arc_value};
 ghost use Rattle.std.specs.Ordering.{nat_cmp};
 ghost use Rattle.std.specs.Cmp.{partial_equiv_from_equiv};
 ghost use Rattle.std.specs.Cmp.Lexicographic.{nat_list_cmp_total, nat_list_eq_equiv, pointwise, slice_cmp, texts_po, texts_ties};
 ghost use Rattle.af_policy.specs.Fronts.{front_of};
 
+use crate::User;
 use crate::shared::{front, order};
 use af_names::UserName;
 use std::alloc::{AllocError, Global};
 use std::cmp::Ordering;
 use std::marker::Model;
+use std::sync::Arc;
 
 /// What is told by its bytes.
 pub(crate) trait Spelled: Drop {
@@ -25,6 +28,15 @@ impl Spelled for UserName {
 
     fn spelling(&self) -> &[u8] {
         self.as_str().as_bytes()
+    }
+}
+
+/// A user is told by the name.
+impl Spelled for Arc<User> {
+    ghost spelling = { λ user. (arc_value user).name };
+
+    fn spelling(&self) -> &[u8] {
+        self.name().as_str().as_bytes()
     }
 }
 
@@ -89,6 +101,18 @@ impl Fronted<UserName> {
             front: self.front,
             value: self.value.copied(alloc)?,
         })
+    }
+}
+
+impl Fronted<Arc<User>> {
+    /// A key of a map: the name of a user, which the key shares.
+    pub(crate) fn name_of(user: Arc<User>) -> Fronted<Arc<User>>
+        ensures { result ≡ (arc_value user).name }
+    {
+        Fronted {
+            front: user.fronted_name().front(),
+            value: user,
+        }
     }
 }
 

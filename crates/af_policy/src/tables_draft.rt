@@ -1,4 +1,5 @@
-ghost use Rattle.std.specs.Prelude.{◌≡◌, [], true, false, IfOk, OnOk, OnErr};
+ghost use Rattle.std.specs.Prelude.{◌≡◌, ◌||◌, [], true, false, not, IfOk, OnOk, OnErr};
+ghost use Rattle.std.specs.Arc.{arc_value};
 ghost use Rattle.af_policy.specs.Rows.{has_admin, has_digest, has_roles, has_user, with_role, with_user};
 
 use crate::User;
@@ -8,6 +9,7 @@ use crate::user_draft::UserDraft;
 use af_role::Role;
 use std::alloc::{AllocError, Global};
 use std::marker::Model;
+use std::sync::Arc;
 
 /// The tables of a policy that is put together: its users and its roles. Contracts see them as the rows of users and roles.
 #[derive(Drop)]
@@ -47,16 +49,16 @@ impl TablesDraft {
         Ok(())
     }
 
-    /// Adds a user whose name and digest are nobody's and whose roles are there.
-    pub(crate) fn put_user(&mut self, alloc: Global, user: User) -> Result<(), AllocError>
-        requires roles { has_roles self.old.roles user.roles ≡ true }
-        requires name { has_user self.old.users user.name ≡ false }
-        requires digest { has_digest self.old.users user.digest ≡ false }
-        ensures ok { OnOk result (self.new ≡ record self.old { users = with_user self.old.users user }) }
+    /// Adds a user whose roles are there, where its name and digest are nobody's, and tells whether they were.
+    pub(crate) fn put_user(&mut self, user: &Arc<User>) -> Result<bool, AllocError>
+        requires { has_roles self.old.roles (arc_value user.now).roles ≡ true }
+        ensures is_new { IfOk result (λ is_new. is_new ≡ not (has_user self.old.users (arc_value user.now).name || has_digest self.old.users (arc_value user.now).digest)) }
+        ensures added { IfOk result (λ is_new. is_new ≡ true → self.new ≡ record self.old { users = with_user self.old.users (arc_value user.now) }) }
+        ensures taken { IfOk result (λ is_new. is_new ≡ false → self.new ≡ self.old) }
         ensures err { OnErr result (self.new ≡ self.old) }
     {
-        self.users.insert(alloc, user)?;
-        Ok(())
+        let is_new = self.users.insert(user)?;
+        Ok(is_new)
     }
 
     /// Whether some user has the role Admin.

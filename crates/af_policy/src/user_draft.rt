@@ -1,5 +1,8 @@
-ghost use Rattle.std.specs.Prelude.{◌≡◌, List, ℕ, [], false, length, IfOk, OnOk, OnErr};
-ghost use Rattle.std.specs.BTreeMap.{IsOrdered, values};
+ghost use Rattle.std.specs.Prelude.{◌≡◌, ◌||◌, List, ℕ, [], true, false, not, is_some, length, IfOk, OnErr};
+ghost use Rattle.std.specs.Arc.{arc_value};
+ghost use Rattle.std.specs.Ordering.{nat_cmp};
+ghost use Rattle.std.specs.Cmp.Lexicographic.{slice_cmp};
+ghost use Rattle.std.specs.BTreeMap.{IsOrdered, get, insert_entry, values};
 ghost use Rattle.af_policy.specs.Rows.{has_admin, has_digest, has_user, with_user};
 ghost use Rattle.af_policy.specs.Uses.{count_at, mentions};
 
@@ -10,9 +13,9 @@ use crate::shared::Row;
 use crate::user_rows::{ByDigest, ByName};
 use crate::user_table::UserTable;
 use crate::uses::Uses;
-use af_names::UserName;
 use std::alloc::{AllocError, Global};
 use std::collections::BTreeMap;
+use std::collections::btree_map::Entry;
 use std::marker::Model;
 use std::sync::Arc;
 
@@ -20,7 +23,7 @@ use std::sync::Arc;
 /// become a table, which looks at each once. Contracts see it as the users' rows, in byte order of their names.
 #[derive(Drop)]
 pub(crate) struct UserDraft {
-    by_name: BTreeMap<Fronted<UserName>, ByName>,
+    by_name: BTreeMap<Fronted<Arc<User>>, ByName>,
     by_digest: BTreeMap<Fronted<[u8; 32]>, ByDigest>,
 }
 
@@ -48,23 +51,31 @@ impl UserDraft {
         }
     }
 
-    /// Adds a user whose name and digest are nobody's.
-    pub(crate) fn insert(&mut self, alloc: Global, user: User) -> Result<(), AllocError>
-        requires name { has_user self.old user.name ≡ false }
-        requires digest { has_digest self.old user.digest ≡ false }
-        ensures ok { OnOk result (self.new ≡ with_user self.old user) }
+    /// Adds a user whose name and digest are nobody's, and tells whether they were.
+    pub(crate) fn insert(&mut self, user: &Arc<User>) -> Result<bool, AllocError>
+        ensures is_new { IfOk result (λ is_new. is_new ≡ not (has_user self.old (arc_value user.now).name || has_digest self.old (arc_value user.now).digest)) }
+        ensures added { IfOk result (λ is_new. is_new ≡ true → self.new ≡ with_user self.old (arc_value user.now)) }
+        ensures taken { IfOk result (λ is_new. is_new ≡ false → self.new ≡ self.old) }
         ensures err { OnErr result (self.new ≡ self.old) }
     {
-        let name = user.fronted_name().copied(alloc)?;
-        let digest = user.digest_key();
-        let key = user.digest_key();
-        let user = Arc::new(alloc, user)?;
-        let other = Arc::try_clone(&user)?;
-        self.by_digest.insert(key, ByDigest::new(other))?;
-        match self.by_name.insert(name, ByName::new(user)) {
-            Ok(_) => Ok(()),
+        let key = Fronted::name_of(Arc::try_clone(user)?);
+        let named = Arc::try_clone(user)?;
+        let digested = Arc::try_clone(user)?;
+        if !put_digest(
+            &mut self.by_digest,
+            user.digest_key(),
+            ByDigest::new(digested),
+        )? {
+            return Ok(false);
+        }
+        match put_name(&mut self.by_name, key, ByName::new(named)) {
+            Ok(true) => Ok(true),
+            Ok(false) => {
+                self.by_digest.remove(&user.digest_key());
+                Ok(false)
+            }
             Err(_) => {
-                self.by_digest.remove(&digest);
+                self.by_digest.remove(&user.digest_key());
                 Err(AllocError)
             }
         }
@@ -77,11 +88,13 @@ impl UserDraft {
         self.by_name.len()
     }
 
-    /// Whether there is a user of the name of this one.
+    /// Whether there is a user of the name of this one. It looks at each.
     pub(crate) fn has_name_of(&self, user: &User) -> bool
         ensures { result ≡ has_user self.now user.now.name }
     {
-        self.by_name.contains_key(user.fronted_name())
+        self.by_name
+            .values()
+            .any(|row| user.name().as_str() == row.user().name().as_str())
     }
 
     /// Whether some user has the digest of this one.
@@ -111,6 +124,42 @@ impl UserDraft {
         let table = UserTable::of_rows(alloc, names, digests)?;
         Ok((table, uses))
     }
+}
+
+/// Puts a user at a name where it is new, and tells whether it was.
+fn put_name(
+    map: &mut BTreeMap<Fronted<Arc<User>>, ByName>,
+    key: Fronted<Arc<User>>,
+    user: ByName,
+) -> Result<bool, AllocError>
+    ensures is_new { IfOk result (λ is_new. is_new ≡ not (is_some (get (slice_cmp nat_cmp) map.old key))) }
+    ensures put { IfOk result (λ is_new. is_new ≡ true → map.new.entries ≡ insert_entry (slice_cmp nat_cmp) map.old.entries key user) }
+    ensures taken { IfOk result (λ is_new. is_new ≡ false → map.new.entries ≡ map.old.entries) }
+    ensures err { OnErr result (map.new.entries ≡ map.old.entries) }
+{
+    let Entry::Vacant(entry) = map.entry(key)? else {
+        return Ok(false);
+    };
+    entry.insert(user);
+    Ok(true)
+}
+
+/// Puts a user at a digest where it is new, and tells whether it was.
+fn put_digest(
+    map: &mut BTreeMap<Fronted<[u8; 32]>, ByDigest>,
+    key: Fronted<[u8; 32]>,
+    user: ByDigest,
+) -> Result<bool, AllocError>
+    ensures is_new { IfOk result (λ is_new. is_new ≡ not (is_some (get (slice_cmp nat_cmp) map.old key))) }
+    ensures put { IfOk result (λ is_new. is_new ≡ true → map.new.entries ≡ insert_entry (slice_cmp nat_cmp) map.old.entries key user) }
+    ensures taken { IfOk result (λ is_new. is_new ≡ false → map.new.entries ≡ map.old.entries) }
+    ensures err { OnErr result (map.new.entries ≡ map.old.entries) }
+{
+    let Entry::Vacant(entry) = map.entry(key)? else {
+        return Ok(false);
+    };
+    entry.insert(user);
+    Ok(true)
 }
 
 /// The rows of a map, in the order of their keys.
