@@ -1,8 +1,10 @@
 mod adding;
 mod claims;
+mod clears;
 mod creating;
 mod openings;
 mod reads;
+mod redone;
 mod rules;
 mod seen;
 mod steps;

@@ -8,17 +8,32 @@ use af_sched::{AddDagFault, DagRow, State};
 use std::alloc::Global;
 use std::test::Fail;
 
+const ADDED_ONCE: &[Step] = &[
+    Step::Added("b", Ok(())),
+    Step::Added("a", Ok(())),
+    Step::Added("b", Err(AddDagFault::Exists)),
+    Step::Dags(IDS),
+];
+
+const IDS: &[&str] = &["a", "b"];
+
+const DEFAULT: &str = "default_pool";
+
+/// A pool, how many runs may be running, a step in seconds, and what is told.
+const FAULTS: [(&str, u32, u32, Result<(), AddDagFault>); 6] = [
+    ("p", 0, 0, Err(AddDagFault::NoActiveRuns)),
+    ("p", 1, 0, Err(AddDagFault::NoStep)),
+    ("p", 1, 1, Err(AddDagFault::NoSuchPool)),
+    (DEFAULT, 1, 1, Ok(())),
+    ("p", 1, 1, Err(AddDagFault::NoSuchPool)),
+    (DEFAULT, 1, 1, Err(AddDagFault::Exists)),
+];
+
 #[test]
 fn a_dag_is_added_once(rt: HostRuntime) -> Result<(), Fail> {
     let alloc = rt.alloc();
     let mut state = State::new(alloc)?;
-    let steps = [
-        Step::Added("b", Ok(())),
-        Step::Added("a", Ok(())),
-        Step::Added("b", Err(AddDagFault::Exists)),
-        Step::Dags(&["a", "b"]),
-    ];
-    let fault = first_fault(alloc, &mut state, &steps)?;
+    let fault = first_fault(alloc, &mut state, ADDED_ONCE)?;
     assert!(rt; fault.is_none(), "step {fault:?}");
     let first = state.dags().first();
     assert!(rt;
@@ -49,15 +64,7 @@ fn every(alloc: Global, pool: &str, most: u32, seconds: u32) -> Result<DagRow, F
 fn the_first_fault_of_a_dag_is_told(rt: HostRuntime) -> Result<(), Fail> {
     let alloc = rt.alloc();
     let mut state = State::new(alloc)?;
-    let table = [
-        ("p", 0, 0, Err(AddDagFault::NoActiveRuns)),
-        ("p", 1, 0, Err(AddDagFault::NoStep)),
-        ("p", 1, 1, Err(AddDagFault::NoSuchPool)),
-        ("default_pool", 1, 1, Ok(())),
-        ("p", 1, 1, Err(AddDagFault::NoSuchPool)),
-        ("default_pool", 1, 1, Err(AddDagFault::Exists)),
-    ];
-    for (pool, most, seconds, wanted) in table {
+    for (pool, most, seconds, wanted) in FAULTS {
         let told = state.add_dag(every(alloc, pool, most, seconds)?);
         assert!(rt; told == wanted, "{pool} {most} {seconds}: {told:?}");
     }
@@ -76,34 +83,71 @@ fn fail_run(alloc: Global, state: &mut State, number: u64) -> Result<(), Fail> {
     Ok(())
 }
 
-#[test]
-fn a_run_is_added_looked_up_and_advanced(rt: HostRuntime) -> Result<(), Fail> {
-    let alloc = rt.alloc();
-    let mut state = state_of(alloc, tried(TaskState::NoStatus, 0))?;
-    let (r, s) = (RunId::parse(alloc, "r")?, RunId::parse(alloc, "s")?);
+/// The id of a run, a date, and why a run of these is not added to DAG g, which has the run r of date 0.
+const RUN_FAULTS: [(&str, u64, Option<RunFault>); 3] = [
+    ("r", 0, Some(RunFault::RunExists)),
+    ("s", 0, Some(RunFault::DateTaken)),
+    ("s", 1, None),
+];
+
+const UNTRIED: &[TaskState] = &[TaskState::NoStatus];
+
+const ONE_HAS_FAILED: &[RunState] = &[RunState::Failed, RunState::Queued];
+
+/// Why a run of this id and this date is not added to DAG g.
+fn run_fault(
+    alloc: Global,
+    state: &State,
+    run_id: &str,
+    date: u64,
+) -> Result<Option<RunFault>, Fail> {
     let dag_id = DagId::parse(alloc, "g")?;
-    let faults = [
-        (&r, 0, Some(RunFault::RunExists)),
-        (&s, 0, Some(RunFault::DateTaken)),
-        (&s, 1, None),
-    ];
-    for (run_id, date, wanted) in faults {
-        let told = state.run_fault(&dag_id, run_id, moment(date)?);
-        assert!(rt; told == wanted, "{told:?}");
-    }
+    let run_id = RunId::parse(alloc, run_id)?;
+    Ok(state.run_fault(&dag_id, &run_id, moment(date)?))
+}
+
+/// The number of the run of this id of DAG g.
+fn number_of(alloc: Global, state: &State, run_id: &str) -> Result<Option<u64>, Fail> {
+    let dag_id = DagId::parse(alloc, "g")?;
+    let run_id = RunId::parse(alloc, run_id)?;
+    Ok(state.run(&dag_id, &run_id).map(|run| run.number))
+}
+
+/// Adds run s of DAG g, where memory is reserved: its number.
+fn added(alloc: Global, state: &mut State) -> Result<u64, Fail> {
     state.reserve_runs(3)?;
     state.reserve_pools(3)?;
-    let untried = instances(alloc, &[TaskState::NoStatus])?;
-    let number = add_run(&mut state, new_run(alloc, "g", "s", moment(1)?, untried)?)?;
+    let untried = instances(alloc, UNTRIED)?;
+    add_run(state, new_run(alloc, "g", "s", moment(1)?, untried)?)
+}
+
+#[test]
+fn why_a_run_is_not_added_is_told(rt: HostRuntime) -> Result<(), Fail> {
+    let state = state_of(rt.alloc(), tried(TaskState::NoStatus, 0))?;
+    for (run_id, date, wanted) in RUN_FAULTS {
+        let told = run_fault(rt.alloc(), &state, run_id, date)?;
+        assert!(rt; told == wanted, "{told:?}");
+    }
+    Ok(())
+}
+
+#[test]
+fn a_run_is_added_and_looked_up(rt: HostRuntime) -> Result<(), Fail> {
+    let mut state = state_of(rt.alloc(), tried(TaskState::NoStatus, 0))?;
+    let number = added(rt.alloc(), &mut state)?;
     assert!(rt; number == 2, "the second run");
-    let by_ids = state.run(&dag_id, &s).map(|run| run.number);
+    let by_ids = number_of(rt.alloc(), &state, "s")?;
     assert!(rt; by_ids == Some(2), "by its ids");
-    let by_number = state.run_numbered(2).map(|run| run.logical_date);
-    assert!(rt; by_number == Some(moment(1)?), "by its number");
-    fail_run(alloc, &mut state, 1)?;
-    assert!(rt;
-        states_are(&state, &[RunState::Failed, RunState::Queued]),
-        "the first is advanced"
-    );
+    let by_number = state.run_numbered(2).map(|run| run.logical_date.micros());
+    assert!(rt; by_number == Some(1), "by its number");
+    Ok(())
+}
+
+#[test]
+fn a_run_is_advanced(rt: HostRuntime) -> Result<(), Fail> {
+    let mut state = state_of(rt.alloc(), tried(TaskState::NoStatus, 0))?;
+    let _number = added(rt.alloc(), &mut state)?;
+    fail_run(rt.alloc(), &mut state, 1)?;
+    assert!(rt; states_are(&state, ONE_HAS_FAILED), "the first is advanced");
     Ok(())
 }

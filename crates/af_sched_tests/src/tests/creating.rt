@@ -5,18 +5,146 @@ use af_names::Preset;
 use std::alloc::Global;
 use std::test::Fail;
 
+const NEW_YEAR: &str = "2024-01-01T00:00:00Z";
+
+const ONE_HOUR_LATER: &str = "2024-01-01T01:00:00Z";
+
+const SIXTEEN_HOURS_LATER: &str = "2024-01-01T16:00:00Z";
+
+const ONE_DAY_LATER: &str = "2024-01-02T00:00:00Z";
+
+const FIRST_SUNDAY: &str = "2024-01-07T00:00:00Z";
+
+const END_OF_JANUARY: &str = "2024-01-31T00:00:00Z";
+
+const FEBRUARY: &str = "2024-02-01T00:00:00Z";
+
+const BEFORE_MARCH: &str = "2024-02-29T23:59:59.999999Z";
+
+const MARCH: &str = "2024-03-01T00:00:00Z";
+
+const MAY: &str = "2024-05-01T00:00:00Z";
+
+const MIDDLE_OF_MAY: &str = "2024-05-15T00:00:00Z";
+
+const RUN_OF_FEBRUARY: &str = "scheduled__2024-02-01T00:00:00+00:00";
+
+const RUN_OF_APRIL: &str = "scheduled__2024-04-01T00:00:00+00:00";
+
+const EPOCH: &str = "1970-01-01T00:00:00Z";
+
+const QUEUED: &[TaskState] = &[TaskState::Queued];
+
+const A_MONTH_HAS_ITS_RUN: &[Step] = &[
+    Step::Rests(BEFORE_MARCH),
+    Step::Changes(MARCH),
+    Step::First(RUN_OF_FEBRUARY, MARCH),
+    Step::Runs(1, 1),
+    Step::Are(QUEUED),
+    Step::Cursor(MARCH),
+    Step::Rests(MARCH),
+];
+
+const THE_LAST_MONTH_HAS_ITS_RUN: &[Step] = &[
+    Step::Changes(MIDDLE_OF_MAY),
+    Step::First(RUN_OF_APRIL, MAY),
+    Step::Runs(1, 1),
+    Step::Cursor(MAY),
+];
+
+const A_WEEK_BEGINS_ON_SUNDAY: &[Step] = &[Step::Cursor(FIRST_SUNDAY)];
+
+const ONE_TICK_TAKES_SIXTEEN_POINTS: &[Step] = &[
+    Step::Changes(ONE_DAY_LATER),
+    Step::Runs(16, 2),
+    Step::Cursor(SIXTEEN_HOURS_LATER),
+];
+
+const A_PLANNED_TICK_IS_THEN_DONE: &[Step] = &[
+    Step::Planned(ONE_DAY_LATER),
+    Step::Runs(16, 2),
+    Step::Cursor(SIXTEEN_HOURS_LATER),
+];
+
+const A_PAUSED_DAG_HAS_NO_RUN: &[Step] = &[
+    Step::Rests(ONE_DAY_LATER),
+    Step::Cursor(NEW_YEAR),
+    Step::Paused("s", false),
+    Step::Changes(ONE_HOUR_LATER),
+    Step::Runs(1, 1),
+    Step::Paused("s", true),
+    Step::Rests(ONE_DAY_LATER),
+];
+
+const FEBRUARY_IS_PASSED_OVER: &[Step] = &[
+    Step::Changes(MARCH),
+    Step::Runs(1, 0),
+    Step::Cursor(MARCH),
+];
+
 /// A DAG of these points, and what becomes of it.
-#[derive(Drop)]
-struct Story<'a> {
-    name: &'a str,
+#[derive(Clone, Copy)]
+struct Story {
+    name: &'static str,
     preset: Preset,
-    start: &'a str,
+    start: &'static str,
     catchup: bool,
     is_paused: bool,
-    steps: &'a [Step],
+    steps: &'static [Step],
 }
 
-fn fault_in(alloc: Global, story: &Story<'_>) -> Result<Option<usize>, Fail> {
+const STORIES: &[Story] = &[
+    Story {
+        name: "a month has its run",
+        preset: Preset::Monthly,
+        start: END_OF_JANUARY,
+        catchup: true,
+        is_paused: false,
+        steps: A_MONTH_HAS_ITS_RUN,
+    },
+    Story {
+        name: "without catchup the last month has its run",
+        preset: Preset::Monthly,
+        start: END_OF_JANUARY,
+        catchup: false,
+        is_paused: false,
+        steps: THE_LAST_MONTH_HAS_ITS_RUN,
+    },
+    Story {
+        name: "a week begins on Sunday",
+        preset: Preset::Weekly,
+        start: NEW_YEAR,
+        catchup: true,
+        is_paused: false,
+        steps: A_WEEK_BEGINS_ON_SUNDAY,
+    },
+    Story {
+        name: "one tick takes sixteen points",
+        preset: Preset::Hourly,
+        start: NEW_YEAR,
+        catchup: true,
+        is_paused: false,
+        steps: ONE_TICK_TAKES_SIXTEEN_POINTS,
+    },
+    Story {
+        name: "a planned tick is then done",
+        preset: Preset::Hourly,
+        start: NEW_YEAR,
+        catchup: true,
+        is_paused: false,
+        steps: A_PLANNED_TICK_IS_THEN_DONE,
+    },
+    Story {
+        name: "a paused DAG has no run, and one once it goes on",
+        preset: Preset::Hourly,
+        start: NEW_YEAR,
+        catchup: true,
+        is_paused: true,
+        steps: A_PAUSED_DAG_HAS_NO_RUN,
+    },
+];
+
+fn fault_in(alloc: Global, story: &Story) -> Result<Option<usize>, Fail> {
     let mut state = scheduled(
         alloc,
         story.preset,
@@ -29,92 +157,7 @@ fn fault_in(alloc: Global, story: &Story<'_>) -> Result<Option<usize>, Fail> {
 
 #[test]
 fn runs_fall_due_by_the_schedule(rt: HostRuntime) -> Result<(), Fail> {
-    let stories = [
-        Story {
-            name: "a month has its run",
-            preset: Preset::Monthly,
-            start: "2024-01-31T00:00:00Z",
-            catchup: true,
-            is_paused: false,
-            steps: &[
-                Step::Rests("2024-02-29T23:59:59.999999Z"),
-                Step::Changes("2024-03-01T00:00:00Z"),
-                Step::First(
-                    "scheduled__2024-02-01T00:00:00+00:00",
-                    "2024-03-01T00:00:00Z",
-                ),
-                Step::Runs(1, 1),
-                Step::Are(&[TaskState::Queued]),
-                Step::Cursor("2024-03-01T00:00:00Z"),
-                Step::Rests("2024-03-01T00:00:00Z"),
-            ],
-        },
-        Story {
-            name: "without catchup the last month has its run",
-            preset: Preset::Monthly,
-            start: "2024-01-31T00:00:00Z",
-            catchup: false,
-            is_paused: false,
-            steps: &[
-                Step::Changes("2024-05-15T00:00:00Z"),
-                Step::First(
-                    "scheduled__2024-04-01T00:00:00+00:00",
-                    "2024-05-01T00:00:00Z",
-                ),
-                Step::Runs(1, 1),
-                Step::Cursor("2024-05-01T00:00:00Z"),
-            ],
-        },
-        Story {
-            name: "a week begins on Sunday",
-            preset: Preset::Weekly,
-            start: "2024-01-01T00:00:00Z",
-            catchup: true,
-            is_paused: false,
-            steps: &[Step::Cursor("2024-01-07T00:00:00Z")],
-        },
-        Story {
-            name: "one tick takes sixteen points",
-            preset: Preset::Hourly,
-            start: "2024-01-01T00:00:00Z",
-            catchup: true,
-            is_paused: false,
-            steps: &[
-                Step::Changes("2024-01-02T00:00:00Z"),
-                Step::Runs(16, 2),
-                Step::Cursor("2024-01-01T16:00:00Z"),
-            ],
-        },
-        Story {
-            name: "a planned tick is then done",
-            preset: Preset::Hourly,
-            start: "2024-01-01T00:00:00Z",
-            catchup: true,
-            is_paused: false,
-            steps: &[
-                Step::Planned("2024-01-02T00:00:00Z"),
-                Step::Runs(16, 2),
-                Step::Cursor("2024-01-01T16:00:00Z"),
-            ],
-        },
-        Story {
-            name: "a paused DAG has no run, and one once it goes on",
-            preset: Preset::Hourly,
-            start: "2024-01-01T00:00:00Z",
-            catchup: true,
-            is_paused: true,
-            steps: &[
-                Step::Rests("2024-01-02T00:00:00Z"),
-                Step::Cursor("2024-01-01T00:00:00Z"),
-                Step::Paused("s", false),
-                Step::Changes("2024-01-01T01:00:00Z"),
-                Step::Runs(1, 1),
-                Step::Paused("s", true),
-                Step::Rests("2024-01-02T00:00:00Z"),
-            ],
-        },
-    ];
-    for story in &stories {
+    for story in STORIES {
         let fault = fault_in(rt.alloc(), story)?;
         assert!(rt; fault.is_none(), "{}: step {fault:?}", story.name);
     }
@@ -123,27 +166,18 @@ fn runs_fall_due_by_the_schedule(rt: HostRuntime) -> Result<(), Fail> {
 
 /// Whether February is passed over where a run of this id and this date is there, and the cursor moves to March.
 fn is_passed_over(alloc: Global, run_id: &str, date: &str) -> Result<bool, Fail> {
-    let mut state = scheduled(alloc, Preset::Monthly, "2024-01-31T00:00:00Z", true, false)?;
+    let mut state = scheduled(alloc, Preset::Monthly, END_OF_JANUARY, true, false)?;
     let done = instances(alloc, &[TaskState::Success])?;
     let _number = add_run(&mut state, new_run(alloc, "s", run_id, at(date)?, done)?)?;
-    let steps = [
-        Step::Changes("2024-03-01T00:00:00Z"),
-        Step::Runs(1, 0),
-        Step::Cursor("2024-03-01T00:00:00Z"),
-    ];
-    Ok(first_fault(alloc, &mut state, &steps)?.is_none())
+    Ok(first_fault(alloc, &mut state, FEBRUARY_IS_PASSED_OVER)?.is_none())
 }
+
+/// An id and a date, of which one is February's.
+const TAKEN: [(&str, &str); 2] = [(RUN_OF_FEBRUARY, EPOCH), ("february", FEBRUARY)];
 
 #[test]
 fn a_taken_id_or_date_is_passed_over(rt: HostRuntime) -> Result<(), Fail> {
-    let table = [
-        (
-            "scheduled__2024-02-01T00:00:00+00:00",
-            "1970-01-01T00:00:00Z",
-        ),
-        ("february", "2024-02-01T00:00:00Z"),
-    ];
-    for (run_id, date) in table {
+    for (run_id, date) in TAKEN {
         let holds = is_passed_over(rt.alloc(), run_id, date)?;
         assert!(rt; holds, "{run_id} of {date}");
     }

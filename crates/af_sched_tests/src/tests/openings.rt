@@ -160,3 +160,31 @@ pub fn state_of(alloc: Global, instance: Instance) -> Result<State, Fail> {
     let only = Instances::of(vec![in alloc; instance]?);
     with_pool(alloc, 2, tasks, true, only)
 }
+
+/// Adds a DAG of one task without a schedule.
+pub fn add_dag_of_one(
+    alloc: Global,
+    state: &mut State,
+    dag_id: &str,
+    weight: i32,
+    is_paused: bool,
+) -> Result<(), Fail> {
+    let mut only = task(alloc, "t", &[], Rule::AllSuccess)?;
+    only.priority_weight = weight;
+    let tasks = vec![in alloc; only]?;
+    state.add_dag(dag(alloc, dag_id, tasks, is_paused)?)?;
+    Ok(())
+}
+
+/// Adds a run of one instance in this state, of these ids and this date in microseconds.
+pub fn add_run_of_one(
+    alloc: Global,
+    state: &mut State,
+    dag_id: &str,
+    run_id: &str,
+    date: u64,
+    instance: TaskState,
+) -> Result<u64, Fail> {
+    let only = instances(alloc, &[instance])?;
+    add_run(state, new_run(alloc, dag_id, run_id, moment(date)?, only)?)
+}

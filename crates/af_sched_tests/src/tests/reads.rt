@@ -1,5 +1,5 @@
-use crate::tests::openings::{add_run, dag, instances, moment, new_run, task};
-use af_graph::{Rule, TaskState};
+use crate::tests::openings::{add_dag_of_one, add_run_of_one};
+use af_graph::TaskState;
 use af_names::DagId;
 use af_sched::State;
 use std::alloc::Global;
@@ -9,20 +9,18 @@ use std::test::Fail;
 fn with_runs(alloc: Global, runs: &[&str]) -> Result<State, Fail> {
     let mut state = State::new(alloc)?;
     for dag_id in ["a", "b"] {
-        let tasks = vec![in alloc; task(alloc, "t", &[], Rule::AllSuccess)?]?;
-        state.add_dag(dag(alloc, dag_id, tasks, true)?)?;
+        add_dag_of_one(alloc, &mut state, dag_id, 1, true)?;
     }
     for (date, dag_id) in runs.iter().enumerate() {
         let run_id = format!(in alloc; "r{date}")?;
-        let untried = instances(alloc, &[TaskState::NoStatus])?;
-        let new = new_run(
+        let _number = add_run_of_one(
             alloc,
+            &mut state,
             dag_id,
             run_id.as_str(),
-            moment(date as u64)?,
-            untried,
+            date as u64,
+            TaskState::NoStatus,
         )?;
-        let _number = add_run(&mut state, new)?;
     }
     Ok(state)
 }
@@ -46,25 +44,39 @@ fn are(
     Ok(same && page.next().is_none() && count == from.saturating_add(wanted.len()))
 }
 
+/// A DAG, a place, and the numbers of its runs from there on: first of all runs, then without number 3.
+const ALL: [(&str, usize, &[u64]); 4] = [
+    ("a", 0, &[1, 3, 4]),
+    ("a", 1, &[3, 4]),
+    ("b", 1, &[5]),
+    ("c", 0, &[]),
+];
+
+const WITHOUT_THREE: [(&str, usize, &[u64]); 1] = [("a", 0, &[1, 4])];
+
+const ADDED: &[&str] = &["a", "b", "a", "a", "b"];
+
+const BUSY: [u64; 4] = [1, 2, 4, 5];
+
+/// Whether each row of a table is so.
+fn all_are(alloc: Global, state: &State, table: &[(&str, usize, &[u64])]) -> Result<bool, Fail> {
+    let mut all = true;
+    for (dag_id, from, wanted) in table {
+        all = all && are(alloc, state, dag_id, *from, wanted)?;
+    }
+    Ok(all)
+}
+
 #[test]
 fn runs_of_a_dag_are_read_from_any_place(rt: HostRuntime) -> Result<(), Fail> {
     let alloc = rt.alloc();
-    let mut state = with_runs(alloc, &["a", "b", "a", "a", "b"])?;
-    assert!(rt; are(alloc, &state, "a", 0, &[1, 3, 4])?, "all of a");
-    assert!(rt;
-        are(alloc, &state, "a", 1, &[3, 4])?,
-        "all but the first of a"
-    );
-    assert!(rt; are(alloc, &state, "b", 1, &[5])?, "the last of b");
-    assert!(rt;
-        are(alloc, &state, "c", 0, &[])?,
-        "no run of a DAG that is not there"
-    );
+    let mut state = with_runs(alloc, ADDED)?;
+    assert!(rt; all_are(alloc, &state, &ALL)?, "all runs");
     state.remove_run(3);
     state.remove_run(7);
-    assert!(rt; are(alloc, &state, "a", 0, &[1, 4])?, "without number 3");
+    assert!(rt; all_are(alloc, &state, &WITHOUT_THREE)?, "without number 3");
     let mut busy = state.busy_runs();
-    for number in [1, 2, 4, 5] {
+    for number in BUSY {
         assert!(rt;
             busy.next().is_some_and(|run| run.number == number),
             "each that has not ended"

@@ -67,6 +67,17 @@ pub fn are(run: &Run, wanted: &[TaskState]) -> bool {
             .all(|(row, want)| row.state == *want)
 }
 
+/// Whether the first instance of the first run is this one.
+pub fn first_instance_is(state: &State, wanted: Instance) -> bool {
+    let Some(run) = state.runs().first() else {
+        return false;
+    };
+    match run.instances.as_slice().first() {
+        Some(instance) => *instance == wanted,
+        None => false,
+    }
+}
+
 /// The first instance of the first run.
 pub fn first_instance(state: &State) -> Result<Instance, Fail> {
     let Some(run) = state.runs().first() else {

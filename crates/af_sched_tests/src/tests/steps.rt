@@ -1,8 +1,9 @@
 use crate::tests::openings::{at, dag, moment, task};
+use crate::tests::redone::redone;
 use crate::tests::seen::{are_dags, cursor_is, first_are, first_is, runs_are, states_are};
 use af_graph::{Rule, TaskState};
 use af_names::{DagId, PoolName, RunId, TaskId};
-use af_runs::RunState;
+use af_runs::{Mark, RunState};
 use af_sched::{AddDagFault, Claim, Outcome, ReportFault, State};
 use std::alloc::Global;
 use std::test::Fail;
@@ -18,12 +19,30 @@ pub enum Step {
     Planned(&'static str),
     /// The next claim is the first try of this task of the first run.
     Claims(&'static str),
+    /// A tick so many microseconds after 1970 changes the state, and the claim a microsecond later is of this try of run 1.
+    Tries(u64, u32),
     /// There is nothing to claim.
     ClaimsNone,
     /// The next claim is of this task, and the report of this outcome is taken, both so many microseconds after 1970.
     Ends(&'static str, Outcome, u64),
     /// A report of the run of this number, this task and this try, so many microseconds after 1970, is answered so.
     Reports(u64, &'static str, u32, Outcome, u64, Result<(), ReportFault>),
+    /// Task t of the runs of DAG g is cleared, or where it failed alone.
+    Clears(bool),
+    /// Task t of the run of this number is cleared, or where it failed alone.
+    ClearsRun(u64, bool),
+    /// Of task t of the runs of DAG g, or where it failed alone, the first of run 1 is chosen alone.
+    Alone(bool),
+    /// Whether the runs are as they were if task t of the runs of DAG g is cleared, or where it failed alone.
+    Left(bool, bool),
+    /// The run of this number is marked, so many microseconds after 1970.
+    Marks(u64, Mark, u64),
+    /// The run of this number is taken out.
+    Removes(u64),
+    /// A new run r of DAG g of one task gets this number.
+    AddsRun(u64),
+    /// The first instance is without a state, was tried so often, and may be tried so often.
+    IsCleared(u32, u64),
     /// Pool p gets so many slots.
     Slots(u64),
     /// The DAG of this id is paused, or goes on.
@@ -65,11 +84,15 @@ fn goes(alloc: Global, state: &mut State, step: Step) -> Result<bool, Fail> {
         Step::Rests(moment) => Ok(!state.tick(alloc, at(moment)?)?),
         Step::Planned(moment) => planned(alloc, state, moment),
         Step::Claims(task_id) => claims(alloc, state, task_id),
-        Step::ClaimsNone => Ok(state.claim(alloc, moment(3)?)?.is_none()),
+        Step::ClaimsNone => {
+            let told = state.next_claim(alloc)?;
+            Ok(told.is_none() && state.claim(alloc, moment(3)?)?.is_none())
+        }
         Step::Ends(task_id, outcome, micros) => ends(alloc, state, task_id, outcome, micros),
         Step::Reports(run, task_id, try_number, outcome, micros, wanted) => {
             let claim = claim_of(alloc, run, task_id, try_number)?;
-            Ok(state.report(&claim, outcome, moment(micros)?) == wanted)
+            let told = state.report_fault(&claim);
+            Ok(state.report(&claim, outcome, moment(micros)?) == wanted && told == wanted.err())
         }
         _ => changed_or_seen(alloc, state, step),
     }
@@ -90,7 +113,13 @@ fn changed_or_seen(alloc: Global, state: &mut State, step: Step) -> Result<bool,
             let tasks = vec![in alloc; task(alloc, "t", &[], Rule::AllSuccess)?]?;
             Ok(state.add_dag(dag(alloc, dag_id, tasks, false)?) == wanted)
         }
-        _ => seen(state, step),
+        Step::Dags(_)
+        | Step::Are(_)
+        | Step::Cursor(_)
+        | Step::Runs(_, _)
+        | Step::States(_)
+        | Step::First(_, _) => seen(state, step),
+        _ => redone(alloc, state, step),
     }
 }
 
@@ -118,9 +147,17 @@ fn planned(alloc: Global, state: &mut State, moment: &str) -> Result<bool, Fail>
 
 /// Whether the next claim is the first try of this task of the first run.
 fn claims(alloc: Global, state: &mut State, task_id: &str) -> Result<bool, Fail> {
+    let Some(told) = state.next_claim(alloc)? else {
+        return Ok(false);
+    };
     match state.claim(alloc, moment(3)?)? {
         Some(claim) => Ok(
-            claim.task_id.as_str() == task_id && claim.try_number == 1 && claim.run_number == 1,
+            claim.task_id.as_str() == task_id
+                && claim.try_number == 1
+                && claim.run_number == 1
+                && told.task_id == claim.task_id
+                && told.try_number == 1
+                && told.run_number == 1,
         ),
         None => Ok(false),
     }

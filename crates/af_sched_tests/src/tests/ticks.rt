@@ -1,5 +1,5 @@
 use crate::tests::openings::{
-    add_run, at, dag, instances, moment, new_run, pooled, scheduled, task, with_pool,
+    add_dag_of_one, add_run_of_one, at, instances, pooled, scheduled, task, with_pool,
 };
 use crate::tests::seen::are;
 use crate::tests::steps::{Step, first_fault};
@@ -10,37 +10,81 @@ use af_sched::{Outcome, State};
 use std::alloc::Global;
 use std::test::Fail;
 
+const NEW_YEAR: &str = "2024-01-01T00:00:00Z";
+
+const ONE_SECOND_LATER: &str = "2024-01-01T00:00:01Z";
+
+const TWO_SECONDS_LATER: &str = "2024-01-01T00:00:02Z";
+
+const THREE_SECONDS_LATER: &str = "2024-01-01T00:00:03Z";
+
+const SIXTEEN_HOURS_LATER: &str = "2024-01-01T16:00:00Z";
+
+const ONE_DAY_LATER: &str = "2024-01-02T00:00:00Z";
+
+const EPOCH: &str = "1970-01-01T00:00:00Z";
+
+const BEFORE_THE_RETRY: &str = "1970-01-01T00:04:59.999999Z";
+
+const THE_RETRY: &str = "1970-01-01T00:05:00Z";
+
+const AFTER_THE_RETRY: &str = "1970-01-01T00:05:01Z";
+
+/// Which DAGs there are, and whether they are paused; whose runs are added, with which ids and dates.
+const DAGS: [(&str, bool); 2] = [("g", false), ("h", true)];
+
+const RUNS: [(&str, &str, u64); 4] = [("g", "a", 0), ("h", "a", 0), ("g", "b", 1), ("g", "c", 2)];
+
+const UNTRIED: &[TaskState] = &[TaskState::NoStatus];
+
+const TWO_RUN: &[RunState] = &[
+    RunState::Running,
+    RunState::Queued,
+    RunState::Running,
+    RunState::Queued,
+];
+
+const ONE_HAS_ENDED: &[RunState] = &[
+    RunState::Success,
+    RunState::Queued,
+    RunState::Running,
+    RunState::Queued,
+];
+
+const ANOTHER_STARTS: &[RunState] = &[
+    RunState::Success,
+    RunState::Queued,
+    RunState::Running,
+    RunState::Running,
+];
+
+const RUNS_START_BY_NUMBER: &[Step] = &[
+    Step::Changes(NEW_YEAR),
+    Step::States(TWO_RUN),
+    Step::Ends("t", Outcome::Success, 5),
+    Step::Changes(ONE_SECOND_LATER),
+    Step::States(ONE_HAS_ENDED),
+    Step::Changes(TWO_SECONDS_LATER),
+    Step::States(ANOTHER_STARTS),
+    Step::Rests(THREE_SECONDS_LATER),
+];
+
 /// Two DAGs of one task, two runs of each at a time, of which h is paused, and queued runs 1, 3, 4 of g and 2 of h.
 fn two_dags(alloc: Global) -> Result<State, Fail> {
     let mut state = State::new(alloc)?;
-    for (dag_id, is_paused) in [("g", false), ("h", true)] {
-        let tasks = vec![in alloc; task(alloc, "t", &[], Rule::AllSuccess)?]?;
-        state.add_dag(dag(alloc, dag_id, tasks, is_paused)?)?;
+    for (dag_id, is_paused) in DAGS {
+        add_dag_of_one(alloc, &mut state, dag_id, 1, is_paused)?;
     }
-    for (dag_id, run_id, date) in [("g", "a", 0), ("h", "a", 0), ("g", "b", 1), ("g", "c", 2)] {
-        let untried = instances(alloc, &[TaskState::NoStatus])?;
-        let new = new_run(alloc, dag_id, run_id, moment(date)?, untried)?;
-        let _number = add_run(&mut state, new)?;
+    for (dag_id, run_id, date) in RUNS {
+        let _number = add_run_of_one(alloc, &mut state, dag_id, run_id, date, TaskState::NoStatus)?;
     }
     Ok(state)
 }
 
 #[test]
 fn runs_start_by_number(rt: HostRuntime) -> Result<(), Fail> {
-    use RunState::{Queued, Running, Success};
-    let alloc = rt.alloc();
-    let mut state = two_dags(alloc)?;
-    let steps = [
-        Step::Changes("2024-01-01T00:00:00Z"),
-        Step::States(&[Running, Queued, Running, Queued]),
-        Step::Ends("t", Outcome::Success, 5),
-        Step::Changes("2024-01-01T00:00:01Z"),
-        Step::States(&[Success, Queued, Running, Queued]),
-        Step::Changes("2024-01-01T00:00:02Z"),
-        Step::States(&[Success, Queued, Running, Running]),
-        Step::Rests("2024-01-01T00:00:03Z"),
-    ];
-    let fault = first_fault(alloc, &mut state, &steps)?;
+    let mut state = two_dags(rt.alloc())?;
+    let fault = first_fault(rt.alloc(), &mut state, RUNS_START_BY_NUMBER)?;
     assert!(rt; fault.is_none(), "step {fault:?}");
     Ok(())
 }
@@ -62,89 +106,123 @@ fn three_in_a_row(alloc: Global) -> Result<Vec<TaskSpec>, Fail> {
     ]?)
 }
 
-/// A run of these tasks, whose instances are in these states, and what becomes of it.
-#[derive(Drop)]
-struct Story<'a> {
-    name: &'a str,
-    tasks: Vec<TaskSpec>,
-    states: &'a [TaskState],
-    steps: &'a [Step],
-}
+const FOUR_UNTRIED: &[TaskState] = &[
+    TaskState::NoStatus,
+    TaskState::NoStatus,
+    TaskState::NoStatus,
+    TaskState::NoStatus,
+];
 
-fn fault_in(alloc: Global, story: Story<'_>) -> Result<Option<usize>, Fail> {
-    let Story {
-        name: _,
-        tasks,
-        states,
-        steps,
-    } = story;
+const TWO_FIT: &[TaskState] = &[
+    TaskState::Scheduled,
+    TaskState::Queued,
+    TaskState::Queued,
+    TaskState::Scheduled,
+];
+
+const ONE_MORE_FITS: &[TaskState] = &[
+    TaskState::Scheduled,
+    TaskState::Success,
+    TaskState::Success,
+    TaskState::Queued,
+];
+
+const A_LOWERED_POOL_IS_NOT_FILLED: &[Step] = &[
+    Step::Changes(NEW_YEAR),
+    Step::Are(TWO_FIT),
+    Step::Slots(1),
+    Step::Ends("y", Outcome::Success, 5),
+    Step::Rests(ONE_SECOND_LATER),
+    Step::Ends("z", Outcome::Success, 6),
+    Step::Changes(TWO_SECONDS_LATER),
+    Step::Are(ONE_MORE_FITS),
+];
+
+const THE_FIRST_HAS_FAILED: &[TaskState] = &[
+    TaskState::NoStatus,
+    TaskState::NoStatus,
+    TaskState::Failed,
+];
+
+const ALL_HAVE_FAILED: &[TaskState] = &[
+    TaskState::UpstreamFailed,
+    TaskState::UpstreamFailed,
+    TaskState::Failed,
+];
+
+const A_FAILED_RUN: &[RunState] = &[RunState::Failed];
+
+const A_FAILURE_GOES_DOWN: &[Step] = &[
+    Step::Changes(NEW_YEAR),
+    Step::Are(ALL_HAVE_FAILED),
+    Step::States(A_FAILED_RUN),
+    Step::Rests(ONE_SECOND_LATER),
+];
+
+const UP_FOR_RETRY: &[TaskState] = &[TaskState::UpForRetry];
+
+const QUEUED: &[TaskState] = &[TaskState::Queued];
+
+const FAILED: &[TaskState] = &[TaskState::Failed];
+
+const A_RETRY_WAITS: &[Step] = &[
+    Step::Changes(EPOCH),
+    Step::Ends("t", Outcome::Failed, 0),
+    Step::Are(UP_FOR_RETRY),
+    Step::Rests(BEFORE_THE_RETRY),
+    Step::Changes(THE_RETRY),
+    Step::Are(QUEUED),
+    Step::Ends("t", Outcome::Failed, 9),
+    Step::Are(FAILED),
+    Step::Changes(AFTER_THE_RETRY),
+    Step::Runs(1, 0),
+];
+
+/// The number of the first step that does not go as it says, of a run of these tasks whose instances are in these states.
+fn fault_in(
+    alloc: Global,
+    tasks: Vec<TaskSpec>,
+    states: &[TaskState],
+    steps: &[Step],
+) -> Result<Option<usize>, Fail> {
     let mut state = with_pool(alloc, 2, tasks, false, instances(alloc, states)?)?;
     first_fault(alloc, &mut state, steps)
 }
 
 #[test]
-fn instances_go_on_by_ticks(rt: HostRuntime) -> Result<(), Fail> {
-    use TaskState::{Failed, NoStatus, Queued, Scheduled, Success, UpForRetry, UpstreamFailed};
+fn a_lowered_pool_is_not_filled(rt: HostRuntime) -> Result<(), Fail> {
+    let tasks = four_in_a_pool(rt.alloc())?;
+    let fault = fault_in(
+        rt.alloc(),
+        tasks,
+        FOUR_UNTRIED,
+        A_LOWERED_POOL_IS_NOT_FILLED,
+    )?;
+    assert!(rt; fault.is_none(), "step {fault:?}");
+    Ok(())
+}
+
+#[test]
+fn a_failure_goes_down_in_one_tick(rt: HostRuntime) -> Result<(), Fail> {
+    let tasks = three_in_a_row(rt.alloc())?;
+    let fault = fault_in(rt.alloc(), tasks, THE_FIRST_HAS_FAILED, A_FAILURE_GOES_DOWN)?;
+    assert!(rt; fault.is_none(), "step {fault:?}");
+    Ok(())
+}
+
+#[test]
+fn a_retry_waits_for_its_moment(rt: HostRuntime) -> Result<(), Fail> {
     let alloc = rt.alloc();
-    let stories = vec![in alloc;
-        Story {
-            name: "a lowered pool is not filled",
-            tasks: four_in_a_pool(alloc)?,
-            states: &[NoStatus, NoStatus, NoStatus, NoStatus],
-            steps: &[
-                Step::Changes("2024-01-01T00:00:00Z"),
-                Step::Are(&[Scheduled, Queued, Queued, Scheduled]),
-                Step::Slots(1),
-                Step::Ends("y", Outcome::Success, 5),
-                Step::Rests("2024-01-01T00:00:01Z"),
-                Step::Ends("z", Outcome::Success, 6),
-                Step::Changes("2024-01-01T00:00:02Z"),
-                Step::Are(&[Scheduled, Success, Success, Queued]),
-            ],
-        },
-        Story {
-            name: "a failure goes down in one tick",
-            tasks: three_in_a_row(alloc)?,
-            states: &[NoStatus, NoStatus, Failed],
-            steps: &[
-                Step::Changes("2024-01-01T00:00:00Z"),
-                Step::Are(&[UpstreamFailed, UpstreamFailed, Failed]),
-                Step::States(&[RunState::Failed]),
-                Step::Rests("2024-01-01T00:00:01Z"),
-            ],
-        },
-        Story {
-            name: "a retry waits for its moment",
-            tasks: vec![in alloc; task(alloc, "t", &[], Rule::AllSuccess)?]?,
-            states: &[NoStatus],
-            steps: &[
-                Step::Changes("1970-01-01T00:00:00Z"),
-                Step::Ends("t", Outcome::Failed, 0),
-                Step::Are(&[UpForRetry]),
-                Step::Rests("1970-01-01T00:04:59.999999Z"),
-                Step::Changes("1970-01-01T00:05:00Z"),
-                Step::Are(&[Queued]),
-                Step::Ends("t", Outcome::Failed, 9),
-                Step::Are(&[Failed]),
-                Step::Changes("1970-01-01T00:05:01Z"),
-                Step::Runs(1, 0),
-            ],
-        },
-    ]?;
-    for story in stories {
-        let name = story.name;
-        let fault = fault_in(alloc, story)?;
-        assert!(rt; fault.is_none(), "{name}: step {fault:?}");
-    }
+    let tasks = vec![in alloc; task(alloc, "t", &[], Rule::AllSuccess)?]?;
+    let fault = fault_in(alloc, tasks, UNTRIED, A_RETRY_WAITS)?;
+    assert!(rt; fault.is_none(), "step {fault:?}");
     Ok(())
 }
 
 /// How many runs have their one instance queued.
 fn queued_in(state: &State) -> usize {
     let rows = state.runs();
-    rows.iter()
-        .filter(|run| are(run, &[TaskState::Queued]))
-        .count()
+    rows.iter().filter(|run| are(run, QUEUED)).count()
 }
 
 /// Whether a claim, or want of memory for it, leaves as many queued instances as it is to leave.
@@ -155,20 +233,24 @@ fn claims_one(alloc: Global, state: &mut State, moment: &str) -> Result<bool, Fa
     }
 }
 
+const SIXTEEN_RUNS: &[Step] = &[Step::Runs(16, 2), Step::Cursor(SIXTEEN_HOURS_LATER)];
+
+const NO_RUNS: &[Step] = &[Step::Runs(0, 0), Step::Cursor(NEW_YEAR)];
+
 #[test]
 fn a_refused_growth_leaves_the_state(rt: HostRuntime) -> Result<(), Fail> {
     let alloc = rt.alloc();
-    let mut state = scheduled(alloc, Preset::Hourly, "2024-01-01T00:00:00Z", true, false)?;
-    let steps = match state.tick(alloc, at("2024-01-02T00:00:00Z")?) {
-        Ok(_) => [Step::Runs(16, 2), Step::Cursor("2024-01-01T16:00:00Z")],
-        Err(_) => [Step::Runs(0, 0), Step::Cursor("2024-01-01T00:00:00Z")],
+    let mut state = scheduled(alloc, Preset::Hourly, NEW_YEAR, true, false)?;
+    let steps = match state.tick(alloc, at(ONE_DAY_LATER)?) {
+        Ok(_) => SIXTEEN_RUNS,
+        Err(_) => NO_RUNS,
     };
-    let fault = first_fault(alloc, &mut state, &steps)?;
+    let fault = first_fault(alloc, &mut state, steps)?;
     assert!(rt; fault.is_none(), "step {fault:?}");
     if state.runs().is_empty() {
         return Ok(());
     }
-    let holds = claims_one(alloc, &mut state, "2024-01-02T00:00:00Z")?;
+    let holds = claims_one(alloc, &mut state, ONE_DAY_LATER)?;
     assert!(rt; holds, "one is claimed, or as before");
     Ok(())
 }
