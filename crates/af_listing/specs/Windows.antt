@@ -1,5 +1,5 @@
 -- What a query asks of a listing: how many rows are told at most, and how many are passed over before them (Airflow 2, "Stable
--- REST API": collections are cut by `limit` and `offset`). A query is a form (URL Standard, section 5): names and values are
+-- REST API": collections are cut by `limit` and `offset`). A query is a form (URL Standard, "application/x-www-form-urlencoded"): names and values are
 -- decoded, and what has no `=` has the empty text as its value.
 use Rattle.std.specs.Prelude.{ℕ, min, ◌&&◌, List, length, nat_lt, Option, None, Some, ok_or, Result, Ok, Err, codes, bytes_eq, if◌then◌else◌}
 use Rattle.std.specs.Char.{is_ascii_digit}
