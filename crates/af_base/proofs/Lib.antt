@@ -4,3 +4,4 @@ mod GrammarLemmas
 mod BorrowedLemmas
 pub mod TakingLemmas
 pub mod OrderedLemmas
+pub mod GrownLemmas

@@ -1,6 +1,7 @@
 //! Pools of slots, by name: one is always there, and an addition for which memory is reserved wants none.
 #![tactic(auto)]
 
+mod copying;
 mod fault;
 pub mod laws;
 mod names_pools;

@@ -1,11 +1,27 @@
+ghost use Rattle.std.specs.Prelude.{◌≡◌, IfOk};
+
 use af_base::{Change, Keyed};
 use af_names::PoolName;
+use std::alloc::{AllocError, Global};
 
 /// One pool: its name, and its slots, 0 to 1,000,000.
 #[derive(Drop)]
 pub struct Pool {
     pub name: PoolName,
     pub slots: u32,
+}
+
+impl Pool {
+    /// The same pool again. `AllocError` only where a growth was refused.
+    pub fn copied(&self, alloc: Global) -> Result<Pool, AllocError>
+        ensures { IfOk result (λ pool. pool ≡ self.now) }
+    {
+        let name = self.name.copied(alloc)?;
+        Ok(Pool {
+            name,
+            slots: self.slots,
+        })
+    }
 }
 
 impl Keyed for Pool {

@@ -3,6 +3,7 @@ ghost use Rattle.af_pool.specs.Places.{CanAdd, CanSet, CanRemove};
 ghost use Rattle.af_graph.specs.Graph.{same_name};
 ghost use Rattle.af_pool.specs.Pools.{ArePools, NeededStay, default_name, has_pool, pool_of, slots_of, is_in_use, with_pool, with_slots, without_pool, add_fault, set_fault, remove_fault, IsOkOrOutOfMemory, occupied_slots, occupied_in, open_slots};
 
+use crate::copying::copied;
 use crate::fault::PoolFault;
 use crate::names_pools::NamesPools;
 use crate::occupant::{Occupant, slots_in, slots_taken};
@@ -55,6 +56,14 @@ impl Pools {
                 slots: DEFAULT_SLOTS,
             },
         )?;
+        Ok(Pools { rows })
+    }
+
+    /// The same pools again. `AllocError` only where a growth was refused.
+    pub fn copied(&self, alloc: Global) -> Result<Pools, AllocError>
+        ensures { IfOk result (λ pools. pools.rows ≡ self.now.rows) }
+    {
+        let rows = copied(alloc, self.rows())?;
         Ok(Pools { rows })
     }
 

@@ -11,6 +11,7 @@ use std::marker::Model;
 mod adding;
 mod changing;
 mod clearing;
+mod copying;
 mod finding;
 mod marking;
 

@@ -1,6 +1,7 @@
 //! Variables: texts by key, no two of one key; an addition for which memory is reserved wants none.
 #![tactic(auto)]
 
+mod copying;
 mod fault;
 pub mod laws;
 mod var_text;

@@ -2,6 +2,7 @@ ghost use Rattle.std.specs.Prelude.{◌≡◌, ◌≢◌, ◌+◌, ◌<◌, ◌�
 ghost use Rattle.af_vars.specs.Places.{CanAdd, CanChange};
 ghost use Rattle.af_vars.specs.Variables.{AreVariables, has_variable, variable_of, with_variable, with_value, without_variable, add_fault, change_fault, IsOkOrOutOfMemory};
 
+use crate::copying::copied;
 use crate::fault::VariableFault;
 use crate::var_text::VarText;
 use crate::variable::{SetValue, Variable};
@@ -38,6 +39,14 @@ impl Variables {
         Variables {
             rows: Ordered::new(alloc),
         }
+    }
+
+    /// The same variables again. `AllocError` only where a growth was refused.
+    pub fn copied(&self, alloc: Global) -> Result<Variables, AllocError>
+        ensures { IfOk result (λ variables. variables.rows ≡ self.now.rows) }
+    {
+        let rows = copied(alloc, self.rows())?;
+        Ok(Variables { rows })
     }
 
     /// The rows, by key in byte order.
