@@ -188,13 +188,13 @@ numbers_of (run ∷ runs) = (ap (λ (b : Bool). b || is_one_of (numbers runs) ru
     equal n = grind (arith, nat_tests)
 
 pub queues_fill : (dags : List DagRow) (pools : List Pool) (frame : List (Option Run)) → Idle frame → (old new : List Run) → Apart frame (numbers old) → QueuesRuns dags pools old new → QueuesRuns dags pools (fill frame old) (fill frame new)
-queues_fill dags pools frame idle old new apart queues next =
-    let told = queues next in
+queues_fill dags pools frame idle old new apart queues next variables =
+    let told = queues next variables in
     let runs : new ≡ map (λ run. with_queued (told.is_queued run.number) run) old = ap (λ (s : StateRows). s.runs) told.state in
     record {
       is_queued = λ number place. is_one_of (numbers old) number && told.is_queued number place;
       queueing = queueing_fill dags pools frame idle old apart told.is_queued told.queueing;
-      state = λ i. record { dags = dags; runs = (ap (fill frame) runs ∙ sym (map_frame dags pools frame idle old apart told.is_queued frame old apart (numbers_of old))) i; next_run = next; pools = pools };
+      state = λ i. record { dags = dags; runs = (ap (fill frame) runs ∙ sym (map_frame dags pools frame idle old apart told.is_queued frame old apart (numbers_of old))) i; next_run = next; pools = pools; variables = variables };
     }
 
 -- ---- the four phases

@@ -1,6 +1,6 @@
 -- No instance of a later run comes before one of a task that is as heavy as any.
-use Rattle.std.proofs.Common.{◌≡◌, ◌<◌, ◌+◌, ◌∙◌, ℕ, ℤ, List, [], ◌∷◌, ◌++◌, length, map, get_or, take, refl, sym, ap, subst, arith, zero, suc, false, true, ⊎_elim, append-nil}
-use Rattle.std.specs.Prelude.{All, Contains, insert, Option, Some, None, zip, flat_map}
+use Rattle.std.proofs.Common.{◌≡◌, ◌+◌, ◌∙◌, ℕ, ℤ, List, [], ◌∷◌, ◌++◌, map, get_or, refl, sym, ap, subst, arith, zero, suc, false, true, ⊎_elim, append-nil}
+use Rattle.std.specs.Prelude.{Contains, insert, Option, Some, None, zip}
 use Rattle.std.specs.Int.Signed.{◌≤ℤ◌, ◌<ℤ◌, <ℤ-≤ℤ_trans, clash_ℤ}
 use Rattle.std.specs.List.{AllByRecursion, enumerate_from}
 use Rattle.std.specs.List.Sorted.{IsStrictlySortedBy}

@@ -67,7 +67,7 @@ keeps_settled_too t dags runs settled all =
 
 pub keeps_queues : (dags : List DagRow) (pools : List Pool) (runs queued : List Run) → QueuesRuns dags pools runs queued → Keeps runs queued
 keeps_queues dags pools runs queued queues =
-    let told = queues 0 in
+    let told = queues 0 [] in
     subst (Keeps runs) (sym (ap (λ (s : Rattle.af_sched.specs.State.StateRows). s.runs) told.state)) (keeps_queued told.is_queued runs)
 
 pub keeps_moved : (t : ℕ) (dags : List DagRow) (pools : List Pool) (old new : List Run) → MovesOn t dags pools old new → Keeps old new
@@ -155,7 +155,7 @@ module _ (dags : List DagRow) where
 
   pub whole_queues : (pools : List Pool) (runs queued : List Run) → QueuesRuns dags pools runs queued → All (IsWhole dags) runs → All (IsWhole dags) queued
   whole_queues pools runs queued queues whole =
-      let told = queues 0 in
+      let told = queues 0 [] in
       subst (All (IsWhole dags)) (sym (ap (λ (s : Rattle.af_sched.specs.State.StateRows). s.runs) told.state))
       (whole_queued told.is_queued runs whole)
 

@@ -4,6 +4,7 @@ mod BusyPlacedLemmas
 mod CandidateLemmas
 mod ChoosingLemmas
 mod ClaimLemmas
+mod CountLemmas
 mod CreateLemmas
 mod DueLemmas
 mod EndedLemmas

@@ -192,7 +192,7 @@ module _ (t : ℕ) (state : StateRows) (first last : RunAdditions) (cursors : Li
         settles = subst (λ (s : StateRows). Rattle.af_sched.specs.Settle.Settles t (started t s) settled) (sym made)
             (record { runs = subst (λ (xs : List Run). Rattle.std.specs.List.AllZip (Rattle.af_sched.specs.Settle.SettlesIfLive t dags) xs all_move.settled) (sym (started_alike state.dags dags alike t runs)) (settled_alike state.dags dags alike t (started_runs t state.dags runs) all_move.settled all_move.settles); rest = refl });
         queues =
-            let q = all_move.queues last.next in
+            let q = all_move.queues last.next state.variables in
             record {
               is_queued = q.is_queued;
               queueing = queueing_alike state.dags dags alike all_move.settled state.pools q.is_queued q.queueing;

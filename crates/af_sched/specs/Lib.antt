@@ -1,10 +1,12 @@
 pub mod Additions
 pub mod Choosing
 pub mod Claims
+pub mod Counting
 pub mod Create
 pub mod Due
 pub mod FaultTexts
 pub mod Finish
+pub mod Holding
 pub mod Laws
 pub mod Moves
 pub mod Outcomes

@@ -14,6 +14,7 @@ use Rattle.af_sched.specs.Placed.{Placed, placed_in, comes_before}
 use Rattle.af_sched.specs.Settle.{is_live}
 use Rattle.af_sched.specs.State.{StateRows}
 use Rattle.af_sched.specs.declared.dag_row.DagRow.{DagRow}
+use Rattle.af_vars.specs.declared.variable.Variable.{Variable}
 
 -- an instance as pools see it
 abbrev pub occupant_of : Placed → OccupantRow
@@ -61,4 +62,4 @@ pub record Queues (old new : StateRows) : Type 0 where
 -- the runs before and after the phase, of these DAGs and pools
 abbrev pub QueuesRuns : List DagRow → List Pool → List Run → List Run → Type 0
 QueuesRuns dags pools old new =
-    (next : ℕ) → Queues (record { dags = dags; runs = old; next_run = next; pools = pools }) (record { dags = dags; runs = new; next_run = next; pools = pools })
+    (next : ℕ) (variables : List Variable) → Queues (record { dags = dags; runs = old; next_run = next; pools = pools; variables = variables }) (record { dags = dags; runs = new; next_run = next; pools = pools; variables = variables })

@@ -11,25 +11,29 @@ use Rattle.af_graph.specs.Graph.{same_name}
 use Rattle.af_graph.specs.declared.task_spec.TaskSpec.{TaskSpec}
 use Rattle.af_graph.specs.declared.schedule.Points.{Points}
 use Rattle.af_graph.specs.declared.schedule.Points.TheVariants.{Preset, Seconds}
-use Rattle.af_pool.specs.Pools.{comes_before, has_pool}
+use Rattle.af_pool.specs.Pools.{comes_before, has_pool, pools_of}
 use Rattle.af_pool.specs.declared.pool.Pool.{Pool}
 use Rattle.af_runs.specs.declared.run.Run.{Run}
 use Rattle.af_sched.specs.declared.add_dag_fault.AddDagFault.{AddDagFault}
 use Rattle.af_sched.specs.declared.add_dag_fault.AddDagFault.TheVariants.{NoActiveRuns, NoStep, NoSuchPool, Exists, Full}
 use Rattle.af_sched.specs.declared.dag_row.DagRow.{DagRow}
+use Rattle.af_vars.specs.declared.variable.Variable.{Variable}
 
--- the DAGs by id, the runs by number with their instances, the number that the next run gets, and the pools by name
+-- the DAGs by id, the runs by number with their instances, the number that the next run gets, the pools by name, and the
+-- variables by key
 pub record StateRows : Type 0 where
   pub dags : List DagRow
   pub runs : List Run
   pub next_run : ℕ
   pub pools : List Pool
+  pub variables : List Variable
 
--- the rows, and for how many more runs and pools memory is reserved
+-- the rows, and for how many more runs, pools and variables memory is reserved
 pub record StateWithRoom : Type 0 where
   pub rows : StateRows
   pub spare_runs : ℕ
   pub spare_pools : ℕ
+  pub spare_variables : ℕ
 
 -- the most DAGs that there are
 abbrev pub most_dags : ℕ
@@ -79,6 +83,10 @@ has_dag dags dag_id = list_any (is_of_id dag_id) dags
 abbrev pub has_no_step : Points → Bool
 has_no_step (Seconds seconds) = seconds == 0
 has_no_step (Preset preset) = false
+
+-- the pools that the tasks of a DAG's row name
+abbrev pub pools_of_row : DagRow → List (List ℕ)
+pools_of_row row = pools_of row.dag
 
 -- whether there is a pool of the name that each of these tasks gives
 abbrev pub have_pools : List Pool → List TaskSpec → Bool

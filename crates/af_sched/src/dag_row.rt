@@ -1,9 +1,11 @@
-ghost use Rattle.std.specs.Prelude.{◌≡◌, None};
+ghost use Rattle.std.specs.Prelude.{◌≡◌, IfOk, None};
 ghost use Rattle.std.specs.Option.{option_map_or};
 ghost use Rattle.af_sched.specs.Due.{first_cursor};
 
 use af_graph::Dag;
-use af_names::{DagId, Instant, NamesDag};
+use af_names::{DagId, Instant, NamesDag, PoolName};
+use af_pool::NamesPools;
+use std::alloc::{AllocError, Global};
 
 /// A DAG as the scheduler keeps it.
 #[derive(Drop)]
@@ -31,6 +33,18 @@ impl DagRow {
             cursor,
         }
     }
+
+    /// The same row again. `AllocError` only where a growth was refused.
+    pub fn copied(&self, alloc: Global) -> Result<DagRow, AllocError>
+        ensures { IfOk result (λ row. row ≡ self.now) }
+    {
+        let dag = self.dag.copied(alloc)?;
+        Ok(DagRow {
+            dag,
+            is_paused: self.is_paused,
+            cursor: self.cursor,
+        })
+    }
 }
 
 impl NamesDag for DagRow {
@@ -38,5 +52,15 @@ impl NamesDag for DagRow {
 
     fn dag_id(&self) -> &DagId {
         self.dag.dag_id()
+    }
+}
+
+impl NamesPools for DagRow {
+    ghost use Rattle.af_pool.specs.Pools.{pools_of};
+
+    ghost pools = { λ row. pools_of row.dag };
+
+    fn names_pool(&self, name: &PoolName) -> bool {
+        self.dag.names_pool(name)
     }
 }

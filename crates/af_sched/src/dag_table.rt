@@ -1,4 +1,4 @@
-ghost use Rattle.std.specs.Prelude.{◌≡◌, ◌≤◌, [], OnErr, OnOk, insert, length};
+ghost use Rattle.std.specs.Prelude.{◌≡◌, ◌≤◌, [], ◌∷◌, ◌++◌, IfOk, OnErr, OnOk, insert, length};
 ghost use Rattle.std.specs.Int.Signed.{◌≤ℤ◌};
 ghost use Rattle.af_sched.specs.Plan.{with_cursors};
 ghost use Rattle.af_sched.specs.State.{AreInOrder, with_paused};
@@ -44,6 +44,25 @@ impl DagTable {
             guesses: Guesses::new(alloc),
             heaviest: i32::MIN,
         }
+    }
+
+    /// The same rows again. `AllocError` only where a growth was refused.
+    pub(crate) fn copied(&self, alloc: Global) -> Result<DagTable, AllocError>
+        ensures { IfOk result (λ dags. dags ≡ self.now) }
+    {
+        let mut copy = DagTable::new(alloc);
+        for row in self.rows() {
+            copy.push(row.copied(alloc)?)?;
+        }
+        Ok(copy)
+    }
+
+    /// Puts a row after the others. `AllocError` only where a growth was refused; then the rows are as before.
+    fn push(&mut self, row: DagRow) -> Result<(), AllocError>
+        ensures { OnOk result (self.new ≡ self.old ++ row ∷ []) }
+    {
+        let place = self.rows.len();
+        self.insert(place, row)
     }
 
     /// The rows.

@@ -8,6 +8,7 @@ use crate::dags::Dags;
 use af_names::DagId;
 use af_pool::{Pool, Pools};
 use af_runs::Runs;
+use af_vars::Variables;
 use std::alloc::{AllocError, Global};
 use std::marker::Model;
 
@@ -15,19 +16,24 @@ mod adding;
 mod changing;
 mod claiming;
 mod clearing;
+mod copying;
+mod holding;
 mod marking;
+mod pooling;
 mod reading;
 mod reporting;
 mod reserving;
 mod ticking;
+mod varying;
 
-/// The scheduler's state: its DAGs, their runs with the instances, and the pools. Contracts see the lists of rows,
-/// beside the numbers of runs and pools for which memory is reserved.
+/// The scheduler's state: its DAGs, their runs with the instances, the pools and the variables. Contracts see the lists of
+/// rows, beside the numbers of runs, pools and variables for which memory is reserved.
 #[derive(Drop)]
 pub struct State {
     dags: DagTable,
     runs: Runs,
     pools: Pools,
+    variables: Variables,
 }
 
 impl Model for State {
@@ -41,27 +47,31 @@ impl Model for State {
         runs = state.runs.rows;
         next_run = state.runs.next;
         pools = state.pools.rows;
+        variables = state.variables.rows;
       };
       spare_runs = state.runs.spare;
       spare_pools = state.pools.spare;
+      spare_variables = state.variables.spare;
     } };
 
     ghost invariant = { λ state. AreRows state.dags state.runs.rows };
 }
 
 impl State {
-    /// No DAGs and no runs; of pools the default one alone. `AllocError` only where a growth was refused.
+    /// No DAGs, no runs and no variables; of pools the default one alone. `AllocError` only where a growth was refused.
     pub fn new(alloc: Global) -> Result<State, AllocError>
         ensures dags { IfOk result (λ state. state.rows.dags ≡ []) }
         ensures runs { IfOk result (λ state. state.rows.runs ≡ []) }
         ensures next { IfOk result (λ state. state.rows.next_run ≡ 1) }
         ensures pools { IfOk result (λ state. state.rows.pools ≡ record { name = default_name; slots = 128 } ∷ []) }
+        ensures variables { IfOk result (λ state. state.rows.variables ≡ []) }
     {
         let pools = Pools::new(alloc)?;
         Ok(State {
             dags: DagTable::new(alloc),
             runs: Runs::new(alloc),
             pools,
+            variables: Variables::new(alloc),
         })
     }
 

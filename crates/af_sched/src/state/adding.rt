@@ -77,6 +77,7 @@ impl State {
         ensures roomy { 0 < self.old.spare_runs → result ≢ Err RunFault.OutOfMemory }
         ensures spare { self.old.spare_runs ≤ self.new.spare_runs + (if is_ok result then 1 else 0) }
         ensures spare_pools { self.new.spare_pools ≡ self.old.spare_pools }
+        ensures spare_variables { self.new.spare_variables ≡ self.old.spare_variables }
     {
         self.runs.add_run(new)
     }
@@ -93,6 +94,7 @@ impl State {
         ensures roomy { 0 < self.old.spare_pools → result ≢ Err PoolFault.OutOfMemory }
         ensures spare { self.old.spare_pools ≤ self.new.spare_pools + (if is_ok result then 1 else 0) }
         ensures spare_runs { self.new.spare_runs ≡ self.old.spare_runs }
+        ensures spare_variables { self.new.spare_variables ≡ self.old.spare_variables }
     {
         self.pools.add(name, slots)
     }

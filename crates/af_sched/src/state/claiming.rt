@@ -24,6 +24,7 @@ impl State {
         ensures err { OnErr result (self.new ≡ self.old) }
         ensures spare_runs { self.new.spare_runs ≡ self.old.spare_runs }
         ensures spare_pools { self.new.spare_pools ≡ self.old.spare_pools }
+        ensures spare_variables { self.new.spare_variables ≡ self.old.spare_variables }
     {
         let Some(first) = first_claimable(&self.by_id(), &self.runs) else {
             return Ok(None);

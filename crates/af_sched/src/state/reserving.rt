@@ -27,4 +27,16 @@ impl State {
     {
         self.pools.reserve(additional)
     }
+
+    /// Reserves memory for that many more variables. `AllocError` only where a growth was refused, so never where there is
+    /// room already; then the state is as before.
+    pub fn reserve_variables(&mut self, additional: usize) -> Result<(), AllocError>
+        ensures ok { OnOk result (additional ≤ self.new.spare_variables) }
+        ensures roomy { additional ≤ self.old.spare_variables → IsOk result }
+        ensures err { OnErr result (self.new ≡ self.old) }
+        ensures rest { self.new ≡ record self.old { spare_variables = self.new.spare_variables } }
+        ensures spare { self.old.spare_variables ≤ self.new.spare_variables }
+    {
+        self.variables.reserve(additional)
+    }
 }

@@ -22,6 +22,7 @@ impl State {
         ensures rows { self.new.rows ≡ self.old.rows }
         ensures spare_runs { self.old.spare_runs ≤ self.new.spare_runs }
         ensures spare_pools { self.new.spare_pools ≡ self.old.spare_pools }
+        ensures spare_variables { self.new.spare_variables ≡ self.old.spare_variables }
         ensures err { OnErr result (self.new ≡ self.old) }
     {
         self.runs.list_appended();
@@ -57,6 +58,7 @@ impl State {
         ensures rows { self.new.rows ≡ applied plan self.old.rows }
         ensures spare_runs { self.old.spare_runs ≤ self.new.spare_runs + length plan.added }
         ensures spare_pools { self.new.spare_pools ≡ self.old.spare_pools }
+        ensures spare_variables { self.new.spare_variables ≡ self.old.spare_variables }
     {
         let Plan {
             cursors,
@@ -77,6 +79,7 @@ impl State {
         ensures changed { IfOk result (λ changed. (changed ≡ false) ↔ (self.new.rows ≡ self.old.rows)) }
         ensures err { OnErr result (self.new ≡ self.old) }
         ensures spare_pools { self.new.spare_pools ≡ self.old.spare_pools }
+        ensures spare_variables { self.new.spare_variables ≡ self.old.spare_variables }
     {
         let plan = self.plan_tick(alloc, at)?;
         let changes = plan.changes();

@@ -10,7 +10,7 @@ use Rattle.af_sched.proofs.state.State.planned.Goals as goal
 
 pub moved_on-requires-clause-whole : goal.moved_on-requires-clause-whole
 moved_on-requires-clause-whole c =
-    let state : StateRows = record { dags = c.self.inside.dags; runs = c.self.inside.runs.rows; next_run = c.self.inside.runs.next; pools = c.self.inside.pools.rows } in
+    let state : StateRows = record { dags = c.self.inside.dags; runs = c.self.inside.runs.rows; next_run = c.self.inside.runs.next; pools = c.self.inside.pools.rows; variables = c.self.inside.variables.rows } in
     let stays : c.create_all.new.additions.before ≡ state.runs = c.in_ok-cursors.ensures.before ∙ c.of-additions.ensures.before in
     let takes = rw (c.rows-dags.ensures) at c.in_ok-cursors.ensures.runs in
     let same : c.of-additions.result.before ++ c.of-additions.result.added ≡ state.runs = (λ i. c.of-additions.ensures.before i ++ c.of-additions.ensures.added i) ∙ append-nil state.runs in
@@ -20,7 +20,7 @@ moved_on-requires-clause-whole c =
 
 pub returns : goal.returns
 returns c =
-    let state : StateRows = record { dags = c.self.inside.dags; runs = c.self.inside.runs.rows; next_run = c.self.inside.runs.next; pools = c.self.inside.pools.rows } in
+    let state : StateRows = record { dags = c.self.inside.dags; runs = c.self.inside.runs.rows; next_run = c.self.inside.runs.next; pools = c.self.inside.pools.rows; variables = c.self.inside.variables.rows } in
     let tells = rw (← c.self.view_is, c.as_slice.ensures.value, c.as_slice-2.ensures.value, c.as_slice-3.ensures.value) at c.has-is_change.ensures in
     let stays : c.create_all.new.additions.before ≡ state.runs = c.in_ok-cursors.ensures.before ∙ c.of-additions.ensures.before in
     rw (← c.self.view_is) (subst (λ n. IsPlan c.args.at state record { cursors = c.in_ok-cursors.cursors.items; moved = c.in_ok-moved.moved.items; added = c.in_ok-moved.added.items; next_run = n; changes = Rattle.std.specs.Prelude.not c.has-is_change.result }) (sym c.into_rows-added.ensures.next)
