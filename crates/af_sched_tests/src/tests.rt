@@ -1,8 +1,11 @@
 mod adding;
 mod claims;
 mod clears;
+mod copies;
 mod creating;
+mod held;
 mod openings;
+mod pools;
 mod reads;
 mod redone;
 mod rules;
@@ -10,3 +13,4 @@ mod seen;
 mod steps;
 mod texts;
 mod ticks;
+mod variables;
