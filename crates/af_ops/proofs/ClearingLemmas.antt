@@ -54,4 +54,4 @@ other_runs_left asked selection (run ∷ runs) =
     kept_clear (is_of asked.dag_id run) asked selection run (with_cleared runs asked selection) runs refl (other_runs_left asked selection runs)
 
 pub clears_stay : (state : StateRows) (asked : RunFilter) (selection : Selection) → LeavesOthers asked.dag_id state (with_clear state asked selection)
-clears_stay state asked selection = record { dags = refl; runs = other_runs_left asked selection state.runs; pools = refl }
+clears_stay state asked selection = record { dags = refl; runs = other_runs_left asked selection state.runs; pools = refl; variables = refl }

@@ -112,4 +112,4 @@ other_runs_stay dag_id run_id (run ∷ runs) =
     kept_run (is_run dag_id run_id run) dag_id run_id run (filter (λ r. not (is_run dag_id run_id r)) runs) runs refl (other_runs_stay dag_id run_id runs)
 
 pub deletes_stay : (state : StateRows) (dag_id run_id : List ℕ) → LeavesOthers dag_id state (without_run_of state dag_id run_id)
-deletes_stay state dag_id run_id = record { dags = refl; runs = other_runs_stay dag_id run_id state.runs; pools = refl }
+deletes_stay state dag_id run_id = record { dags = refl; runs = other_runs_stay dag_id run_id state.runs; pools = refl; variables = refl }

@@ -2,7 +2,9 @@
 use Rattle.std.proofs.Common.{◌≡◌, ◌≢◌, ◌+◌, ℕ, Bool, true, false, cond, List, [], ◌∷◌, refl, sym, ◌∙◌, ap, not, arith}
 use Rattle.std.specs.Prelude.{Some, None, if◌then◌else◌}
 use Rattle.af_runs.specs.declared.new_run.NewRun.{NewRun}
+use Rattle.af_pool.specs.Pools.{with_pool, with_slots, without_pool}
 use Rattle.af_sched.specs.State.{StateRows, dag_of, is_of_id, with_paused}
+use Rattle.af_vars.specs.Variables.{with_value, with_variable, without_variable}
 use Rattle.af_sched.specs.declared.dag_row.DagRow.{DagRow}
 use Rattle.af_ops.specs.declared.edit.Edit.{Edit}
 use Rattle.af_ops.specs.declared.edit.Edit.TheVariants as edit
@@ -57,3 +59,15 @@ pause_exact state dag_id is_paused row (edit.RunRemoved number) found next =
     ((λ no. cc), (λ same. absurd (exact_by (differs row is_paused) state dag_id is_paused row (without state number) refl found next same)))
 pause_exact state dag_id is_paused row (edit.InstancesCleared filter selection) found next =
     ((λ no. cc), (λ same. absurd (exact_by (differs row is_paused) state dag_id is_paused row (with_clear state filter selection) refl found next same)))
+pause_exact state dag_id is_paused row (edit.PoolAdded name slots) found next =
+    ((λ no. cc), (λ same. absurd (exact_by (differs row is_paused) state dag_id is_paused row (record state { pools = with_pool state.pools record { name = name; slots = slots } }) refl found next same)))
+pause_exact state dag_id is_paused row (edit.PoolSet name slots) found next =
+    ((λ no. cc), (λ same. absurd (exact_by (differs row is_paused) state dag_id is_paused row (record state { pools = with_slots state.pools name slots }) refl found next same)))
+pause_exact state dag_id is_paused row (edit.PoolRemoved name) found next =
+    ((λ no. cc), (λ same. absurd (exact_by (differs row is_paused) state dag_id is_paused row (record state { pools = without_pool state.pools name }) refl found next same)))
+pause_exact state dag_id is_paused row (edit.VariableAdded variable) found next =
+    ((λ no. cc), (λ same. absurd (exact_by (differs row is_paused) state dag_id is_paused row (record state { variables = with_variable state.variables variable }) refl found next same)))
+pause_exact state dag_id is_paused row (edit.VariableSet key value) found next =
+    ((λ no. cc), (λ same. absurd (exact_by (differs row is_paused) state dag_id is_paused row (record state { variables = with_value state.variables key value }) refl found next same)))
+pause_exact state dag_id is_paused row (edit.VariableRemoved key) found next =
+    ((λ no. cc), (λ same. absurd (exact_by (differs row is_paused) state dag_id is_paused row (record state { variables = without_variable state.variables key }) refl found next same)))

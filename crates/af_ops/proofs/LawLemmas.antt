@@ -37,6 +37,8 @@ use Rattle.af_ops.proofs.EditLemmas.{paused_apart, run_apart}
 use Rattle.af_ops.proofs.DeletingLemmas.{deleted_apart, deletes_stay}
 use Rattle.af_ops.proofs.ClearingLemmas.{cleared_apart, clears_stay}
 use Rattle.af_ops.proofs.MarkingLemmas.{marked_apart}
+use Rattle.af_ops.proofs.PoolLemmas.{pools_differ, pools_keep}
+use Rattle.af_ops.proofs.VariableLemmas.{variables_differ, variables_keep}
 
 none_some : {X : Type 0} {x : X} → None ≡ Some x → ⊥
 none_some same = cc
@@ -119,6 +121,8 @@ readings_keep reads state (op.ClearRun dag_id run_id input) now effect get is = 
 readings_keep reads state (op.ClearInstances dag_id input) now effect get is = cc
 readings_keep reads state (op.ListInstances dag_id run_id) now effect get is = instances_kept (sched.dag_of state.dags dag_id) (run_of state.runs dag_id run_id) effect is
 readings_keep reads state (op.GetInstance dag_id run_id task_id) now effect get is = instance_kept (sched.dag_of state.dags dag_id) (run_of state.runs dag_id run_id) task_id effect is
+readings_keep reads state (op.Pool it) now effect get is = pools_keep state it effect get is
+readings_keep reads state (op.Variable it) now effect get is = variables_keep state it effect get is
 
 -- a DAG that is paused, or not: it was found and stood otherwise, and this is the next state
 pub record Pauses (state : StateRows) (dag_id : List ℕ) (next : StateRows) : Type 0 where
@@ -379,6 +383,8 @@ changes_differ reads state (op.ClearInstances dag_id input) now effect next is c
     cleared_apart state it.asked it.selection it.differ (sym it.next_is ∙ same)
 changes_differ reads state (op.ListInstances dag_id run_id) now effect next is changes same = unchanged effect next (readings_keep reads state (op.ListInstances dag_id run_id) now effect refl is) changes
 changes_differ reads state (op.GetInstance dag_id run_id task_id) now effect next is changes same = unchanged effect next (readings_keep reads state (op.GetInstance dag_id run_id task_id) now effect refl is) changes
+changes_differ reads state (op.Pool it) now effect next is changes same = pools_differ it state next effect is changes same
+changes_differ reads state (op.Variable it) now effect next is changes same = variables_differ it state next effect is changes same
 
 -- a run that is marked is passed over, where its DAG's runs are
 kept_run : (is : Bool) (dag_id run_id : List ℕ) (mark : Mark) (now : ℕ) (run : Run) (new old : List Run) → is_run dag_id run_id run ≡ is → filter (λ r. not (is_of dag_id r)) new ≡ filter (λ r. not (is_of dag_id r)) old
@@ -398,6 +404,7 @@ marks_stay state dag_id run_id now next marks =
       dags = refl;
       runs = other_runs_stay dag_id run_id marks.mark now state.runs;
       pools = refl;
+      variables = refl;
     })
 
 cleared_stay : (state : StateRows) (dag_id : List ℕ) (next : StateRows) → Clears state dag_id next → LeavesOthers dag_id state next
@@ -421,6 +428,7 @@ pauses_stay state dag_id next pauses =
       dags = others_stay pauses.is_paused dag_id state.dags;
       runs = refl;
       pools = refl;
+      variables = refl;
     })
 
 -- a row that is passed over at the end
@@ -434,6 +442,7 @@ triggers_stay state dag_id input now effect next it changes =
       dags = refl;
       runs = filter_last (λ run. not (is_of dag_id run)) state.runs (queued_run state.next_run (new_run it.row dag_id it.run_id it.date)) (ap not ((bytes_decides dag_id dag_id).1 refl));
       pools = refl;
+      variables = refl;
     })
 
 pub changes_stay : ChangesStayAtTheirDag
@@ -458,3 +467,5 @@ changes_stay reads state (op.ClearInstances dag_id input) now effect next at is 
     subst (λ (id : List ℕ). LeavesOthers id state next) (some_same names) (cleared_stay state dag_id next (clears_instances state dag_id input effect next is changes))
 changes_stay reads state (op.ListInstances dag_id run_id) now effect next at is changes names = unchanged effect next (readings_keep reads state (op.ListInstances dag_id run_id) now effect refl is) changes
 changes_stay reads state (op.GetInstance dag_id run_id task_id) now effect next at is changes names = unchanged effect next (readings_keep reads state (op.GetInstance dag_id run_id task_id) now effect refl is) changes
+changes_stay reads state (op.Pool it) now effect next at is changes names = absurd (none_some names)
+changes_stay reads state (op.Variable it) now effect next at is changes names = absurd (none_some names)

@@ -4,12 +4,16 @@ mod DecisionLemmas
 mod DeletingLemmas
 mod EditLemmas
 mod InstantLemmas
+mod KeyLemmas
 mod LawLemmas
 mod MarkingLemmas
 mod PageLemmas
+mod PoolLemmas
+mod RowLawLemmas
 mod RunLemmas
 mod ShownLemmas
 mod TableLemmas
 mod TaskLemmas
 mod TellingLemmas
 mod TextLemmas
+mod VariableLemmas

@@ -3,7 +3,7 @@ use Rattle.std.proofs.Common.{◌≡◌, ℕ, zero, suc, List, [], ◌∷◌, re
 use Rattle.std.proofs.lemmas.List.{length-map}
 use Rattle.serde_json.specs.Data.{Data}
 use Rattle.serde_json.specs.Written.{compact_text}
-use Rattle.af_ops.specs.Fields.{Field, list_of, listing_of, object_of}
+use Rattle.af_ops.specs.Fields.{Field, late_listing_of, list_of, listing_of, object_of}
 
 pub map_now : {X Y Z : Type 0} (now : X → Y) (f : Y → Z) (xs : List X) → map (λ x. f (now x)) xs ≡ map f (map now xs)
 map_now now f [] = refl
@@ -44,3 +44,9 @@ pub list_now : {X Y : Type 0} (name : List ℕ) (now : X → Y) (f : Y → List 
     → compact_text (list_of name (map (λ x. object_of (f (now x))) xs)) ≡ compact_text (list_of name (map (λ y. object_of (f y)) ys))
 list_now name now f xs ys is =
     ap (λ (rows : List Data). compact_text (list_of name rows)) (map_now now (λ y. object_of (f y)) xs ∙ ap (map (λ y. object_of (f y))) is)
+
+-- a listing whose rows' name stands after the total's, of some lent rows
+pub late_now : {X Y : Type 0} (name : List ℕ) (now : X → Y) (f : Y → List Field) (xs : List X) (ys : List Y) (total count : ℕ) → map now xs ≡ ys → total ≡ count
+    → compact_text (late_listing_of name (map (λ x. object_of (f (now x))) xs) total) ≡ compact_text (late_listing_of name (map (λ y. object_of (f y)) ys) count)
+late_now name now f xs ys total count is counts =
+    ap₂ (λ (rows : List Data) (n : ℕ). compact_text (late_listing_of name rows n)) (map_now now (λ y. object_of (f y)) xs ∙ ap (map (λ y. object_of (f y))) is) counts

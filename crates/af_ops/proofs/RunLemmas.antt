@@ -14,6 +14,8 @@ use Rattle.af_ops.specs.declared.op.Op.TheVariants as op
 use Rattle.af_ops.specs.Edits.{with_run}
 use Rattle.af_ops.specs.Effects.{id_or, new_run}
 use Rattle.af_ops.specs.Laws.{RunNumbersRise, RunsListedAreThoseRead, TriggersAddARun}
+use Rattle.af_ops.proofs.PoolLemmas.{pools_touch}
+use Rattle.af_ops.proofs.VariableLemmas.{variables_touch}
 use Rattle.af_ops.proofs.LawLemmas.{clears_instances, clears_run, deletes, marks, pauses, readings_keep, some_same, triggers, unchanged}
 
 later : {X : Type 0} (b : Bool) (y : X) (ys : List X) (x : X) → Contains ys x → Contains (cond b (y ∷ ys) ys) x
@@ -64,6 +66,7 @@ adds_run reads state dag_id input now effect kept is =
             next = refl;
             dags = refl;
             pools = refl;
+            variables = refl;
           },
         ),
       ),
@@ -96,3 +99,9 @@ numbers_rise reads state (op.ClearInstances dag_id input) now effect next is cha
     subst (λ (s : StateRows). state.next_run ≤ s.next_run) (sym it.next_is) (omega arith)
 numbers_rise reads state (op.ListInstances dag_id run_id) now effect next is changes = unchanged effect next (readings_keep reads state (op.ListInstances dag_id run_id) now effect refl is) changes
 numbers_rise reads state (op.GetInstance dag_id run_id task_id) now effect next is changes = unchanged effect next (readings_keep reads state (op.GetInstance dag_id run_id task_id) now effect refl is) changes
+numbers_rise reads state (op.Pool it) now effect next is changes =
+    let same = pools_touch it state next effect is changes in
+    subst (λ (s : StateRows). state.next_run ≤ s.next_run) (sym same.rest) (omega arith)
+numbers_rise reads state (op.Variable it) now effect next is changes =
+    let same = variables_touch it state next effect is changes in
+    subst (λ (s : StateRows). state.next_run ≤ s.next_run) (sym same.rest) (omega arith)

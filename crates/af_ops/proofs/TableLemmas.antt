@@ -10,8 +10,11 @@ use Rattle.af_ops.specs.declared.method.Method.{Method}
 use Rattle.af_ops.specs.declared.method.Method.TheVariants.{Get, Post, Patch, Delete}
 use Rattle.af_ops.specs.declared.op.Op.{Op}
 use Rattle.af_ops.specs.declared.op.Op.TheVariants as op
+use Rattle.af_ops.specs.declared.pool_op.PoolOp.TheVariants as pool_op
+use Rattle.af_ops.specs.declared.variable_op.VariableOp.TheVariants as variable_op
 use Rattle.af_ops.specs.Bodies.{clear_in, clear_run_in, mark_in, pause_in, trigger_in}
-use Rattle.af_ops.specs.Endpoints.{both, dag_id_in, dag_of, endpoint_of, is_all, run_id_in, task_id_in}
+use Rattle.af_ops.specs.Endpoints.{both, dag_id_in, dag_of, endpoint_of, is_all, row_name_in, run_id_in, task_id_in}
+use Rattle.af_ops.specs.RowBodies.{slots_in, value_in}
 use Rattle.af_ops.specs.Laws.{EachIsFound, Matches, OneRowAtMost, OperationsAreOfTheirRow}
 use Rattle.af_ops.specs.Methods.{same_method}
 use Rattle.af_ops.specs.Table.{Segment, Text, Part, endpoints, route_of, segments_of}
@@ -86,6 +89,16 @@ rank endpoint.ClearRun = 10
 rank endpoint.ListInstances = 11
 rank endpoint.GetInstance = 12
 rank endpoint.ClearInstances = 13
+rank endpoint.ListPools = 14
+rank endpoint.AddPool = 15
+rank endpoint.GetPool = 16
+rank endpoint.ChangePool = 17
+rank endpoint.DeletePool = 18
+rank endpoint.ListVariables = 19
+rank endpoint.AddVariable = 20
+rank endpoint.GetVariable = 21
+rank endpoint.ChangeVariable = 22
+rank endpoint.DeleteVariable = 23
 
 stands : (it d : Endpoint) → get_or endpoints (rank it) d ≡ it
 unfolding rank
@@ -103,6 +116,16 @@ stands endpoint.ClearRun d = refl
 stands endpoint.ListInstances d = refl
 stands endpoint.GetInstance d = refl
 stands endpoint.ClearInstances d = refl
+stands endpoint.ListPools d = refl
+stands endpoint.AddPool d = refl
+stands endpoint.GetPool d = refl
+stands endpoint.ChangePool d = refl
+stands endpoint.DeletePool d = refl
+stands endpoint.ListVariables d = refl
+stands endpoint.AddVariable d = refl
+stands endpoint.GetVariable d = refl
+stands endpoint.ChangeVariable d = refl
+stands endpoint.DeleteVariable d = refl
 
 inside : (it : Endpoint) → rank it < length endpoints
 unfolding rank
@@ -120,6 +143,16 @@ inside endpoint.ClearRun = omega arith
 inside endpoint.ListInstances = omega arith
 inside endpoint.GetInstance = omega arith
 inside endpoint.ClearInstances = omega arith
+inside endpoint.ListPools = omega arith
+inside endpoint.AddPool = omega arith
+inside endpoint.GetPool = omega arith
+inside endpoint.ChangePool = omega arith
+inside endpoint.DeletePool = omega arith
+inside endpoint.ListVariables = omega arith
+inside endpoint.AddVariable = omega arith
+inside endpoint.GetVariable = omega arith
+inside endpoint.ChangeVariable = omega arith
+inside endpoint.DeleteVariable = omega arith
 
 same-refl : (method : Method) → same_method method method ≡ true
 same-refl Get = refl
@@ -154,6 +187,16 @@ each_found endpoint.ClearRun = refl
 each_found endpoint.ListInstances = refl
 each_found endpoint.GetInstance = refl
 each_found endpoint.ClearInstances = refl
+each_found endpoint.ListPools = refl
+each_found endpoint.AddPool = refl
+each_found endpoint.GetPool = refl
+each_found endpoint.ChangePool = refl
+each_found endpoint.DeletePool = refl
+each_found endpoint.ListVariables = refl
+each_found endpoint.AddVariable = refl
+each_found endpoint.GetVariable = refl
+each_found endpoint.ChangeVariable = refl
+each_found endpoint.DeleteVariable = refl
 
 -- ---- what is read of a row
 
@@ -192,6 +235,12 @@ mapped_three (Some id) (Some run_id) None asked is = cc
 mapped_three (Some id) None task asked is = cc
 mapped_three None run task asked is = cc
 
+-- the same of an operation that names no DAG
+mapped_none : (make : List ℕ → Op) (it : Endpoint) (found : Option (List ℕ)) (asked : Op) → ((name : List ℕ) → endpoint_of (make name) ≡ it) → ((name : List ℕ) → dag_of (make name) ≡ None) → option_map make found ≡ Some asked → (endpoint_of asked ≡ it) × (dag_of asked ≡ None)
+mapped_none make it None asked of_it names is = cc
+mapped_none make it (Some name) asked of_it names is =
+    (ap endpoint_of (sym (some_same is)) ∙ of_it name, ap dag_of (sym (some_same is)) ∙ names name)
+
 pub of_their_row : OperationsAreOfTheirRow
 of_their_row endpoint.Version parts body asked is = (ap endpoint_of (sym (some_same is)), ap dag_of (sym (some_same is)))
 of_their_row endpoint.ListDags parts body asked is = (ap endpoint_of (sym (some_same is)), ap dag_of (sym (some_same is)))
@@ -217,3 +266,19 @@ of_their_row endpoint.ListInstances parts body asked is =
 of_their_row endpoint.GetInstance parts body asked is = mapped_three (dag_id_in parts) (run_id_in parts) (task_id_in parts) asked is
 of_their_row endpoint.ClearInstances parts body asked is =
     mapped (λ id. op.ClearInstances id (clear_in body)) endpoint.ClearInstances (dag_id_in parts) asked (λ id. refl) (λ id. refl) is
+of_their_row endpoint.ListPools parts body asked is = (ap endpoint_of (sym (some_same is)), ap dag_of (sym (some_same is)))
+of_their_row endpoint.AddPool parts body asked is = (ap endpoint_of (sym (some_same is)), ap dag_of (sym (some_same is)))
+of_their_row endpoint.GetPool parts body asked is =
+    mapped_none (λ name. op.Pool (pool_op.Get name)) endpoint.GetPool (row_name_in parts) asked (λ name. refl) (λ name. refl) is
+of_their_row endpoint.ChangePool parts body asked is =
+    mapped_none (λ name. op.Pool (pool_op.Change name (slots_in body))) endpoint.ChangePool (row_name_in parts) asked (λ name. refl) (λ name. refl) is
+of_their_row endpoint.DeletePool parts body asked is =
+    mapped_none (λ name. op.Pool (pool_op.Delete name)) endpoint.DeletePool (row_name_in parts) asked (λ name. refl) (λ name. refl) is
+of_their_row endpoint.ListVariables parts body asked is = (ap endpoint_of (sym (some_same is)), ap dag_of (sym (some_same is)))
+of_their_row endpoint.AddVariable parts body asked is = (ap endpoint_of (sym (some_same is)), ap dag_of (sym (some_same is)))
+of_their_row endpoint.GetVariable parts body asked is =
+    mapped_none (λ name. op.Variable (variable_op.Get name)) endpoint.GetVariable (row_name_in parts) asked (λ name. refl) (λ name. refl) is
+of_their_row endpoint.ChangeVariable parts body asked is =
+    mapped_none (λ name. op.Variable (variable_op.Change name (value_in body))) endpoint.ChangeVariable (row_name_in parts) asked (λ name. refl) (λ name. refl) is
+of_their_row endpoint.DeleteVariable parts body asked is =
+    mapped_none (λ name. op.Variable (variable_op.Delete name)) endpoint.DeleteVariable (row_name_in parts) asked (λ name. refl) (λ name. refl) is

@@ -13,6 +13,12 @@ no_row tasks seen place is past =
     let rows : length (downstream_rows tasks) ≡ length seen = length-downstream_rows tasks ∙ ap length (sym is) in
     sym (get_or_past (downstream_rows tasks) place [] (omega (arith, past, rows)))
 
+-- what stands at a place that is there, whatever is said of those that are not
+pub same_at : {X : Type 0} (xs : List X) (k : ℕ) (d e : X) → k < length xs → get_or xs k d ≡ get_or xs k e
+same_at [] k d e within = absurd (omega (arith, within))
+same_at (x ∷ xs) zero d e within = refl
+same_at (x ∷ xs) (suc k) d e within = same_at xs k d e (omega (arith, within))
+
 -- ---- two lists, side by side
 module _ {A B C : Type 0} (f : A × B → C) where
   zipped_suc : (xs : List A) (ys : List B) (k : ℕ) (a : A) (b : B) → k < length xs → k < length ys

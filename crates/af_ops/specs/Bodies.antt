@@ -14,7 +14,7 @@ use Rattle.af_runs.specs.Marks.{mark_of}
 use Rattle.af_runs.specs.Texts.{state_of}
 use Rattle.af_runs.specs.declared.mark.Mark.{Mark}
 use Rattle.af_ops.specs.declared.body_fault.Member.{Member}
-use Rattle.af_ops.specs.declared.body_fault.Member.TheVariants.{IsPaused, DagRunId, LogicalDate, ExecutionDate, Conf, State, DryRun, OnlyFailed, TaskIds, StartDate, EndDate}
+use Rattle.af_ops.specs.declared.body_fault.Member.TheVariants.{IsPaused, DagRunId, LogicalDate, ExecutionDate, Conf, State, DryRun, OnlyFailed, TaskIds, StartDate, EndDate, Name, Slots, Key, Value}
 use Rattle.af_ops.specs.declared.body_fault.BodyFault.{BodyFault}
 use Rattle.af_ops.specs.declared.body_fault.BodyFault.TheVariants.{BadBody, BadMember}
 use Rattle.af_ops.specs.declared.clear.Clear.{Clear}
@@ -32,6 +32,10 @@ name_of OnlyFailed = codes "only_failed"
 name_of TaskIds = codes "task_ids"
 name_of StartDate = codes "start_date"
 name_of EndDate = codes "end_date"
+name_of Name = codes "name"
+name_of Slots = codes "slots"
+name_of Key = codes "key"
+name_of Value = codes "value"
 
 abbrev pub object_or : Data → Result Data BodyFault
 object_or value = if is_some (as_object value) then Ok value else Err BadBody

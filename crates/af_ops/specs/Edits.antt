@@ -7,7 +7,9 @@ use Rattle.af_runs.specs.declared.mark.Mark.{Mark}
 use Rattle.af_runs.specs.declared.new_run.NewRun.{NewRun}
 use Rattle.af_runs.specs.declared.run_filter.RunFilter.{RunFilter}
 use Rattle.af_runs.specs.declared.selection.Selection.{Selection}
+use Rattle.af_pool.specs.Pools.{with_pool, with_slots, without_pool}
 use Rattle.af_sched.specs.State.{StateRows, with_paused}
+use Rattle.af_vars.specs.Variables.{with_value, with_variable, without_variable}
 use Rattle.af_ops.specs.declared.edit.Edit.{Edit}
 use Rattle.af_ops.specs.declared.edit.Edit.TheVariants as edit
 
@@ -35,6 +37,12 @@ next_by (edit.RunAdded new) state = Some (with_run state new)
 next_by (edit.RunMarked number mark at) state = Some (with_mark state number mark at)
 next_by (edit.InstancesCleared filter selection) state = Some (with_clear state filter selection)
 next_by (edit.RunRemoved number) state = Some (without state number)
+next_by (edit.PoolAdded name slots) state = Some (record state { pools = with_pool state.pools record { name = name; slots = slots } })
+next_by (edit.PoolSet name slots) state = Some (record state { pools = with_slots state.pools name slots })
+next_by (edit.PoolRemoved name) state = Some (record state { pools = without_pool state.pools name })
+next_by (edit.VariableAdded variable) state = Some (record state { variables = with_variable state.variables variable })
+next_by (edit.VariableSet key value) state = Some (record state { variables = with_value state.variables key value })
+next_by (edit.VariableRemoved key) state = Some (record state { variables = without_variable state.variables key })
 
 -- a state after an edit
 abbrev pub edited : Edit → StateRows → StateRows
@@ -48,3 +56,9 @@ is_edit (edit.RunAdded new) = true
 is_edit (edit.RunMarked number mark at) = true
 is_edit (edit.InstancesCleared filter selection) = true
 is_edit (edit.RunRemoved number) = true
+is_edit (edit.PoolAdded name slots) = true
+is_edit (edit.PoolSet name slots) = true
+is_edit (edit.PoolRemoved name) = true
+is_edit (edit.VariableAdded variable) = true
+is_edit (edit.VariableSet key value) = true
+is_edit (edit.VariableRemoved key) = true

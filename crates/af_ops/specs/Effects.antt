@@ -23,43 +23,25 @@ use Rattle.af_runs.specs.declared.run_fault.RunFault.TheVariants as run_fault
 use Rattle.af_runs.specs.declared.run_type.RunType.TheVariants.{Manual}
 use Rattle.af_sched.specs.State.{StateRows, with_paused, dag_of}
 use Rattle.af_sched.specs.declared.dag_row.DagRow.{DagRow}
+pub use Rattle.af_ops.specs.EffectParts.{Effect, input_fault, input_or, kept}
 use Rattle.af_ops.specs.Edits.{with_clear, with_run}
 use Rattle.af_ops.specs.Endpoints.{both}
 use Rattle.af_ops.specs.Fields.{list_of, listing_of}
 use Rattle.af_ops.specs.Listings.{default_limit, page, read_rows}
+use Rattle.af_ops.specs.PoolEffects.{pool_effect}
 use Rattle.af_base.specs.Readings.{◌>>=◌}
 use Rattle.af_ops.specs.Replies.{cleared_data, dag_data, instance_data, run_data, task_data, version_data}
 use Rattle.af_ops.specs.Rows.{ClearedTold, InstanceTold, TaskTold}
+use Rattle.af_ops.specs.VariableEffects.{variable_effect}
 use Rattle.af_ops.specs.declared.answer.OpFault.{OpFault}
 use Rattle.af_ops.specs.declared.answer.OpFault.TheVariants as fault
 use Rattle.af_ops.specs.declared.body_fault.BodyFault.{BodyFault}
-use Rattle.af_ops.specs.declared.body_fault.BodyFault.TheVariants as input
 use Rattle.af_ops.specs.declared.clear.Clear.{Clear}
 use Rattle.af_ops.specs.declared.op.Op.{Op}
 use Rattle.af_ops.specs.declared.op.Op.TheVariants as op
 use Rattle.af_ops.specs.declared.trigger.Trigger.{Trigger}
 
--- the text of the reply, or none where there is nothing to tell; and the state after the operation, or none where that is the
--- state before it
-pub record Effect : Type 0 where
-  pub reply : Option (List ℕ)
-  pub next : Option StateRows
-
--- the state stays
-abbrev pub kept : Data → Effect
-kept reply = record { reply = Some (compact_text reply); next = None }
-
 -- ---- faults that operations share
-
-abbrev pub input_fault : BodyFault → OpFault
-input_fault input.BadBody = fault.BadBody
-input_fault (input.BadMember it) = fault.BadMember it
-input_fault input.OutOfMemory = fault.OutOfMemory
-
--- what was read of the body
-abbrev pub input_or : {X : Type 0} → Result X BodyFault → Result X OpFault
-input_or (Ok read) = Ok read
-input_or (Err why) = Err (input_fault why)
 
 -- the DAG of an id
 abbrev pub dag_or : StateRows → List ℕ → Result DagRow OpFault
@@ -344,3 +326,5 @@ effect_of reads state (op.ClearRun dag_id run_id input) now = run_cleared state 
 effect_of reads state (op.ListInstances dag_id run_id) now = listed_instances state dag_id run_id
 effect_of reads state (op.GetInstance dag_id run_id task_id) now = got_instance state dag_id run_id task_id
 effect_of reads state (op.ClearInstances dag_id input) now = instances_cleared state dag_id input
+effect_of reads state (op.Pool it) now = pool_effect state it
+effect_of reads state (op.Variable it) now = variable_effect state it

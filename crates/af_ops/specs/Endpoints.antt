@@ -1,7 +1,7 @@
 -- The operations of the API (Airflow 2, "Stable REST API"), with what a request says of them.
 use Rattle.std.specs.Prelude.{◌≡◌, ◌⊎◌, ◌&&◌, ◌||◌, ℕ, List, [], ◌∷◌, Bool, true, false, is_some, Option, Some, None, option_map, unwrap_or, Result, Ok, Err, if◌then◌else◌}
 use Rattle.std.specs.Result.{result_ok}
-use Rattle.af_names.specs.Names.{Grammar, named, id_grammar, is_tilde, run_id_grammar}
+use Rattle.af_names.specs.Names.{Grammar, named, id_grammar, is_tilde, row_name_grammar, run_id_grammar}
 use Rattle.af_ops.specs.declared.body_fault.BodyFault.{BodyFault}
 use Rattle.af_ops.specs.declared.body_fault.BodyFault.TheVariants.{OutOfMemory}
 use Rattle.af_ops.specs.declared.clear.Clear.{Clear}
@@ -13,8 +13,13 @@ use Rattle.af_ops.specs.declared.op.Op.{Op}
 use Rattle.af_ops.specs.declared.op.Op.TheVariants as op
 use Rattle.af_ops.specs.declared.place.Place.{Place}
 use Rattle.af_ops.specs.declared.place.Place.TheVariants as place
+use Rattle.af_ops.specs.declared.pool_op.PoolOp.TheVariants as pool_op
 use Rattle.af_ops.specs.declared.trigger.Trigger.{Trigger}
+use Rattle.af_ops.specs.declared.variable_op.VariableOp.TheVariants as variable_op
 use Rattle.af_ops.specs.Bodies.{clear_in, clear_run_in, mark_in, pause_in, trigger_in}
+use Rattle.af_ops.specs.PoolOps as pools
+use Rattle.af_ops.specs.RowBodies.{pool_in, slots_in, value_in, variable_in}
+use Rattle.af_ops.specs.VariableOps as variables
 
 abbrev pub endpoint_of : Op → Endpoint
 endpoint_of op.Version = endpoint.Version
@@ -31,6 +36,8 @@ endpoint_of (op.ClearRun dag_id run_id input) = endpoint.ClearRun
 endpoint_of (op.ListInstances dag_id run_id) = endpoint.ListInstances
 endpoint_of (op.GetInstance dag_id run_id task_id) = endpoint.GetInstance
 endpoint_of (op.ClearInstances dag_id input) = endpoint.ClearInstances
+endpoint_of (op.Pool it) = pools.endpoint_of it
+endpoint_of (op.Variable it) = variables.endpoint_of it
 
 -- the DAG that an operation names, or none
 abbrev pub dag_of : Op → Option (List ℕ)
@@ -48,6 +55,8 @@ dag_of (op.ClearRun dag_id run_id input) = Some dag_id
 dag_of (op.ListInstances dag_id run_id) = Some dag_id
 dag_of (op.GetInstance dag_id run_id task_id) = Some dag_id
 dag_of (op.ClearInstances dag_id input) = Some dag_id
+dag_of (op.Pool it) = None
+dag_of (op.Variable it) = None
 
 -- the run whose instances alone are cleared, or none
 abbrev pub cleared_run : Result Clear BodyFault → Option (List ℕ)
@@ -80,6 +89,8 @@ run_of (op.ClearRun dag_id run_id input) = Some run_id
 run_of (op.ListInstances dag_id run_id) = Some run_id
 run_of (op.GetInstance dag_id run_id task_id) = Some run_id
 run_of (op.ClearInstances dag_id input) = cleared_run input
+run_of (op.Pool it) = None
+run_of (op.Variable it) = None
 
 -- the task that an operation names, or none
 abbrev pub task_of : Op → Option (List ℕ)
@@ -97,6 +108,14 @@ task_of (op.ClearRun dag_id run_id input) = None
 task_of (op.ListInstances dag_id run_id) = None
 task_of (op.GetInstance dag_id run_id task_id) = Some task_id
 task_of (op.ClearInstances dag_id input) = None
+task_of (op.Pool it) = None
+task_of (op.Variable it) = None
+
+-- the name of the pool, or the key of the variable, that an operation is about; no text where there is none
+abbrev pub row_name_of : Op → List ℕ
+row_name_of (op.Pool it) = pools.name_of it
+row_name_of (op.Variable it) = variables.key_of it
+row_name_of _ = []
 
 abbrev pub given_in : Result Trigger BodyFault → Option (List ℕ)
 given_in (Ok asked) = asked.dag_run_id
@@ -118,6 +137,8 @@ given_id (op.ClearRun dag_id run_id input) = None
 given_id (op.ListInstances dag_id run_id) = None
 given_id (op.GetInstance dag_id run_id task_id) = None
 given_id (op.ClearInstances dag_id input) = None
+given_id (op.Pool it) = None
+given_id (op.Variable it) = None
 
 -- the name of a kind that is the first of some parts
 abbrev pub first_in : Grammar → List (List ℕ) → Option (List ℕ)
@@ -138,6 +159,10 @@ run_id_in parts = first_in run_id_grammar (after_first parts)
 -- the task's id that is the third part
 abbrev pub task_id_in : List (List ℕ) → Option (List ℕ)
 task_id_in parts = first_in id_grammar (after_first (after_first parts))
+
+-- the name of a pool, or the key of a variable, that is the first part
+abbrev pub row_name_in : List (List ℕ) → Option (List ℕ)
+row_name_in parts = first_in row_name_grammar parts
 
 -- two, where both are there
 abbrev pub both : {X Y : Type 0} → Option X → Option Y → Option (X × Y)
@@ -176,6 +201,10 @@ are_names method place.RunClear parts = is_some (dag_id_in parts) && is_some (ru
 are_names method place.Instances parts = is_some (dag_id_in parts) && is_some (run_id_in parts)
 are_names method place.Instance parts = is_some (dag_id_in parts) && (is_some (run_id_in parts) && is_some (task_id_in parts))
 are_names method place.Clear parts = is_some (dag_id_in parts)
+are_names method place.Pools parts = true
+are_names method place.Pool parts = is_some (row_name_in parts)
+are_names method place.Variables parts = true
+are_names method place.Variable parts = is_some (row_name_in parts)
 
 -- The operation that a row of the table stands for, where the parts of the path, decoded, are these and the body has these
 -- bytes; none where a part is no name of its kind. Bodies of operations that read none are ignored.
@@ -194,6 +223,16 @@ op_of_row endpoint.ClearRun parts body = option_map (λ ids. op.ClearRun ids.0 i
 op_of_row endpoint.ListInstances parts body = option_map (λ ids. op.ListInstances ids.0 ids.1) (run_ids_in parts)
 op_of_row endpoint.GetInstance parts body = option_map (λ ids. op.GetInstance ids.0.0 ids.0.1 ids.1) (instance_ids_in parts)
 op_of_row endpoint.ClearInstances parts body = option_map (λ dag_id. op.ClearInstances dag_id (clear_in body)) (dag_id_in parts)
+op_of_row endpoint.ListPools parts body = Some (op.Pool pool_op.List)
+op_of_row endpoint.AddPool parts body = Some (op.Pool (pool_op.Add (pool_in body)))
+op_of_row endpoint.GetPool parts body = option_map (λ name. op.Pool (pool_op.Get name)) (row_name_in parts)
+op_of_row endpoint.ChangePool parts body = option_map (λ name. op.Pool (pool_op.Change name (slots_in body))) (row_name_in parts)
+op_of_row endpoint.DeletePool parts body = option_map (λ name. op.Pool (pool_op.Delete name)) (row_name_in parts)
+op_of_row endpoint.ListVariables parts body = Some (op.Variable variable_op.List)
+op_of_row endpoint.AddVariable parts body = Some (op.Variable (variable_op.Add (variable_in body)))
+op_of_row endpoint.GetVariable parts body = option_map (λ key. op.Variable (variable_op.Get key)) (row_name_in parts)
+op_of_row endpoint.ChangeVariable parts body = option_map (λ key. op.Variable (variable_op.Change key (value_in body))) (row_name_in parts)
+op_of_row endpoint.DeleteVariable parts body = option_map (λ key. op.Variable (variable_op.Delete key)) (row_name_in parts)
 
 -- the same operation, whose body was not read for want of memory
 abbrev pub unread : Op → Op
@@ -211,6 +250,8 @@ unread (op.ClearRun dag_id run_id input) = op.ClearRun dag_id run_id (Err OutOfM
 unread (op.ListInstances dag_id run_id) = op.ListInstances dag_id run_id
 unread (op.GetInstance dag_id run_id task_id) = op.GetInstance dag_id run_id task_id
 unread (op.ClearInstances dag_id input) = op.ClearInstances dag_id (Err OutOfMemory)
+unread (op.Pool it) = op.Pool (pools.unread it)
+unread (op.Variable it) = op.Variable (variables.unread it)
 
 -- this operation was read, all of it or without its body
 abbrev pub IsRead : Option Op → Option Op → Type 0

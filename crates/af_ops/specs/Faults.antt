@@ -10,7 +10,7 @@ use Rattle.af_ops.specs.declared.status.Status.{Status}
 use Rattle.af_ops.specs.declared.status.Status.TheVariants as status
 use Rattle.af_ops.specs.Bodies.{name_of}
 use Rattle.af_ops.specs.Effects.{id_or}
-use Rattle.af_ops.specs.Endpoints.{dag_of, given_id, run_of, task_ids_of, task_of}
+use Rattle.af_ops.specs.Endpoints.{dag_of, given_id, row_name_of, run_of, task_ids_of, task_of}
 use Rattle.af_ops.specs.Rows.{Problem}
 
 abbrev pub fault_of : Status → List ℕ → Option Problem
@@ -26,8 +26,13 @@ problem_of asked (why.Op fault.NoSuchDag) = fault_of status.NotFound (codes "no 
 problem_of asked (why.Op fault.NoSuchRun) = fault_of status.NotFound (codes "no such run: " ++ unwrap_or (run_of asked) [])
 problem_of asked (why.Op fault.NoSuchTask) = fault_of status.NotFound (codes "no such task: " ++ unwrap_or (task_of asked) [])
 problem_of asked (why.Op (fault.NoSuchTaskAt place)) = fault_of status.NotFound (codes "no such task: " ++ slice_index_or (task_ids_of asked) place [])
+problem_of asked (why.Op fault.NoSuchPool) = fault_of status.NotFound (codes "no such pool: " ++ row_name_of asked)
+problem_of asked (why.Op fault.NoSuchVariable) = fault_of status.NotFound (codes "no such variable: " ++ row_name_of asked)
 problem_of asked (why.Op (fault.RunExists date)) = fault_of status.Conflict (codes "run exists: " ++ id_or (given_id asked) date)
 problem_of asked (why.Op (fault.DateTaken date)) = fault_of status.Conflict (codes "date taken: " ++ isoformat date)
+problem_of asked (why.Op fault.Exists) = fault_of status.Conflict (codes "exists: " ++ row_name_of asked)
 problem_of asked (why.Op fault.TooMany) = fault_of status.Conflict (codes "too many")
+problem_of asked (why.Op fault.DefaultPool) = fault_of status.Conflict (codes "default pool")
+problem_of asked (why.Op fault.InUse) = fault_of status.Conflict (codes "pool in use: " ++ row_name_of asked)
 problem_of asked (why.Op fault.HistoryFull) = fault_of status.InsufficientStorage (codes "history full")
 problem_of asked (why.Op fault.OutOfMemory) = None

@@ -43,13 +43,14 @@ ChangesLeaveAnotherState =
     (reads : List ℕ → Bool) (state : StateRows) (asked : Op) (now : ℕ) (effect : Effect) (next : StateRows) → effect_of reads state asked now ≡ Ok effect
     → effect.next ≡ Some next → next ≢ state
 
--- the other DAGs, their runs and the pools are the same
+-- the other DAGs, their runs, the pools and the variables are the same
 pub record LeavesOthers (dag_id : List ℕ) (old new : StateRows) : Type 0 where
   pub dags : filter (λ row. not (is_of_id dag_id row)) new.dags ≡ filter (λ row. not (is_of_id dag_id row)) old.dags
   pub runs : filter (λ run. not (is_of dag_id run)) new.runs ≡ filter (λ run. not (is_of dag_id run)) old.runs
   pub pools : new.pools ≡ old.pools
+  pub variables : new.variables ≡ old.variables
 
--- an operation at one DAG leaves all other DAGs, their runs and the pools as they were
+-- an operation at one DAG leaves all other DAGs, their runs, the pools and the variables as they were
 abbrev pub ChangesStayAtTheirDag : Type 0
 ChangesStayAtTheirDag =
     (reads : List ℕ → Bool) (state : StateRows) (asked : Op) (now : ℕ) (effect : Effect) (next : StateRows) (dag_id : List ℕ) → effect_of reads state asked now ≡ Ok effect
@@ -94,6 +95,7 @@ pub record AddsRun (dag_id run_id : List ℕ) (date : ℕ) (old new : StateRows)
   pub next : new.next_run ≡ run.number + 1
   pub dags : new.dags ≡ old.dags
   pub pools : new.pools ≡ old.pools
+  pub variables : new.variables ≡ old.variables
 
 -- what triggers a run adds one, at the date that is asked for, else at the moment, and of the id that is asked for, else of the one
 -- made of that date; nothing else is changed

@@ -1,6 +1,7 @@
 pub mod Bodies
 pub mod Decisions
 pub mod Edits
+pub mod EffectParts
 pub mod Effects
 pub mod Endpoints
 pub mod Faults
@@ -8,9 +9,13 @@ pub mod Fields
 pub mod Laws
 pub mod Listings
 pub mod Methods
+pub mod PoolEffects
+pub mod PoolOps
 pub mod Prepared
 pub mod Replies
 pub mod Required
+pub mod RowBodies
+pub mod RowLaws
 pub mod Rows
 pub mod Served
 pub mod Standings
@@ -18,5 +23,8 @@ pub mod Statuses
 pub mod Segments
 pub mod Table
 pub mod Texts
+pub mod VariableEffects
+pub mod VariableOps
 pub mod Verdicts
 pub mod Worked
+pub mod WorkedRows

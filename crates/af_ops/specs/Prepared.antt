@@ -1,9 +1,13 @@
 -- An operation that is worked out and not yet done.
 use Rattle.std.specs.Prelude.{◌≡◌, ◌<◌, ◌↔◌, ◌⊎◌, ℕ, List, false, Option, None, Result, Ok, Err, IsOk, ⊤}
+use Rattle.af_pool.specs.Pools as pools
+use Rattle.af_pool.specs.Pools.{remove_fault, set_fault}
 use Rattle.af_runs.specs.Runs.{add_fault}
 use Rattle.af_runs.specs.declared.new_run.NewRun.{NewRun}
 use Rattle.af_sched.specs.Additions.{IsWholeNew}
-use Rattle.af_sched.specs.State.{StateRows, StateWithRoom}
+use Rattle.af_sched.specs.State.{StateRows, StateWithRoom, pools_of_row}
+use Rattle.af_vars.specs.Variables as variables
+use Rattle.af_vars.specs.Variables.{change_fault}
 use Rattle.af_ops.specs.declared.edit.Edit.{Edit}
 use Rattle.af_ops.specs.declared.edit.Edit.TheVariants as edit
 use Rattle.af_ops.specs.Edits.{edited, is_edit, next_by}
@@ -24,6 +28,16 @@ pub record CanAddRun (state : StateWithRoom) (new : NewRun) : Type 0 where
   pub whole : IsWholeNew state.rows new
   pub free : add_fault state.rows.runs state.rows.next_run new.dag_id new.run_id new.logical_date ≡ None
 
+-- a pool of this name with these slots may be added: there is room for it, and no fault
+pub record CanAddPool (state : StateWithRoom) (name : List ℕ) (slots : ℕ) : Type 0 where
+  pub room : 0 < state.spare_pools
+  pub free : pools.add_fault state.rows.pools name slots ≡ None
+
+-- a variable of this key may be added: there is room for it, and no fault
+pub record CanAddVariable (state : StateWithRoom) (key : List ℕ) : Type 0 where
+  pub room : 0 < state.spare_variables
+  pub free : variables.add_fault state.rows.variables key ≡ None
+
 -- the edit takes no memory
 abbrev pub CanDo : StateWithRoom → Edit → Type 0
 CanDo state edit.Nothing = ⊤
@@ -32,6 +46,12 @@ CanDo state (edit.RunAdded new) = CanAddRun state new
 CanDo state (edit.RunMarked number mark at) = ⊤
 CanDo state (edit.InstancesCleared filter selection) = ⊤
 CanDo state (edit.RunRemoved number) = ⊤
+CanDo state (edit.PoolAdded name slots) = CanAddPool state name slots
+CanDo state (edit.PoolSet name slots) = set_fault state.rows.pools name slots ≡ None
+CanDo state (edit.PoolRemoved name) = remove_fault pools_of_row state.rows.dags state.rows.pools name ≡ None
+CanDo state (edit.VariableAdded variable) = CanAddVariable state variable.key
+CanDo state (edit.VariableSet key value) = change_fault state.rows.variables key ≡ None
+CanDo state (edit.VariableRemoved key) = change_fault state.rows.variables key ≡ None
 
 -- the edit changes the state exactly where there is one
 abbrev pub IsExact : StateRows → Edit → Type 0

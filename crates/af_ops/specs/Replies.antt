@@ -3,9 +3,10 @@ use Rattle.std.specs.Prelude.{ℕ, List}
 use Rattle.serde_json.specs.Data.{Data}
 use Rattle.af_runs.specs.declared.run.Run.{Run}
 use Rattle.af_sched.specs.declared.dag_row.DagRow.{DagRow}
+use Rattle.af_vars.specs.declared.variable.Variable.{Variable}
 use Rattle.af_ops.specs.declared.status.Status.{Status}
 use Rattle.af_ops.specs.Fields.{object_of}
-use Rattle.af_ops.specs.Rows.{ClearedTold, InstanceTold, TaskTold, cleared_fields, dag_fields, instance_fields, run_fields, task_fields, version_fields, problem_fields}
+use Rattle.af_ops.specs.Rows.{ClearedTold, InstanceTold, PoolTold, TaskTold, cleared_fields, dag_fields, instance_fields, pool_fields, run_fields, task_fields, variable_fields, version_fields, problem_fields}
 
 abbrev pub dag_data : DagRow → Data
 dag_data row = object_of (dag_fields row)
@@ -21,6 +22,12 @@ task_data told = object_of (task_fields told)
 
 abbrev pub run_data : Run → Data
 run_data run = object_of (run_fields run)
+
+abbrev pub pool_data : PoolTold → Data
+pool_data told = object_of (pool_fields told)
+
+abbrev pub variable_data : Variable → Data
+variable_data variable = object_of (variable_fields variable)
 
 -- what the server is
 abbrev pub version_data : Data

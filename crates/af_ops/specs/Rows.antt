@@ -1,5 +1,5 @@
 -- The rows that are told (Airflow 2, "Stable REST API"; RFC 9457: faults), each as its members in byte order of their names.
-use Rattle.std.specs.Prelude.{ℕ, List, [], ◌∷◌, ◌++◌, map, Option, Some, codes}
+use Rattle.std.specs.Prelude.{ℕ, ◌+◌, ◌-◌, List, [], ◌∷◌, ◌++◌, map, Option, Some, codes}
 use Rattle.std.specs.Option.{option_map_or}
 use Rattle.serde_json.specs.Data.{Data, null, array, boolean, number, unsigned, string}
 use Rattle.serde_json.specs.View.{items_of}
@@ -19,6 +19,8 @@ use Rattle.af_runs.specs.declared.run_state.RunState.TheVariants as run_state
 use Rattle.af_runs.specs.declared.run_type.RunType.{RunType}
 use Rattle.af_runs.specs.declared.run_type.RunType.TheVariants as run_type
 use Rattle.af_sched.specs.declared.dag_row.DagRow.{DagRow}
+use Rattle.af_sched.specs.declared.held.Held.{Held}
+use Rattle.af_vars.specs.declared.variable.Variable.{Variable}
 use Rattle.af_ops.specs.declared.status.Status.{Status}
 use Rattle.af_ops.specs.Fields.{Field, instant_data}
 use Rattle.af_ops.specs.Statuses.{code_of, reason_of}
@@ -132,6 +134,33 @@ cleared_fields told =
     ∷ (codes "logical_date", instant_data (Some told.run.logical_date))
     ∷ (codes "task_id", string told.task_id)
     ∷ []
+
+-- a pool, and the slots that instances hold of it
+pub record PoolTold : Type 0 where
+  pub name : List ℕ
+  pub slots : ℕ
+  pub held : Held
+
+-- what is queued and what is running occupies slots
+abbrev pub occupied_by : Held → ℕ
+occupied_by held = held.queued + held.running
+
+-- the slots less those occupied, at least 0
+abbrev pub open_beside : ℕ → Held → ℕ
+open_beside slots held = slots - occupied_by held
+
+abbrev pub pool_fields : PoolTold → List Field
+pool_fields told =
+    (codes "name", string told.name)
+    ∷ (codes "occupied_slots", number (unsigned (occupied_by told.held)))
+    ∷ (codes "open_slots", number (unsigned (open_beside told.slots told.held)))
+    ∷ (codes "queued_slots", number (unsigned told.held.queued))
+    ∷ (codes "running_slots", number (unsigned told.held.running))
+    ∷ (codes "slots", number (unsigned told.slots))
+    ∷ []
+
+abbrev pub variable_fields : Variable → List Field
+variable_fields variable = (codes "key", string variable.key) ∷ (codes "value", string variable.value) ∷ []
 
 -- what the server is
 abbrev pub version_fields : List Field

@@ -7,7 +7,7 @@ use Rattle.af_role.specs.declared.action.Action.{Action}
 use Rattle.af_role.specs.declared.action.Action.TheVariants.{Create, Read, Edit}
 use Rattle.af_role.specs.declared.action.Action.TheVariants as action
 use Rattle.af_role.specs.declared.resource.ResourceKind.{ResourceKind}
-use Rattle.af_role.specs.declared.resource.ResourceKind.TheVariants.{Dags, DagRuns, TaskInstances}
+use Rattle.af_role.specs.declared.resource.ResourceKind.TheVariants.{Dags, DagRuns, TaskInstances, Pools, Variables}
 use Rattle.af_role.specs.declared.need.Need.{Need}
 use Rattle.af_ops.specs.declared.method.Method.{Method}
 use Rattle.af_ops.specs.declared.method.Method.TheVariants.{Get, Post, Patch, Delete}
@@ -46,6 +46,10 @@ segments_of place.RunClear = of_run (Text (codes "clear") ∷ [])
 segments_of place.Instances = of_run (Text (codes "taskInstances") ∷ [])
 segments_of place.Instance = of_run (Text (codes "taskInstances") ∷ Part (codes "task_id") ∷ [])
 segments_of place.Clear = of_dag (Text (codes "clearTaskInstances") ∷ [])
+segments_of place.Pools = api (Text (codes "pools") ∷ [])
+segments_of place.Pool = api (Text (codes "pools") ∷ Part (codes "pool_name") ∷ [])
+segments_of place.Variables = api (Text (codes "variables") ∷ [])
+segments_of place.Variable = api (Text (codes "variables") ∷ Part (codes "variable_key") ∷ [])
 
 -- how a path is spelled, with its parts in braces
 abbrev pub spelled : List Segment → List ℕ
@@ -54,7 +58,7 @@ spelled (Text text ∷ rest) = 47 ∷ (text ++ spelled rest)
 spelled (Part name ∷ rest) = 47 ∷ 123 ∷ (name ++ 125 ∷ spelled rest)
 
 abbrev pub places : List Place
-places = place.Version ∷ place.Dags ∷ place.Dag ∷ place.Tasks ∷ place.Runs ∷ place.Run ∷ place.RunClear ∷ place.Instances ∷ place.Instance ∷ place.Clear ∷ []
+places = place.Version ∷ place.Dags ∷ place.Dag ∷ place.Tasks ∷ place.Runs ∷ place.Run ∷ place.RunClear ∷ place.Instances ∷ place.Instance ∷ place.Clear ∷ place.Pools ∷ place.Pool ∷ place.Variables ∷ place.Variable ∷ []
 
 abbrev pub place_rank : Place → ℕ
 place_rank place.Version = 0
@@ -67,6 +71,10 @@ place_rank place.RunClear = 6
 place_rank place.Instances = 7
 place_rank place.Instance = 8
 place_rank place.Clear = 9
+place_rank place.Pools = 10
+place_rank place.Pool = 11
+place_rank place.Variables = 12
+place_rank place.Variable = 13
 
 abbrev pub same_place : Place → Place → Bool
 same_place = on place_rank nat_eq
@@ -115,9 +123,19 @@ route_of endpoint.ClearRun = needing Post place.RunClear (at_dag Edit ∷ on_all
 route_of endpoint.ListInstances = needing Get place.Instances (at_dag Read ∷ on_all Read DagRuns ∷ on_all Read TaskInstances ∷ [])
 route_of endpoint.GetInstance = needing Get place.Instance (at_dag Read ∷ on_all Read DagRuns ∷ on_all Read TaskInstances ∷ [])
 route_of endpoint.ClearInstances = needing Post place.Clear (at_dag Edit ∷ on_all Read DagRuns ∷ on_all Edit TaskInstances ∷ [])
+route_of endpoint.ListPools = needing Get place.Pools (on_all Read Pools ∷ [])
+route_of endpoint.AddPool = needing Post place.Pools (on_all Create Pools ∷ [])
+route_of endpoint.GetPool = needing Get place.Pool (on_all Read Pools ∷ [])
+route_of endpoint.ChangePool = needing Patch place.Pool (on_all Edit Pools ∷ [])
+route_of endpoint.DeletePool = needing Delete place.Pool (on_all action.Delete Pools ∷ [])
+route_of endpoint.ListVariables = needing Get place.Variables (on_all Read Variables ∷ [])
+route_of endpoint.AddVariable = needing Post place.Variables (on_all Create Variables ∷ [])
+route_of endpoint.GetVariable = needing Get place.Variable (on_all Read Variables ∷ [])
+route_of endpoint.ChangeVariable = needing Patch place.Variable (on_all Edit Variables ∷ [])
+route_of endpoint.DeleteVariable = needing Delete place.Variable (on_all action.Delete Variables ∷ [])
 
 abbrev pub endpoints : List Endpoint
-endpoints = endpoint.Version ∷ endpoint.ListDags ∷ endpoint.GetDag ∷ endpoint.PauseDag ∷ endpoint.ListTasks ∷ endpoint.ListRuns ∷ endpoint.TriggerRun ∷ endpoint.GetRun ∷ endpoint.MarkRun ∷ endpoint.DeleteRun ∷ endpoint.ClearRun ∷ endpoint.ListInstances ∷ endpoint.GetInstance ∷ endpoint.ClearInstances ∷ []
+endpoints = endpoint.Version ∷ endpoint.ListDags ∷ endpoint.GetDag ∷ endpoint.PauseDag ∷ endpoint.ListTasks ∷ endpoint.ListRuns ∷ endpoint.TriggerRun ∷ endpoint.GetRun ∷ endpoint.MarkRun ∷ endpoint.DeleteRun ∷ endpoint.ClearRun ∷ endpoint.ListInstances ∷ endpoint.GetInstance ∷ endpoint.ClearInstances ∷ endpoint.ListPools ∷ endpoint.AddPool ∷ endpoint.GetPool ∷ endpoint.ChangePool ∷ endpoint.DeletePool ∷ endpoint.ListVariables ∷ endpoint.AddVariable ∷ endpoint.GetVariable ∷ endpoint.ChangeVariable ∷ endpoint.DeleteVariable ∷ []
 
 -- ---- what is read off it
 

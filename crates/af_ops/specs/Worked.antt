@@ -75,6 +75,7 @@ state_with paused = record {
   runs = [];
   next_run = 1;
   pools = [];
+  variables = [];
 }
 
 -- the opening policy, with this many entries in the audit
@@ -174,7 +175,7 @@ half_run = record forked_run { instances = tried ∷ new_instance task ∷ [] }
 abbrev pub at_work : StandingRows
 at_work = record {
   under = record { version = 0; seq = 3 };
-  state = record { dags = forked ∷ []; runs = half_run ∷ []; next_run = 4; pools = [] };
+  state = record { dags = forked ∷ []; runs = half_run ∷ []; next_run = 4; pools = []; variables = [] };
 }
 
 -- its two instances, as they are told
@@ -233,6 +234,7 @@ with_cleared = record {
   runs = cleared_half ∷ [];
   next_run = 4;
   pools = [];
+  variables = [];
 }
 
 -- where they stand so already, and where they do not and the history is full

@@ -25,12 +25,22 @@ pub enum OpFault {
     NoSuchTask,
     /// The id at this place among the ids of tasks that it names is none of the DAG's tasks.
     NoSuchTaskAt(usize),
+    /// The pool that it names is not there.
+    NoSuchPool,
+    /// The variable that it names is not there.
+    NoSuchVariable,
     /// The DAG has a run of the id that is given, else of the id that is made of this date.
     RunExists(Instant),
     /// The DAG has a run of this logical date.
     DateTaken(Instant),
+    /// A pool of the name, or a variable of the key, is there already.
+    Exists,
     /// A limit on the number of rows would be passed.
     TooMany,
+    /// The default pool is never deleted.
+    DefaultPool,
+    /// Some task names the pool.
+    InUse,
     /// It would change the state, and there is no room for one more entry.
     HistoryFull,
     /// A growth was refused, and nothing was done.

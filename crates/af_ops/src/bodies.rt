@@ -89,7 +89,7 @@ pub fn read_clear(alloc: Global, bytes: &[u8]) -> Result<Clear, BodyFault>
 }
 
 /// The object that a body is.
-fn body_in<'a>(
+pub(crate) fn body_in<'a>(
     alloc: Global,
     bytes: &'a [u8],
     scratch: &'a mut Scratch,

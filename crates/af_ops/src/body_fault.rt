@@ -25,6 +25,14 @@ pub enum Member {
     StartDate,
     /// `end_date`
     EndDate,
+    /// `name`
+    Name,
+    /// `slots`
+    Slots,
+    /// `key`
+    Key,
+    /// `value`
+    Value,
 }
 
 /// Why a body is refused.

@@ -14,6 +14,8 @@ ghost use Rattle.af_ops.specs.Effects.{effect_of, paused_dag, run_marked};
 use crate::answer::{CallFault, OpFault, Under};
 use crate::op::Op;
 use crate::operations::dags::differs;
+use crate::operations::pools::would_change_pools;
+use crate::operations::variables::would_change_variables;
 use crate::prepared::Prepared;
 use crate::preparing::prepare;
 use crate::table::needs_for;
@@ -155,6 +157,8 @@ fn would_change(state: &State, op: &Op) -> bool
         | Op::ListInstances(_, _)
         | Op::GetInstance(_, _, _) => false,
         Op::ClearRun(_, _, _) | Op::ClearInstances(_, _) => false,
+        Op::Pool(op) => would_change_pools(state, op),
+        Op::Variable(op) => would_change_variables(state, op),
     }
 }
 

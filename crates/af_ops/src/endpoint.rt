@@ -29,4 +29,24 @@ pub enum Endpoint {
     GetInstance,
     /// `POST /dags/{dag_id}/clearTaskInstances`
     ClearInstances,
+    /// `GET /pools`
+    ListPools,
+    /// `POST /pools`
+    AddPool,
+    /// `GET /pools/{pool_name}`
+    GetPool,
+    /// `PATCH /pools/{pool_name}`
+    ChangePool,
+    /// `DELETE /pools/{pool_name}`
+    DeletePool,
+    /// `GET /variables`
+    ListVariables,
+    /// `POST /variables`
+    AddVariable,
+    /// `GET /variables/{variable_key}`
+    GetVariable,
+    /// `PATCH /variables/{variable_key}`
+    ChangeVariable,
+    /// `DELETE /variables/{variable_key}`
+    DeleteVariable,
 }

@@ -1,18 +1,17 @@
 // The members of a row: one call each, in byte order of their names.
-ghost use Rattle.std.specs.Prelude.{◌≡◌, ◌≤◌, ◌++◌, ◌∷◌, [], OnOk, IfOk, IsTrue, true, false, map};
+ghost use Rattle.std.specs.Prelude.{◌≡◌, ◌≤◌, ◌++◌, ◌∷◌, [], OnOk, IfOk, IsTrue, Some, true, false, map};
 ghost use Rattle.std.specs.List.{list_all};
 ghost use Rattle.json.specs.Run.{is_plain};
 ghost use Rattle.serde_json.specs.Data.{null, array, boolean, number, unsigned, string};
 ghost use Rattle.serde_json.specs.View.{items_of};
 ghost use Rattle.serde_json.specs.Written.{compact_text, items_text};
 ghost use Rattle.serde_json.specs.Find.{of_integer};
-ghost use Rattle.af_names.specs.Isoformat.{isoformat};
 ghost use Rattle.af_ops.specs.Texts.{Adds, is_name};
 ghost use Rattle.af_ops.specs.Fields.{instant_data};
 
+use crate::instant_text::InstantText;
 use crate::text::Text;
 use af_names::{DagId, Instant, RunId, TaskId};
-use arrayvec::ArrayString;
 use itoa::Buffer;
 use json::Writer;
 use std::alloc::{AllocError, Global};
@@ -32,6 +31,17 @@ impl Text {
 
     #[inline(always)]
     pub fn number(&mut self, later: bool, name: &str, value: u64) -> Result<(), AllocError>
+        requires name { IsTrue (is_name name.now) }
+        ensures { OnOk result (Adds later self.old self.new ((name.now, number (unsigned value)) ∷ [])) }
+    {
+        let mut buffer = Buffer::new();
+        let digits = buffer.format(value);
+        self.reserve(digits.len() + (name.len() + 16))?;
+        self.push_member(later, name.as_bytes(), digits.as_bytes());
+        Ok(())
+    }
+
+    pub fn wide(&mut self, later: bool, name: &str, value: u128) -> Result<(), AllocError>
         requires name { IsTrue (is_name name.now) }
         ensures { OnOk result (Adds later self.old self.new ((name.now, number (unsigned value)) ∷ [])) }
     {
@@ -125,8 +135,26 @@ impl Text {
     {
         match value {
             None => self.null(later, name),
-            Some(instant) => self.plain(later, name, instant_text(instant).as_str()),
+            Some(instant) => self.plain(later, name, InstantText::of(instant).as_str()),
         }
+    }
+
+    /// An instant, by the text at hand where that is its own.
+    #[inline]
+    pub(crate) fn instant_by(
+        &mut self,
+        later: bool,
+        name: &str,
+        value: Instant,
+        at_hand: &InstantText,
+    ) -> Result<(), AllocError>
+        requires name { IsTrue (is_name name.now) }
+        ensures { OnOk result (Adds later self.old self.new ((name.now, instant_data (Some value)) ∷ [])) }
+    {
+        if value == at_hand.instant() {
+            return self.plain(later, name, at_hand.as_str());
+        }
+        self.instant(later, name, Some(value))
     }
 
     /// The id of a DAG.
@@ -220,15 +248,6 @@ fn escaped_text(alloc: Global, value: &str) -> Result<Vec<u8>, AllocError>
     let mut out = Writer::new(Vec::new(alloc));
     out.string(value)?;
     Ok(out.into_inner())
-}
-
-/// The text of an instant. Its year has four digits, so no byte wants an escape.
-fn instant_text(instant: Instant) -> ArrayString<38>
-    ensures text { result.bytes ≡ isoformat instant }
-    ensures plain { list_all is_plain result.bytes ≡ true }
-{
-    let _last = instant.micros();
-    instant.isoformat()
 }
 
 /// Whether no byte wants an escape.

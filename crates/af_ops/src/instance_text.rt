@@ -31,26 +31,26 @@ impl<'a> Row for InstanceRow<'a> {
 
     fn put_fields(&self, alloc: Global, out: &mut Text) -> Result<(), AllocError> {
         put_first(alloc, out, self.run, self.task, self.instance)?;
-        put_last(alloc, out, self.run, self.task, self.instance)?;
+        put_last(out, self.run, self.task, self.instance)?;
         Ok(())
     }
 }
 
 /// An instance's state, or null where it has none.
-fn put_state(alloc: Global, out: &mut Text, name: &str, state: TaskState) -> Result<(), AllocError>
+fn put_state(out: &mut Text, name: &str, state: TaskState) -> Result<(), AllocError>
     requires { IsTrue (is_name name.now) }
     ensures { OnOk result (Adds true out.old out.new ((name.now, state_data state) ∷ [])) }
 {
     match state {
         TaskState::NoStatus => out.null(true, name),
-        TaskState::Scheduled => out.text(alloc, true, name, "scheduled"),
-        TaskState::Queued => out.text(alloc, true, name, "queued"),
-        TaskState::Running => out.text(alloc, true, name, "running"),
-        TaskState::Success => out.text(alloc, true, name, "success"),
-        TaskState::Failed => out.text(alloc, true, name, "failed"),
-        TaskState::Skipped => out.text(alloc, true, name, "skipped"),
-        TaskState::UpstreamFailed => out.text(alloc, true, name, "upstream_failed"),
-        TaskState::UpForRetry => out.text(alloc, true, name, "up_for_retry"),
+        TaskState::Scheduled => out.plain(true, name, "scheduled"),
+        TaskState::Queued => out.plain(true, name, "queued"),
+        TaskState::Running => out.plain(true, name, "running"),
+        TaskState::Success => out.plain(true, name, "success"),
+        TaskState::Failed => out.plain(true, name, "failed"),
+        TaskState::Skipped => out.plain(true, name, "skipped"),
+        TaskState::UpstreamFailed => out.plain(true, name, "upstream_failed"),
+        TaskState::UpForRetry => out.plain(true, name, "up_for_retry"),
     }
 }
 
@@ -72,7 +72,6 @@ fn put_first(
 }
 
 fn put_last(
-    alloc: Global,
     out: &mut Text,
     run: &Run,
     task: &TaskSpec,
@@ -82,7 +81,7 @@ fn put_last(
 {
     out.integer(true, "priority_weight", task.priority_weight)?;
     out.instant(true, "start_date", instance.start_date)?;
-    put_state(alloc, out, "state", instance.state)?;
+    put_state(out, "state", instance.state)?;
     out.task_id(true, "task_id", &task.task_id)?;
     out.number(true, "try_number", u64::from(instance.try_number))?;
     Ok(())

@@ -30,7 +30,7 @@ pub fn changes_leave_another_state()
     ensures { ChangesLeaveAnotherState }
 {}
 
-/// An operation at one DAG leaves all other DAGs, their runs and the pools as they were.
+/// An operation at one DAG leaves all other DAGs, their runs, the pools and the variables as they were.
 pub fn changes_stay_at_their_dag()
     ensures { ChangesStayAtTheirDag }
 {}

@@ -14,6 +14,7 @@ mod edit;
 mod endpoint;
 mod fields;
 mod instance_text;
+mod instant_text;
 pub mod laws;
 mod member_name;
 mod method;
@@ -21,14 +22,24 @@ mod methods;
 mod nobody;
 mod op;
 mod operations;
+mod paths;
 mod place;
+mod pool_op;
+mod pool_text;
 mod prepared;
 mod preparing;
 mod problem;
 mod product;
 mod reading;
+mod requirements;
 mod route;
 mod row;
+mod row_bodies;
+mod row_edits;
+pub mod row_laws;
+mod row_paths;
+mod row_reading;
+mod row_requirements;
 mod run_text;
 mod segment;
 mod served;
@@ -40,7 +51,10 @@ mod task_text;
 mod telling;
 mod text;
 mod trigger;
+mod variable_op;
+mod variable_text;
 mod worked;
+mod worked_rows;
 
 pub use answer::{CallFault, OpFault, Under};
 pub use bodies::{read_clear, read_clear_run, read_mark, read_pause, read_trigger};
@@ -55,11 +69,13 @@ pub use method::Method;
 pub use methods::Methods;
 pub use op::Op;
 pub use place::Place;
+pub use pool_op::PoolOp;
 pub use prepared::{Prepared, commit};
 pub use preparing::prepare;
 pub use reading::{are_names, read_row};
 pub use route::Route;
-pub use row::{Row, list_text, listing_text, row_text};
+pub use row::{Row, late_listing_text, list_text, listing_text, row_text};
+pub use row_bodies::{read_pool, read_slots, read_value, read_variable};
 pub use segment::Segment;
 pub use served::Served;
 pub use shown_answer::Shown;
@@ -69,10 +85,15 @@ pub use table::{ENDPOINTS, PLACES, endpoint_at, methods_at, needs, needs_for, ro
 pub use telling::shown_fault;
 pub use text::Text;
 pub use trigger::Trigger;
+pub use variable_op::VariableOp;
 pub use worked::{
     bodies_by_the_rule, changes_by_the_rule, clear_bodies_by_the_rule, clear_messages_by_the_rule,
     clears_by_the_rule, deletes_by_the_rule, faults_by_the_rule, instance_messages_by_the_rule,
     instance_routes_by_the_rule, instances_by_the_rule, mark_messages_by_the_rule,
     marks_by_the_rule, messages_by_the_rule, readings_by_the_rule, routes_by_the_rule,
     run_messages_by_the_rule, runs_by_the_rule, tasks_by_the_rule, triggers_by_the_rule,
+};
+pub use worked_rows::{
+    pool_messages_by_the_rule, pools_by_the_rule, row_bodies_by_the_rule, row_routes_by_the_rule,
+    variable_messages_by_the_rule, variables_by_the_rule,
 };

@@ -19,5 +19,9 @@ pub fn name_of(member: Member) -> &'static str
         Member::TaskIds => "task_ids",
         Member::StartDate => "start_date",
         Member::EndDate => "end_date",
+        Member::Name => "name",
+        Member::Slots => "slots",
+        Member::Key => "key",
+        Member::Value => "value",
     }
 }

@@ -1,11 +1,13 @@
 ghost use Rattle.std.specs.Prelude.{◌≡◌};
 ghost use Rattle.std.specs.Option.{option_copied};
-ghost use Rattle.af_ops.specs.Endpoints.{cleared_run, dag_of, endpoint_of, given_id, given_in, ids_in, run_of, task_ids_of, task_of};
+ghost use Rattle.af_ops.specs.Endpoints.{cleared_run, dag_of, endpoint_of, given_id, given_in, ids_in, row_name_of, run_of, task_ids_of, task_of};
 
 use crate::body_fault::BodyFault;
 use crate::clear::Clear;
 use crate::endpoint::Endpoint;
+use crate::pool_op::PoolOp;
 use crate::trigger::Trigger;
+use crate::variable_op::VariableOp;
 use af_names::{DagId, RunId, TaskId};
 use af_runs::Mark;
 
@@ -40,6 +42,10 @@ pub enum Op {
     GetInstance(DagId, RunId, TaskId),
     /// Instances of a DAG's runs are cleared, or told as those that would be.
     ClearInstances(DagId, Result<Clear, BodyFault>),
+    /// An operation on pools.
+    Pool(PoolOp),
+    /// An operation on variables.
+    Variable(VariableOp),
 }
 
 impl Op {
@@ -62,6 +68,8 @@ impl Op {
             Op::ListInstances(_, _) => Endpoint::ListInstances,
             Op::GetInstance(_, _, _) => Endpoint::GetInstance,
             Op::ClearInstances(_, _) => Endpoint::ClearInstances,
+            Op::Pool(op) => op.endpoint(),
+            Op::Variable(op) => op.endpoint(),
         }
     }
 
@@ -70,7 +78,7 @@ impl Op {
         ensures { option_copied result ≡ dag_of self.now }
     {
         match self {
-            Op::Version | Op::ListDags => None,
+            Op::Version | Op::ListDags | Op::Pool(_) | Op::Variable(_) => None,
             Op::GetDag(dag_id) | Op::PauseDag(dag_id, _) => Some(dag_id),
             Op::ListTasks(dag_id) => Some(dag_id),
             Op::ListRuns(dag) => dag.as_ref(),
@@ -96,7 +104,9 @@ impl Op {
             | Op::PauseDag(_, _)
             | Op::ListTasks(_)
             | Op::ListRuns(_)
-            | Op::TriggerRun(_, _) => None,
+            | Op::TriggerRun(_, _)
+            | Op::Pool(_)
+            | Op::Variable(_) => None,
         }
     }
 
@@ -118,7 +128,9 @@ impl Op {
             | Op::DeleteRun(_, _)
             | Op::ClearRun(_, _, _)
             | Op::ListInstances(_, _)
-            | Op::ClearInstances(_, _) => None,
+            | Op::ClearInstances(_, _)
+            | Op::Pool(_)
+            | Op::Variable(_) => None,
         }
     }
 
@@ -140,7 +152,9 @@ impl Op {
             | Op::ClearRun(_, _, _)
             | Op::ListInstances(_, _)
             | Op::GetInstance(_, _, _)
-            | Op::ClearInstances(_, _) => None,
+            | Op::ClearInstances(_, _)
+            | Op::Pool(_)
+            | Op::Variable(_) => None,
         }
     }
 
@@ -162,7 +176,33 @@ impl Op {
             | Op::DeleteRun(_, _)
             | Op::ClearRun(_, _, _)
             | Op::ListInstances(_, _)
-            | Op::GetInstance(_, _, _) => &[],
+            | Op::GetInstance(_, _, _)
+            | Op::Pool(_)
+            | Op::Variable(_) => &[],
+        }
+    }
+
+    /// The name of the pool, or the key of the variable, that it is about; no text where there is none.
+    pub(crate) fn row_name(&self) -> &str
+        ensures { result.now ≡ row_name_of self.now }
+    {
+        match self {
+            Op::Pool(op) => op.name(),
+            Op::Variable(op) => op.key(),
+            Op::Version
+            | Op::ListDags
+            | Op::GetDag(_)
+            | Op::PauseDag(_, _)
+            | Op::ListTasks(_)
+            | Op::ListRuns(_)
+            | Op::TriggerRun(_, _)
+            | Op::GetRun(_, _)
+            | Op::MarkRun(_, _, _)
+            | Op::DeleteRun(_, _)
+            | Op::ClearRun(_, _, _)
+            | Op::ListInstances(_, _)
+            | Op::GetInstance(_, _, _)
+            | Op::ClearInstances(_, _) => "",
         }
     }
 }

@@ -2,249 +2,9 @@ ghost use Rattle.std.specs.Prelude.{◌≡◌, map};
 ghost use Rattle.af_ops.specs.Table.{segments_of, spelled};
 ghost use Rattle.af_ops.specs.Segments.{seen};
 
+use crate::paths::{CLEAR, DAG, DAGS, INSTANCE, INSTANCES, RUN, RUN_CLEAR, RUNS, TASKS, VERSION};
+use crate::row_paths::{POOL, POOLS, VARIABLE, VARIABLES};
 use crate::segment::Segment;
-
-static VERSION: [Segment; 3] = [
-    Segment {
-        text: "api",
-        is_part: false,
-    },
-    Segment {
-        text: "v1",
-        is_part: false,
-    },
-    Segment {
-        text: "version",
-        is_part: false,
-    },
-];
-
-static DAGS: [Segment; 3] = [
-    Segment {
-        text: "api",
-        is_part: false,
-    },
-    Segment {
-        text: "v1",
-        is_part: false,
-    },
-    Segment {
-        text: "dags",
-        is_part: false,
-    },
-];
-
-static DAG: [Segment; 4] = [
-    Segment {
-        text: "api",
-        is_part: false,
-    },
-    Segment {
-        text: "v1",
-        is_part: false,
-    },
-    Segment {
-        text: "dags",
-        is_part: false,
-    },
-    Segment {
-        text: "dag_id",
-        is_part: true,
-    },
-];
-
-static TASKS: [Segment; 5] = [
-    Segment {
-        text: "api",
-        is_part: false,
-    },
-    Segment {
-        text: "v1",
-        is_part: false,
-    },
-    Segment {
-        text: "dags",
-        is_part: false,
-    },
-    Segment {
-        text: "dag_id",
-        is_part: true,
-    },
-    Segment {
-        text: "tasks",
-        is_part: false,
-    },
-];
-
-static RUNS: [Segment; 5] = [
-    Segment {
-        text: "api",
-        is_part: false,
-    },
-    Segment {
-        text: "v1",
-        is_part: false,
-    },
-    Segment {
-        text: "dags",
-        is_part: false,
-    },
-    Segment {
-        text: "dag_id",
-        is_part: true,
-    },
-    Segment {
-        text: "dagRuns",
-        is_part: false,
-    },
-];
-
-static RUN: [Segment; 6] = [
-    Segment {
-        text: "api",
-        is_part: false,
-    },
-    Segment {
-        text: "v1",
-        is_part: false,
-    },
-    Segment {
-        text: "dags",
-        is_part: false,
-    },
-    Segment {
-        text: "dag_id",
-        is_part: true,
-    },
-    Segment {
-        text: "dagRuns",
-        is_part: false,
-    },
-    Segment {
-        text: "dag_run_id",
-        is_part: true,
-    },
-];
-
-static INSTANCES: [Segment; 7] = [
-    Segment {
-        text: "api",
-        is_part: false,
-    },
-    Segment {
-        text: "v1",
-        is_part: false,
-    },
-    Segment {
-        text: "dags",
-        is_part: false,
-    },
-    Segment {
-        text: "dag_id",
-        is_part: true,
-    },
-    Segment {
-        text: "dagRuns",
-        is_part: false,
-    },
-    Segment {
-        text: "dag_run_id",
-        is_part: true,
-    },
-    Segment {
-        text: "taskInstances",
-        is_part: false,
-    },
-];
-
-static INSTANCE: [Segment; 8] = [
-    Segment {
-        text: "api",
-        is_part: false,
-    },
-    Segment {
-        text: "v1",
-        is_part: false,
-    },
-    Segment {
-        text: "dags",
-        is_part: false,
-    },
-    Segment {
-        text: "dag_id",
-        is_part: true,
-    },
-    Segment {
-        text: "dagRuns",
-        is_part: false,
-    },
-    Segment {
-        text: "dag_run_id",
-        is_part: true,
-    },
-    Segment {
-        text: "taskInstances",
-        is_part: false,
-    },
-    Segment {
-        text: "task_id",
-        is_part: true,
-    },
-];
-
-static RUN_CLEAR: [Segment; 7] = [
-    Segment {
-        text: "api",
-        is_part: false,
-    },
-    Segment {
-        text: "v1",
-        is_part: false,
-    },
-    Segment {
-        text: "dags",
-        is_part: false,
-    },
-    Segment {
-        text: "dag_id",
-        is_part: true,
-    },
-    Segment {
-        text: "dagRuns",
-        is_part: false,
-    },
-    Segment {
-        text: "dag_run_id",
-        is_part: true,
-    },
-    Segment {
-        text: "clear",
-        is_part: false,
-    },
-];
-
-static CLEAR: [Segment; 5] = [
-    Segment {
-        text: "api",
-        is_part: false,
-    },
-    Segment {
-        text: "v1",
-        is_part: false,
-    },
-    Segment {
-        text: "dags",
-        is_part: false,
-    },
-    Segment {
-        text: "dag_id",
-        is_part: true,
-    },
-    Segment {
-        text: "clearTaskInstances",
-        is_part: false,
-    },
-];
 
 /// A path of the API. Operations of several methods may have one path.
 #[derive(Clone, Copy, Debug, PartialEq, Eq)]
@@ -269,6 +29,14 @@ pub enum Place {
     Instance,
     /// `/api/v1/dags/{dag_id}/clearTaskInstances`
     Clear,
+    /// `/api/v1/pools`
+    Pools,
+    /// `/api/v1/pools/{pool_name}`
+    Pool,
+    /// `/api/v1/variables`
+    Variables,
+    /// `/api/v1/variables/{variable_key}`
+    Variable,
 }
 
 impl Place {
@@ -287,6 +55,10 @@ impl Place {
             Place::Instances => "/api/v1/dags/{dag_id}/dagRuns/{dag_run_id}/taskInstances",
             Place::Instance => "/api/v1/dags/{dag_id}/dagRuns/{dag_run_id}/taskInstances/{task_id}",
             Place::Clear => "/api/v1/dags/{dag_id}/clearTaskInstances",
+            Place::Pools => "/api/v1/pools",
+            Place::Pool => "/api/v1/pools/{pool_name}",
+            Place::Variables => "/api/v1/variables",
+            Place::Variable => "/api/v1/variables/{variable_key}",
         }
     }
 
@@ -305,6 +77,10 @@ impl Place {
             Place::Instances => &INSTANCES,
             Place::Instance => &INSTANCE,
             Place::Clear => &CLEAR,
+            Place::Pools => &POOLS,
+            Place::Pool => &POOL,
+            Place::Variables => &VARIABLES,
+            Place::Variable => &VARIABLE,
         }
     }
 }

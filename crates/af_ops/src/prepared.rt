@@ -4,6 +4,9 @@ ghost use Rattle.af_ops.specs.Prepared.{CanAddRun, CanDo};
 
 use crate::body::Body;
 use crate::edit::Edit;
+use crate::row_edits::{
+    add_pool, add_variable, remove_pool, remove_variable, set_slots, set_variable,
+};
 use af_runs::NewRun;
 use af_sched::State;
 use std::marker::Model;
@@ -59,7 +62,13 @@ impl Prepared {
             | Edit::RunAdded(_)
             | Edit::RunMarked(_, _, _)
             | Edit::InstancesCleared(_, _)
-            | Edit::RunRemoved(_) => true,
+            | Edit::RunRemoved(_)
+            | Edit::PoolAdded(_, _)
+            | Edit::PoolSet(_, _)
+            | Edit::PoolRemoved(_)
+            | Edit::VariableAdded(_)
+            | Edit::VariableSet(_, _)
+            | Edit::VariableRemoved(_) => true,
         }
     }
 }
@@ -87,6 +96,12 @@ fn do_edit(state: &mut State, edit: Edit)
         Edit::RunMarked(number, mark, at) => state.mark_run(number, mark, at),
         Edit::InstancesCleared(filter, selection) => state.clear_instances(&filter, &selection),
         Edit::RunRemoved(number) => state.remove_run(number),
+        Edit::PoolAdded(name, slots) => add_pool(state, name, slots),
+        Edit::PoolSet(name, slots) => set_slots(state, &name, slots),
+        Edit::PoolRemoved(name) => remove_pool(state, &name),
+        Edit::VariableAdded(variable) => add_variable(state, variable),
+        Edit::VariableSet(key, value) => set_variable(state, &key, value),
+        Edit::VariableRemoved(key) => remove_variable(state, &key),
     }
 }
 

@@ -12,9 +12,11 @@ use crate::operations::dags::{dags_text, got_dag, paused_dag};
 use crate::operations::deleting::run_deleted;
 use crate::operations::instances::{got_instance, listed_instances};
 use crate::operations::marking::run_marked;
+use crate::operations::pools::prepare_pools;
 use crate::operations::runs::{got_run, listed_runs};
 use crate::operations::tasks::listed_tasks;
 use crate::operations::triggering::triggered_run;
+use crate::operations::variables::prepare_variables;
 use crate::prepared::Prepared;
 use crate::product::Product;
 use crate::row::row_text;
@@ -61,5 +63,7 @@ pub fn prepare<R: Reader>(
             got_instance(alloc, state, dag_id, run_id, task_id)
         }
         Op::ClearInstances(dag_id, input) => instances_cleared(alloc, state, dag_id, input),
+        Op::Pool(op) => prepare_pools(alloc, state, op),
+        Op::Variable(op) => prepare_variables(alloc, state, op),
     }
 }

@@ -6,6 +6,12 @@ use crate::endpoint::Endpoint;
 use crate::method::Method;
 use crate::op::Op;
 use crate::place::Place;
+use crate::pool_op::PoolOp;
+use crate::row_reading::{
+    add_pool, add_variable, change_pool, change_variable, delete_pool, delete_variable, get_pool,
+    get_variable, is_row_name,
+};
+use crate::variable_op::VariableOp;
 use af_names::{DagId, NameError, RunId, TaskId};
 use std::alloc::{AllocError, Global};
 
@@ -100,6 +106,16 @@ pub fn read_row(
             };
             Ok(Some(Op::ClearInstances(dag_id, read_clear(alloc, body))))
         }
+        Endpoint::ListPools => Ok(Some(Op::Pool(PoolOp::List))),
+        Endpoint::AddPool => Ok(Some(add_pool(alloc, body))),
+        Endpoint::GetPool => get_pool(alloc, parts),
+        Endpoint::ChangePool => change_pool(alloc, parts, body),
+        Endpoint::DeletePool => delete_pool(alloc, parts),
+        Endpoint::ListVariables => Ok(Some(Op::Variable(VariableOp::List))),
+        Endpoint::AddVariable => Ok(Some(add_variable(alloc, body))),
+        Endpoint::GetVariable => get_variable(alloc, parts),
+        Endpoint::ChangeVariable => change_variable(alloc, parts, body),
+        Endpoint::DeleteVariable => delete_variable(alloc, parts),
     }
 }
 
@@ -109,7 +125,8 @@ pub fn are_names(alloc: Global, method: Option<Method>, place: Place, parts: &[S
     ensures { result ≡ are_names method place (map (λ part. string_bytes part) parts.now) }
 {
     match place {
-        Place::Version | Place::Dags => true,
+        Place::Version | Place::Dags | Place::Pools | Place::Variables => true,
+        Place::Pool | Place::Variable => is_row_name(alloc, parts),
         Place::Dag | Place::Tasks | Place::Clear => is_dag_id(alloc, parts),
         Place::Runs => is_dag_id(alloc, parts) || is_get(method) && is_all(parts),
         Place::Run | Place::RunClear | Place::Instances => {

@@ -2,7 +2,7 @@ ghost use Rattle.std.specs.Prelude.{◌≡◌, ◌≤◌, ◌++◌, IfOk, OnOk, 
 ghost use Rattle.serde_json.specs.Data.{array};
 ghost use Rattle.serde_json.specs.View.{items_of};
 ghost use Rattle.serde_json.specs.Written.{compact_text, items_text};
-ghost use Rattle.af_ops.specs.Fields.{Field, list_of, object_of, listing_of};
+ghost use Rattle.af_ops.specs.Fields.{Field, late_listing_of, list_of, object_of, listing_of};
 ghost use Rattle.af_ops.specs.Texts.{Adds, is_name};
 
 use crate::text::Text;
@@ -58,6 +58,24 @@ pub fn listing_text<R: Row>(
     out.push(b"{");
     out.rows(alloc, false, name, rows)?;
     out.number(true, "total_entries", total as u64)?;
+    out.push(b"}");
+    Ok(out.into_bytes())
+}
+
+/// The text of a listing whose rows' name stands after `total_entries` in byte order. `AllocError` only where a growth was refused.
+pub fn late_listing_text<R: Row>(
+    alloc: Global,
+    name: &str,
+    rows: &[&R],
+    total: usize,
+) -> Result<Vec<u8>, AllocError>
+    requires { IsTrue (is_name name.now) }
+    ensures { IfOk result (λ text. text.items ≡ compact_text (late_listing_of name.now (map (λ row. object_of (R.fields row.now)) rows.now) total)) }
+{
+    let mut out = Text::with_room(alloc, ROW_ROOM * (1 + rows.len().min(100)))?;
+    out.push(b"{");
+    out.number(false, "total_entries", total as u64)?;
+    out.rows(alloc, true, name, rows)?;
     out.push(b"}");
     Ok(out.into_bytes())
 }

@@ -1,10 +1,13 @@
 // A run's row as it is told.
-ghost use Rattle.std.specs.Prelude.{◌≡◌, OnOk, false, if◌then◌else◌};
+ghost use Rattle.std.specs.Prelude.{◌≡◌, OnOk, true, false, if◌then◌else◌};
+ghost use Rattle.std.specs.List.{list_all};
+ghost use Rattle.json.specs.Run.{is_plain};
 ghost use Rattle.af_runs.specs.Marks.{is_in_state, marked_end, marked_run, marked_start};
 ghost use Rattle.af_runs.specs.Runs.{queued_run};
 ghost use Rattle.af_ops.specs.Rows.{run_fields, run_state_text, run_type_text};
 ghost use Rattle.af_ops.specs.Texts.{Adds};
 
+use crate::instant_text::InstantText;
 use crate::row::Row;
 use crate::text::Text;
 use af_names::Instant;
@@ -15,8 +18,8 @@ use std::marker::Model;
 impl Row for Run {
     ghost fields = { run_fields };
 
-    fn put_fields(&self, alloc: Global, out: &mut Text) -> Result<(), AllocError> {
-        put_run(alloc, out, self, self.state, self.start_date, self.end_date)
+    fn put_fields(&self, _alloc: Global, out: &mut Text) -> Result<(), AllocError> {
+        put_run(out, self, self.state, self.start_date, self.end_date)
     }
 }
 
@@ -40,14 +43,13 @@ impl<'a> Model for MarkedRow<'a> {
 impl<'a> Row for MarkedRow<'a> {
     ghost fields = { run_fields };
 
-    fn put_fields(&self, alloc: Global, out: &mut Text) -> Result<(), AllocError> {
-        put_marked(alloc, out, self.run, self.mark, self.at)
+    fn put_fields(&self, _alloc: Global, out: &mut Text) -> Result<(), AllocError> {
+        put_marked(out, self.run, self.mark, self.at)
     }
 }
 
 /// The members of a run's row, as it stands once the run is marked at a moment: where it is in the state already, its dates stay.
 fn put_marked(
-    alloc: Global,
     out: &mut Text,
     run: &Run,
     mark: Mark,
@@ -57,7 +59,7 @@ fn put_marked(
 {
     let start_date = start_of(run, mark);
     let end_date = end_of(run, mark, at);
-    put_run(alloc, out, run, mark.state(), start_date, end_date)
+    put_run(out, run, mark.state(), start_date, end_date)
 }
 
 /// The start of a run once it is marked: one that is queued again has none.
@@ -88,7 +90,6 @@ fn end_of(run: &Run, mark: Mark, at: Instant) -> Option<Instant>
 
 /// The members of a run's row, in this state and with these dates of its start and end.
 fn put_run(
-    alloc: Global,
     out: &mut Text,
     run: &Run,
     state: RunState,
@@ -97,15 +98,16 @@ fn put_run(
 ) -> Result<(), AllocError>
     ensures { OnOk result (Adds false out.old out.new (run_fields (record run.now { state = state; start_date = start_date; end_date = end_date }))) }
 {
+    let date = InstantText::of(run.logical_date);
     out.dag_id(false, "dag_id", &run.dag_id)?;
     out.run_id(true, "dag_run_id", &run.run_id)?;
-    out.instant(true, "data_interval_end", Some(run.interval.end))?;
-    out.instant(true, "data_interval_start", Some(run.interval.start))?;
+    out.instant_by(true, "data_interval_end", run.interval.end, &date)?;
+    out.instant_by(true, "data_interval_start", run.interval.start, &date)?;
     out.instant(true, "end_date", end_date)?;
-    out.instant(true, "logical_date", Some(run.logical_date))?;
-    out.text(alloc, true, "run_type", run_type_text(run.run_type))?;
+    out.instant_by(true, "logical_date", run.logical_date, &date)?;
+    out.plain(true, "run_type", run_type_text(run.run_type))?;
     out.instant(true, "start_date", start_date)?;
-    out.text(alloc, true, "state", run_state_text(state))?;
+    out.plain(true, "state", run_state_text(state))?;
     Ok(())
 }
 
@@ -113,14 +115,15 @@ fn put_run(
 impl Row for NewRun {
     ghost fields = { λ new. run_fields (queued_run 0 new) };
 
-    fn put_fields(&self, alloc: Global, out: &mut Text) -> Result<(), AllocError> {
+    fn put_fields(&self, _alloc: Global, out: &mut Text) -> Result<(), AllocError> {
+        let date = InstantText::of(self.logical_date);
         out.dag_id(false, "dag_id", &self.dag_id)?;
         out.run_id(true, "dag_run_id", &self.run_id)?;
-        out.instant(true, "data_interval_end", Some(self.interval.end))?;
-        out.instant(true, "data_interval_start", Some(self.interval.start))?;
+        out.instant_by(true, "data_interval_end", self.interval.end, &date)?;
+        out.instant_by(true, "data_interval_start", self.interval.start, &date)?;
         out.null(true, "end_date")?;
-        out.instant(true, "logical_date", Some(self.logical_date))?;
-        out.text(alloc, true, "run_type", run_type_text(self.run_type))?;
+        out.instant_by(true, "logical_date", self.logical_date, &date)?;
+        out.plain(true, "run_type", run_type_text(self.run_type))?;
         out.null(true, "start_date")?;
         out.plain(true, "state", "queued")?;
         Ok(())
@@ -128,7 +131,8 @@ impl Row for NewRun {
 }
 
 fn run_type_text(run_type: RunType) -> &'static str
-    ensures { result.now ≡ run_type_text run_type }
+    ensures text { result.now ≡ run_type_text run_type }
+    ensures plain { list_all is_plain result.now ≡ true }
 {
     match run_type {
         RunType::Manual => "manual",
@@ -137,7 +141,8 @@ fn run_type_text(run_type: RunType) -> &'static str
 }
 
 fn run_state_text(state: RunState) -> &'static str
-    ensures { result.now ≡ run_state_text state }
+    ensures text { result.now ≡ run_state_text state }
+    ensures plain { list_all is_plain result.now ≡ true }
 {
     match state {
         RunState::Queued => "queued",

@@ -7,11 +7,19 @@ use crate::method::Method;
 use crate::methods::Methods;
 use crate::op::Op;
 use crate::place::Place;
+use crate::requirements::{
+    CLEAR_INSTANCE, CREATE_RUN, DELETE_RUN, EDIT_DAG, EDIT_RUN, READ_DAG, READ_INSTANCE, READ_RUN,
+    READ_SOME_DAG, READ_SOME_RUN, READ_TASK,
+};
 use crate::route::Route;
-use af_role::{Action, Need, ResourceKind};
+use crate::row_requirements::{
+    CREATE_POOL, CREATE_VARIABLE, DELETE_POOL, DELETE_VARIABLE, EDIT_POOL, EDIT_VARIABLE,
+    READ_POOL, READ_VARIABLE,
+};
+use af_role::Need;
 
 /// All operations.
-pub const ENDPOINTS: [Endpoint; 14] = [
+pub const ENDPOINTS: [Endpoint; 24] = [
     Endpoint::Version,
     Endpoint::ListDags,
     Endpoint::GetDag,
@@ -26,10 +34,20 @@ pub const ENDPOINTS: [Endpoint; 14] = [
     Endpoint::ListInstances,
     Endpoint::GetInstance,
     Endpoint::ClearInstances,
+    Endpoint::ListPools,
+    Endpoint::AddPool,
+    Endpoint::GetPool,
+    Endpoint::ChangePool,
+    Endpoint::DeletePool,
+    Endpoint::ListVariables,
+    Endpoint::AddVariable,
+    Endpoint::GetVariable,
+    Endpoint::ChangeVariable,
+    Endpoint::DeleteVariable,
 ];
 
 /// All paths.
-pub const PLACES: [Place; 10] = [
+pub const PLACES: [Place; 14] = [
     Place::Version,
     Place::Dags,
     Place::Dag,
@@ -40,6 +58,10 @@ pub const PLACES: [Place; 10] = [
     Place::Instances,
     Place::Instance,
     Place::Clear,
+    Place::Pools,
+    Place::Pool,
+    Place::Variables,
+    Place::Variable,
 ];
 
 /// The row of an operation.
@@ -61,151 +83,18 @@ pub fn route_of(endpoint: Endpoint) -> Route
         Endpoint::ListInstances => needing(Method::Get, Place::Instances, &READ_INSTANCE),
         Endpoint::GetInstance => needing(Method::Get, Place::Instance, &READ_INSTANCE),
         Endpoint::ClearInstances => needing(Method::Post, Place::Clear, &CLEAR_INSTANCE),
+        Endpoint::ListPools => needing(Method::Get, Place::Pools, &READ_POOL),
+        Endpoint::AddPool => needing(Method::Post, Place::Pools, &CREATE_POOL),
+        Endpoint::GetPool => needing(Method::Get, Place::Pool, &READ_POOL),
+        Endpoint::ChangePool => needing(Method::Patch, Place::Pool, &EDIT_POOL),
+        Endpoint::DeletePool => needing(Method::Delete, Place::Pool, &DELETE_POOL),
+        Endpoint::ListVariables => needing(Method::Get, Place::Variables, &READ_VARIABLE),
+        Endpoint::AddVariable => needing(Method::Post, Place::Variables, &CREATE_VARIABLE),
+        Endpoint::GetVariable => needing(Method::Get, Place::Variable, &READ_VARIABLE),
+        Endpoint::ChangeVariable => needing(Method::Patch, Place::Variable, &EDIT_VARIABLE),
+        Endpoint::DeleteVariable => needing(Method::Delete, Place::Variable, &DELETE_VARIABLE),
     }
 }
-
-/// `can_read` on `DAGs`, or on at least one DAG that is there.
-static READ_SOME_DAG: [Need; 1] = [Need {
-    action: Action::Read,
-    kind: ResourceKind::Dags,
-    at_dag: false,
-}];
-
-/// `can_read` on `DAGs` at the DAG that the path names.
-static READ_DAG: [Need; 1] = [Need {
-    action: Action::Read,
-    kind: ResourceKind::Dags,
-    at_dag: true,
-}];
-
-/// `can_edit` on `DAGs` at the DAG that the path names.
-static EDIT_DAG: [Need; 1] = [Need {
-    action: Action::Edit,
-    kind: ResourceKind::Dags,
-    at_dag: true,
-}];
-
-/// `can_edit` on `DAGs` at the DAG that the path names, and `can_create` on `DAG Runs`.
-static CREATE_RUN: [Need; 2] = [
-    Need {
-        action: Action::Edit,
-        kind: ResourceKind::Dags,
-        at_dag: true,
-    },
-    Need {
-        action: Action::Create,
-        kind: ResourceKind::DagRuns,
-        at_dag: false,
-    },
-];
-
-/// `can_edit` on `DAGs` at the DAG that the path names, and on `DAG Runs`.
-static EDIT_RUN: [Need; 2] = [
-    Need {
-        action: Action::Edit,
-        kind: ResourceKind::Dags,
-        at_dag: true,
-    },
-    Need {
-        action: Action::Edit,
-        kind: ResourceKind::DagRuns,
-        at_dag: false,
-    },
-];
-
-/// `can_edit` on `DAGs` at the DAG that the path names, and `can_delete` on `DAG Runs`.
-static DELETE_RUN: [Need; 2] = [
-    Need {
-        action: Action::Edit,
-        kind: ResourceKind::Dags,
-        at_dag: true,
-    },
-    Need {
-        action: Action::Delete,
-        kind: ResourceKind::DagRuns,
-        at_dag: false,
-    },
-];
-
-/// `can_read` on `DAGs` at the DAG that the path names, and on `DAG Runs`.
-static READ_RUN: [Need; 2] = [
-    Need {
-        action: Action::Read,
-        kind: ResourceKind::Dags,
-        at_dag: true,
-    },
-    Need {
-        action: Action::Read,
-        kind: ResourceKind::DagRuns,
-        at_dag: false,
-    },
-];
-
-/// `can_read` on `DAGs` at the DAG that the path names, and on `Task Instances`.
-static READ_TASK: [Need; 2] = [
-    Need {
-        action: Action::Read,
-        kind: ResourceKind::Dags,
-        at_dag: true,
-    },
-    Need {
-        action: Action::Read,
-        kind: ResourceKind::TaskInstances,
-        at_dag: false,
-    },
-];
-
-/// `can_read` on `DAGs` at the DAG that the path names, on `DAG Runs` and on `Task Instances`.
-static READ_INSTANCE: [Need; 3] = [
-    Need {
-        action: Action::Read,
-        kind: ResourceKind::Dags,
-        at_dag: true,
-    },
-    Need {
-        action: Action::Read,
-        kind: ResourceKind::DagRuns,
-        at_dag: false,
-    },
-    Need {
-        action: Action::Read,
-        kind: ResourceKind::TaskInstances,
-        at_dag: false,
-    },
-];
-
-/// `can_edit` on `DAGs` at the DAG that the path names, `can_read` on `DAG Runs` and `can_edit` on `Task Instances`.
-static CLEAR_INSTANCE: [Need; 3] = [
-    Need {
-        action: Action::Edit,
-        kind: ResourceKind::Dags,
-        at_dag: true,
-    },
-    Need {
-        action: Action::Read,
-        kind: ResourceKind::DagRuns,
-        at_dag: false,
-    },
-    Need {
-        action: Action::Edit,
-        kind: ResourceKind::TaskInstances,
-        at_dag: false,
-    },
-];
-
-/// `can_read` on `DAGs`, or on at least one DAG that is there, and on `DAG Runs`.
-static READ_SOME_RUN: [Need; 2] = [
-    Need {
-        action: Action::Read,
-        kind: ResourceKind::Dags,
-        at_dag: false,
-    },
-    Need {
-        action: Action::Read,
-        kind: ResourceKind::DagRuns,
-        at_dag: false,
-    },
-];
 
 /// The row of an operation that anybody may ask for.
 fn opened(method: Method, place: Place) -> Route
@@ -252,6 +141,8 @@ pub fn needs_for(op: &Op) -> &'static [Need]
         Op::ListInstances(_, _) => needs(Endpoint::ListInstances),
         Op::GetInstance(_, _, _) => needs(Endpoint::GetInstance),
         Op::ClearInstances(_, _) => needs(Endpoint::ClearInstances),
+        Op::Pool(op) => needs(op.endpoint()),
+        Op::Variable(op) => needs(op.endpoint()),
     }
 }
 

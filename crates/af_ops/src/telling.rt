@@ -3,6 +3,7 @@ ghost use Rattle.std.specs.Option.{option_copied};
 ghost use Rattle.af_names.specs.Isoformat.{isoformat};
 ghost use Rattle.af_role.specs.Needs.{need_text};
 ghost use Rattle.af_ops.specs.Effects.{id_or};
+ghost use Rattle.af_ops.specs.Endpoints.{row_name_of};
 ghost use Rattle.af_ops.specs.Faults.{problem_of};
 ghost use Rattle.af_ops.specs.Served.{fault_told, problem_told, told_under};
 
@@ -71,6 +72,10 @@ fn shown_op_fault(alloc: Global, op: &Op, fault: OpFault, under: Under) -> Resul
             let detail = joined(alloc, "no such task: ", id_at(op.task_ids(), place))?;
             shown_problem(alloc, under, Status::NotFound, detail.as_str())
         }
+        OpFault::NoSuchPool => shown_named(alloc, op, under, Status::NotFound, "no such pool: "),
+        OpFault::NoSuchVariable => {
+            shown_named(alloc, op, under, Status::NotFound, "no such variable: ")
+        }
         OpFault::RunExists(date) => {
             let detail = taken_id(alloc, op.given_id(), date)?;
             shown_problem(alloc, under, Status::Conflict, detail.as_str())
@@ -79,12 +84,29 @@ fn shown_op_fault(alloc: Global, op: &Op, fault: OpFault, under: Under) -> Resul
             let detail = joined(alloc, "date taken: ", date.isoformat().as_str())?;
             shown_problem(alloc, under, Status::Conflict, detail.as_str())
         }
+        OpFault::Exists => shown_named(alloc, op, under, Status::Conflict, "exists: "),
         OpFault::TooMany => shown_problem(alloc, under, Status::Conflict, "too many"),
+        OpFault::DefaultPool => shown_problem(alloc, under, Status::Conflict, "default pool"),
+        OpFault::InUse => shown_named(alloc, op, under, Status::Conflict, "pool in use: "),
         OpFault::HistoryFull => {
             shown_problem(alloc, under, Status::InsufficientStorage, "history full")
         }
         OpFault::OutOfMemory => Err(AllocError),
     }
+}
+
+/// A fault that names the pool or the variable that the operation is about.
+fn shown_named(
+    alloc: Global,
+    op: &Op,
+    under: Under,
+    status: Status,
+    first: &str,
+) -> Result<Shown, AllocError>
+    ensures { IfOk result (λ shown. shown ≡ problem_told under (record { status = status; detail = first.now ++ row_name_of op.now })) }
+{
+    let detail = joined(alloc, first, op.row_name())?;
+    shown_problem(alloc, under, status, detail.as_str())
 }
 
 fn denial(alloc: Global, need: Need, dag: Option<&DagId>) -> Result<String, AllocError>

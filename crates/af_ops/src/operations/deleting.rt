@@ -1,5 +1,5 @@
 // The operation that deletes a run.
-ghost use Rattle.std.specs.Prelude.{◌≡◌, IfOk};
+ghost use Rattle.std.specs.Prelude.{◌≡◌, ◌≢◌, Err, IfOk};
 ghost use Rattle.af_base.specs.Readings.{seen};
 ghost use Rattle.af_ops.specs.declared.answer.OpFault.TheVariants.{OutOfMemory};
 ghost use Rattle.af_ops.specs.Effects.{run_deleted};
@@ -21,6 +21,7 @@ pub(crate) fn run_deleted(
     ensures told { MemoryLast OutOfMemory (run_deleted state.now.rows dag_id.now run_id.now) (seen (done_on state.now.rows) result) }
     ensures room { IfOk result (λ prepared. CanDo state.now prepared.edit) }
     ensures exact { IfOk result (λ prepared. IsExact state.now.rows prepared.edit) }
+    ensures unasked { result ≢ Err OutOfMemory }
 {
     dag_or(state, dag_id)?;
     let run = run_or(state, dag_id, run_id)?;

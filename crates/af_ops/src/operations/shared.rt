@@ -75,7 +75,7 @@ pub(crate) fn clear_or(input: &Result<Clear, BodyFault>) -> Result<&Clear, OpFau
     }
 }
 
-fn input_fault(why: BodyFault) -> OpFault
+pub(crate) fn input_fault(why: BodyFault) -> OpFault
     ensures { result ≡ input_fault why }
 {
     match why {

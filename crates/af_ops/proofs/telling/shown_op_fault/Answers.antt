@@ -34,3 +34,27 @@ returns-in_ok-detail-in-NoSuchTask c =
     told_is c.args.op.now c.args.under (why.Op c.args.fault) _ c.shown_problem-in-NoSuchTask.result
     (rw (c.in-NoSuchTask.is, c.as_str-in-NoSuchTask.ensures.value, c.in_ok-detail-in-NoSuchTask.ensures, c.task_id_text.ensures, c.task.ensures) refl)
     c.shown_problem-in-NoSuchTask.ensures
+
+pub returns-in-NoSuchPool : goal.returns-in-NoSuchPool
+returns-in-NoSuchPool c =
+    told_is c.args.op.now c.args.under (why.Op c.args.fault) _ c.shown_named.result
+    (ap (λ (f : OpFault). problem_of c.args.op.now (why.Op f)) c.in-NoSuchPool.is)
+    c.shown_named.ensures
+
+pub returns-in-NoSuchVariable : goal.returns-in-NoSuchVariable
+returns-in-NoSuchVariable c =
+    told_is c.args.op.now c.args.under (why.Op c.args.fault) _ c.shown_named-in-NoSuchVariable.result
+    (ap (λ (f : OpFault). problem_of c.args.op.now (why.Op f)) c.in-NoSuchVariable.is)
+    c.shown_named-in-NoSuchVariable.ensures
+
+pub returns-in-InUse : goal.returns-in-InUse
+returns-in-InUse c =
+    told_is c.args.op.now c.args.under (why.Op c.args.fault) _ c.shown_named-in-InUse.result
+    (ap (λ (f : OpFault). problem_of c.args.op.now (why.Op f)) c.in-InUse.is)
+    c.shown_named-in-InUse.ensures
+
+pub returns-in-DefaultPool : goal.returns-in-DefaultPool
+returns-in-DefaultPool c =
+    told_is c.args.op.now c.args.under (why.Op c.args.fault) _ c.shown_problem-in-DefaultPool.result
+    (ap (λ (f : OpFault). problem_of c.args.op.now (why.Op f)) c.in-DefaultPool.is)
+    c.shown_problem-in-DefaultPool.ensures

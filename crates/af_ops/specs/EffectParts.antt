@@ -1,0 +1,37 @@
+-- What effects are made of: a reply and a state after it, and the faults of bodies, which come first.
+use Rattle.std.specs.Prelude.{ℕ, List, Option, Some, None, Result, Ok, Err}
+use Rattle.serde_json.specs.Data.{Data}
+use Rattle.serde_json.specs.Written.{compact_text}
+use Rattle.af_sched.specs.State.{StateRows}
+use Rattle.af_ops.specs.declared.answer.OpFault.{OpFault}
+use Rattle.af_ops.specs.declared.answer.OpFault.TheVariants as fault
+use Rattle.af_ops.specs.declared.body_fault.BodyFault.{BodyFault}
+use Rattle.af_ops.specs.declared.body_fault.BodyFault.TheVariants as input
+
+-- the text of the reply, or none where there is nothing to tell; and the state after the operation, or none where that is the
+-- state before it
+pub record Effect : Type 0 where
+  pub reply : Option (List ℕ)
+  pub next : Option StateRows
+
+-- the state stays
+abbrev pub kept : Data → Effect
+kept reply = record { reply = Some (compact_text reply); next = None }
+
+-- the state is another one, and a row is told as it then stands
+abbrev pub changed_to : StateRows → Data → Effect
+changed_to next reply = record { reply = Some (compact_text reply); next = Some next }
+
+-- the state is another one, and nothing is told
+abbrev pub left_with : StateRows → Effect
+left_with next = record { reply = None; next = Some next }
+
+abbrev pub input_fault : BodyFault → OpFault
+input_fault input.BadBody = fault.BadBody
+input_fault (input.BadMember it) = fault.BadMember it
+input_fault input.OutOfMemory = fault.OutOfMemory
+
+-- what was read of the body
+abbrev pub input_or : {X : Type 0} → Result X BodyFault → Result X OpFault
+input_or (Ok read) = Ok read
+input_or (Err why) = Err (input_fault why)
