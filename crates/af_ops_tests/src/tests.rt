@@ -1,5 +1,8 @@
 //! Requests of several users, one after another, with the bodies that the stable REST API of Airflow 2 and RFC 9457 spell.
 mod instances;
+mod row_texts;
+mod rows;
+mod slots;
 mod told;
 
 use af_graph::{Dag, DagSpec, Rule, TaskIds, TaskSpec, TaskSpecs};

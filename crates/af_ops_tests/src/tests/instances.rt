@@ -163,7 +163,12 @@ fn task(alloc: Global, id: &str, upstream: &[&str]) -> Result<TaskSpec, Fail> {
 }
 
 /// Where the server stands with one DAG, f, of these tasks.
-fn standing(alloc: Global, tasks: Vec<TaskSpec>) -> Result<Standing, Fail> {
+pub fn standing(alloc: Global, tasks: Vec<TaskSpec>) -> Result<Standing, Fail> {
+    Ok(Standing::open(state_of(alloc, tasks)?))
+}
+
+/// The state with one DAG, f, of these tasks.
+pub fn state_of(alloc: Global, tasks: Vec<TaskSpec>) -> Result<State, Fail> {
     let spec = DagSpec {
         dag_id: DagId::parse(alloc, "f")?,
         tasks: TaskSpecs::of(tasks),
@@ -174,11 +179,11 @@ fn standing(alloc: Global, tasks: Vec<TaskSpec>) -> Result<Standing, Fail> {
     let mut state = State::new(alloc)?;
     state.add_pool(PoolName::parse(alloc, "slow \"lane\"")?, 4)?;
     state.add_dag(DagRow::opened(Dag::new(alloc, spec)?, false))?;
-    Ok(Standing::open(state))
+    Ok(state)
 }
 
 /// The tasks of f: the first waits for the second.
-fn two_tasks(alloc: Global) -> Result<Vec<TaskSpec>, Fail> {
+pub fn two_tasks(alloc: Global) -> Result<Vec<TaskSpec>, Fail> {
     let mut tasks = Vec::new(alloc);
     tasks.push(later_task(alloc)?)?;
     tasks.push(task(alloc, "t", &[])?)?;
