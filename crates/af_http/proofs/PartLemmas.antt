@@ -9,7 +9,7 @@ use Rattle.std.proofs.lemmas.Bool.{lt-ltb}
 use Rattle.std.proofs.lemmas.Str.{IsUtf8-from_is_utf8, is_utf8-from_IsUtf8}
 use Rattle.percent_encoding.specs.Percent.{percent_decode}
 use Rattle.percent_encoding.proofs.PercentLemmas.{percent_decode-nil, percent_decode_not_percent}
-use Rattle.af_names.specs.Names.{Grammar, id_grammar, is_spelled, is_tilde, named as name_in, run_id_grammar}
+use Rattle.af_names.specs.Names.{Grammar, id_grammar, is_spelled, is_tilde, named as name_in, row_name_grammar, run_id_grammar}
 use Rattle.af_names.specs.declared.name_error.NameError.TheVariants.{BadName, TooLong}
 use Rattle.af_ops.specs.declared.endpoint.Endpoint.{Endpoint}
 use Rattle.af_ops.specs.declared.method.Method.{Method}
@@ -18,8 +18,11 @@ use Rattle.af_ops.specs.declared.op.Op.{Op}
 use Rattle.af_ops.specs.declared.op.Op.TheVariants as op
 use Rattle.af_ops.specs.declared.place.Place.{Place}
 use Rattle.af_ops.specs.declared.place.Place.TheVariants as place
+use Rattle.af_ops.specs.declared.pool_op.PoolOp.TheVariants as pool
+use Rattle.af_ops.specs.declared.variable_op.VariableOp.TheVariants as variable
 use Rattle.af_ops.specs.Bodies.{clear_in, clear_run_in, mark_in, pause_in, trigger_in}
-use Rattle.af_ops.specs.Endpoints.{are_names, both, dag_id_in, is_all, is_get, op_of_row, run_id_in, task_id_in}
+use Rattle.af_ops.specs.Endpoints.{are_names, both, dag_id_in, is_all, is_get, op_of_row, row_name_in, run_id_in, task_id_in}
+use Rattle.af_ops.specs.RowBodies.{slots_in, value_in}
 use Rattle.af_ops.specs.Methods.{method_of}
 use Rattle.af_ops.specs.Table.{Segment, Text, Part, endpoint_at, methods_at, segments_of}
 use Rattle.af_http.specs.Limits.{name_limit, part_limit}
@@ -133,6 +136,10 @@ few_segments place.RunClear = omega arith
 few_segments place.Instances = omega arith
 few_segments place.Instance = omega arith
 few_segments place.Clear = omega arith
+few_segments place.Pools = omega arith
+few_segments place.Pool = omega arith
+few_segments place.Variables = omega arith
+few_segments place.Variable = omega arith
 
 no_name : (grammar : Grammar) (text : List ℕ) → nat_lt grammar.longest (length text) ≡ true → result_ok (name_in grammar text) ≡ None
 no_name grammar text long = by (not (is_spelled grammar text) || grammar.reserved text)
@@ -204,6 +211,12 @@ no_one [] few long = cc
 no_one (t ∷ []) few long = no_dag t [] (either_false (is_long t) long)
 no_one (t ∷ u ∷ ts) few long = absurd (omega (arith, few))
 
+-- a pool or a variable alone
+no_row : (texts : List (List ℕ)) → length texts ≤ 1 → list_any is_long texts ≡ true → is_some (row_name_in texts) ≡ false
+no_row [] few long = cc
+no_row (t ∷ []) few long = ap (λ (o : Option (List ℕ)). is_some o) (no_name row_name_grammar t (either_false (is_long t) long))
+no_row (t ∷ u ∷ ts) few long = absurd (omega (arith, few))
+
 no_part : (texts : List (List ℕ)) → length texts ≤ 0 → list_any is_long texts ≡ true → ⊥
 no_part [] few long = cc
 no_part (t ∷ ts) few long = omega (arith, few)
@@ -225,6 +238,10 @@ no_names method place.RunClear texts few long = no_two texts few long
 no_names method place.Instances texts few long = no_two texts few long
 no_names method place.Instance texts few long = no_three texts few long
 no_names method place.Clear texts few long = no_one texts few long
+no_names method place.Pools texts few long = absurd (no_part texts few long)
+no_names method place.Pool texts few long = no_row texts few long
+no_names method place.Variables texts few long = absurd (no_part texts few long)
+no_names method place.Variable texts few long = no_row texts few long
 
 -- so there is no such path
 pub unfit_path : (method body : List ℕ) (p : Place) (path : List ℕ) → IsUnfit (parts_in (segments_of p) path) → with_parts method body p (parts_in (segments_of p) path) ≡ Err fault.NoPath
@@ -306,6 +323,22 @@ agrees Get place.Clear parts body = tt
 agrees Post place.Clear parts body = some_map (λ dag_id. op.ClearInstances dag_id (clear_in body)) (dag_id_in parts)
 agrees Patch place.Clear parts body = tt
 agrees Delete place.Clear parts body = tt
+agrees Get place.Pools parts body = refl
+agrees Post place.Pools parts body = refl
+agrees Patch place.Pools parts body = tt
+agrees Delete place.Pools parts body = tt
+agrees Get place.Pool parts body = some_map (λ name. op.Pool (pool.Get name)) (row_name_in parts)
+agrees Post place.Pool parts body = tt
+agrees Patch place.Pool parts body = some_map (λ name. op.Pool (pool.Change name (slots_in body))) (row_name_in parts)
+agrees Delete place.Pool parts body = some_map (λ name. op.Pool (pool.Delete name)) (row_name_in parts)
+agrees Get place.Variables parts body = refl
+agrees Post place.Variables parts body = refl
+agrees Patch place.Variables parts body = tt
+agrees Delete place.Variables parts body = tt
+agrees Get place.Variable parts body = some_map (λ key. op.Variable (variable.Get key)) (row_name_in parts)
+agrees Post place.Variable parts body = tt
+agrees Patch place.Variable parts body = some_map (λ key. op.Variable (variable.Change key (value_in body))) (row_name_in parts)
+agrees Delete place.Variable parts body = some_map (λ key. op.Variable (variable.Delete key)) (row_name_in parts)
 
 reads_if_named : (o : Option Op) (b : Bool) → b ≡ is_some o → (if b then ok_or o fault.NoPath else Err fault.NoPath) ≡ ok_or o fault.NoPath
 reads_if_named None true is = refl

@@ -92,6 +92,10 @@ ranked place.RunClear = refl
 ranked place.Instances = refl
 ranked place.Instance = refl
 ranked place.Clear = refl
+ranked place.Pools = refl
+ranked place.Pool = refl
+ranked place.Variables = refl
+ranked place.Variable = refl
 
 -- the place is in the list, and those before it are apart from it
 abbrev is_first : List Place → Place → Bool
@@ -109,6 +113,10 @@ first_place place.RunClear = refl
 first_place place.Instances = refl
 first_place place.Instance = refl
 first_place place.Clear = refl
+first_place place.Pools = refl
+first_place place.Pool = refl
+first_place place.Variables = refl
+first_place place.Variable = refl
 
 abbrev Finds : List Place → List ℕ → Place → Type 0
 Finds ps path p = find (λ q. has_form (segments_of q) path) ps ≡ Some p

@@ -27,6 +27,7 @@ impl<T> Counted<T> {
     pub fn new(inner: T) -> Counted<T>
         ensures inner { result.inner ≡ inner }
         ensures moved { bytes_of result.moved.items ≡ [] }
+        ensures refused { bytes_of result.refused.items ≡ [] }
         ensures calls { length result.calls.items ≡ 0 }
         ensures fruitful { length result.fruitful.items ≡ 0 }
         ensures ends { length result.ends.items ≡ 0 }

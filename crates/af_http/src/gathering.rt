@@ -53,6 +53,52 @@ pub fn settle(incoming: &mut Incoming) -> Extent
     extent_of(incoming.as_slice())
 }
 
+/// What is held where no byte follows it.
+fn cut_short(incoming: &Incoming) -> Gathered
+    requires open { front_of incoming.now ≡ open_front incoming.now }
+    ensures found { IsGathered incoming.now result }
+    ensures ends { ends_of result ≡ 1 }
+    ensures failures { failures_of result ≡ 0 }
+{
+    if incoming.as_slice().is_empty() {
+        Gathered::Closed
+    } else {
+        Gathered::Incomplete
+    }
+}
+
+/// What is held once bytes have come, and its empty lines are dropped: for a head that is not whole one read was too few.
+fn settled(incoming: &mut Incoming) -> Gathered
+    ensures same { (tail : List ℕ) → front_of (incoming.old ++ tail) ≡ front_of (incoming.new ++ tail) }
+    ensures found { IsGathered incoming.new result }
+    ensures ends { ends_of result ≡ 0 }
+    ensures failures { failures_of result ≡ 0 }
+    ensures short { result ≡ Gathered.Turns → length incoming.new ≤ head_limit }
+{
+    match settle(incoming) {
+        Extent::Whole(n) => Gathered::Head(n),
+        Extent::Large => Gathered::Large,
+        Extent::Part => Gathered::Turns,
+    }
+}
+
+/// Gathers a head as where there may be one read.
+fn gather_once<R: Source>(reader: &mut R, incoming: &mut Incoming, waiting: &Outgoing) -> Gathered
+    requires idle { waiting.now.bytes ≡ [] }
+    requires open { front_of incoming.old ≡ open_front incoming.old }
+    requires short { length incoming.old ≤ head_limit }
+    ensures holds { (more : List ℕ) × Holds (R.given reader.old) (R.given reader.new) incoming.old incoming.new more }
+    ensures found { IsGathered incoming.new result }
+    ensures took { Took 1 (ends_of result) (failures_of result) (R.given reader.old) (R.given reader.new) }
+    ensures short { result ≡ Gathered.Turns → length incoming.new ≤ head_limit }
+{
+    match incoming.fill(reader, waiting) {
+        Ok(true) => settled(incoming),
+        Ok(false) => cut_short(incoming),
+        Err(_) => Gathered::ReadFailed,
+    }
+}
+
 /// Reads until a head is held, or none can be. A read may wait for the client, so no byte may wait for the writer.
 pub fn gather<R: Source>(
     reader: &mut R,
@@ -69,23 +115,34 @@ pub fn gather<R: Source>(
     ensures turns { result.0 ≡ Gathered.Turns → result.1 ≡ read_limit }
 {
     for count in 0..READ_LIMIT {
-        match incoming.fill(reader, waiting) {
-            Ok(true) => {}
-            Ok(false) => {
-                if incoming.as_slice().is_empty() {
-                    return (Gathered::Closed, count + 1);
-                }
-                return (Gathered::Incomplete, count + 1);
-            }
-            Err(_) => return (Gathered::ReadFailed, count + 1),
-        }
-        match settle(incoming) {
-            Extent::Whole(n) => return (Gathered::Head(n), count + 1),
-            Extent::Large => return (Gathered::Large, count + 1),
-            Extent::Part => {}
+        match gather_once(reader, incoming, waiting) {
+            Gathered::Turns => {}
+            found => return (found, count + 1),
         }
     }
     (Gathered::Turns, READ_LIMIT)
+}
+
+/// Gathers a body of so many bytes as where there may be one read.
+fn gather_body_once<R: Source>(
+    reader: &mut R,
+    incoming: &mut Incoming,
+    waiting: &Outgoing,
+    wanted: usize,
+) -> BodyGathered
+    requires idle { waiting.now.bytes ≡ [] }
+    requires short { length incoming.old < wanted }
+    requires within { wanted ≤ unread_limit + 1 }
+    ensures came { (more : List ℕ) × Fills (R.given reader.old) (R.given reader.new) incoming.old incoming.new more }
+    ensures found { IsBodyGathered wanted incoming.new result }
+    ensures took { Took 1 (body_ends result) (body_failures result) (R.given reader.old) (R.given reader.new) }
+{
+    match incoming.fill(reader, waiting) {
+        Ok(true) if incoming.as_slice().len() < wanted => BodyGathered::Turns,
+        Ok(true) => BodyGathered::Whole,
+        Ok(false) => BodyGathered::Cut,
+        Err(_) => BodyGathered::ReadFailed,
+    }
 }
 
 /// Reads until so many bytes are held, in as many reads as so many before it leave of those for one request.
@@ -107,14 +164,9 @@ pub fn gather_body<R: Source>(
     ensures turns { result.0 ≡ BodyGathered.Turns → before + result.1 ≡ read_limit }
 {
     for count in before..READ_LIMIT {
-        match incoming.fill(reader, waiting) {
-            Ok(true) => {
-                if incoming.as_slice().len() >= wanted {
-                    return (BodyGathered::Whole, count - before + 1);
-                }
-            }
-            Ok(false) => return (BodyGathered::Cut, count - before + 1),
-            Err(_) => return (BodyGathered::ReadFailed, count - before + 1),
+        match gather_body_once(reader, incoming, waiting, wanted) {
+            BodyGathered::Turns => {}
+            found => return (found, count - before + 1),
         }
     }
     (BodyGathered::Turns, READ_LIMIT - before)

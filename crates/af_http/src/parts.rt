@@ -136,12 +136,27 @@ fn decode_escapes(bytes: &mut Vec<u8>, part: &[u8]) -> bool
     ensures long { result ≡ false → name_limit < length (percent_decode part.now) }
 {
     for byte in percent_decode(part) {
-        if bytes.len() == NAME_LIMIT {
+        if !push_byte(bytes, byte) {
             return false;
         }
-        let added = bytes.push(byte);
-        prove!(added.is_ok());
     }
+    true
+}
+
+/// Puts a byte behind those of a name, unless these are as many as a name may have, and tells whether it did.
+fn push_byte(bytes: &mut Vec<u8>, byte: u8) -> bool
+    requires room { name_limit ≤ vec_capacity bytes.old }
+    requires short { length bytes.old.items ≤ name_limit }
+    ensures room { name_limit ≤ vec_capacity bytes.new }
+    ensures text { result ≡ true → bytes.new.items ≡ bytes.old.items ++ byte ∷ [] }
+    ensures short { result ≡ true → length bytes.new.items ≤ name_limit }
+    ensures full { result ≡ false → length bytes.old.items ≡ name_limit }
+{
+    if bytes.len() == NAME_LIMIT {
+        return false;
+    }
+    let added = bytes.push(byte);
+    prove!(added.is_ok());
     true
 }
 

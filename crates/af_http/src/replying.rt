@@ -54,6 +54,56 @@ fn told_by(shown: &Shown) -> Answer<'_>
     }
 }
 
+/// Puts the bytes that tell a fault of the route.
+fn put_fault<W: Sink>(
+    writer: &mut W,
+    outgoing: &mut Outgoing,
+    fault: RouteFault,
+    head_only: bool,
+    closes: bool,
+)
+    requires room { outgoing.old.failed ≡ false → length outgoing.old.bytes < outgoing_room }
+    ensures { Puts 1
+        (record { sink = W.taken writer.old; waiting = outgoing.old })
+        (record { sink = W.taken writer.new; waiting = outgoing.new })
+        (reply_text (Reply.Fault fault) head_only closes) }
+{
+    match fault {
+        RouteFault::NoPath => {
+            let answer = problem(Status::NotFound, None, no_path_body());
+            put_answer(writer, outgoing, &answer, head_only, closes);
+        }
+        RouteFault::BadMethod(allow) => {
+            let answer = problem(Status::MethodNotAllowed, Some(allow), bad_method_body());
+            put_answer(writer, outgoing, &answer, head_only, closes);
+        }
+        RouteFault::OutOfMemory => outgoing.begin(writer, memory_text()),
+    }
+}
+
+/// Puts the bytes that tell what the service did.
+fn put_served<W: Sink>(
+    writer: &mut W,
+    outgoing: &mut Outgoing,
+    served: &Served,
+    head_only: bool,
+    closes: bool,
+)
+    requires room { outgoing.old.failed ≡ false → length outgoing.old.bytes < outgoing_room }
+    ensures { Puts 1
+        (record { sink = W.taken writer.old; waiting = outgoing.old })
+        (record { sink = W.taken writer.new; waiting = outgoing.new })
+        (reply_text (Reply.Served served.now) head_only closes) }
+{
+    match served {
+        Served::Shown(shown) => {
+            put_answer(writer, outgoing, &told_by(shown), head_only, closes);
+        }
+        Served::NothingDone => outgoing.begin(writer, memory_text()),
+        Served::ReplyLost => outgoing.begin(writer, lost_text()),
+    }
+}
+
 /// Puts the bytes of a reply.
 pub fn put_reply<W: Sink>(
     writer: &mut W,
@@ -69,21 +119,8 @@ pub fn put_reply<W: Sink>(
         (reply_text reply.now head_only closes) }
 {
     match reply {
-        Reply::Fault(RouteFault::NoPath) => {
-            let answer = problem(Status::NotFound, None, no_path_body());
-            put_answer(writer, outgoing, &answer, head_only, closes);
-        }
-        Reply::Fault(RouteFault::BadMethod(allow)) => {
-            let answer = problem(Status::MethodNotAllowed, Some(*allow), bad_method_body());
-            put_answer(writer, outgoing, &answer, head_only, closes);
-        }
-        Reply::Served(Served::Shown(shown)) => {
-            put_answer(writer, outgoing, &told_by(shown), head_only, closes);
-        }
-        Reply::Fault(RouteFault::OutOfMemory) | Reply::Served(Served::NothingDone) => {
-            outgoing.begin(writer, memory_text());
-        }
-        Reply::Served(Served::ReplyLost) => outgoing.begin(writer, lost_text()),
+        Reply::Fault(fault) => put_fault(writer, outgoing, *fault, head_only, closes),
+        Reply::Served(served) => put_served(writer, outgoing, served, head_only, closes),
     }
 }
 

@@ -1,4 +1,4 @@
-ghost use Rattle.std.specs.Prelude.{◌≡◌, ℕ, ◌+◌, ◌≤◌, ◌==◌, Bool, not, true, List, ◌++◌, length, take, IfOk, OnErr, MatchResult};
+ghost use Rattle.std.specs.Prelude.{◌≡◌, ℕ, ◌+◌, ◌≤◌, ◌==◌, Bool, not, true, false, List, ◌++◌, length, take, IfOk, OnErr, MatchResult};
 ghost use Rattle.std.specs.Io.KnownBytes.{Keeps, WriteAppends};
 ghost use Rattle.af_http.specs.Streams.{Given, Taken, is_end, one_if, StaysKnown, IsWhole};
 
@@ -40,6 +40,7 @@ pub trait Sink {
         ensures bytes { IfOk result (λ n. (taken self.new).bytes ≡ (taken self.old).bytes ++ take n bytes.now) }
         ensures failures { IfOk result (λ n. (taken self.new).failures ≡ (taken self.old).failures + one_if (is_end n (length bytes.now))) }
         ensures refused { IfOk result (λ n. is_end n (length bytes.now) ≡ true → (taken self.new).refused ≡ bytes.now) }
+        ensures stays { IfOk result (λ n. is_end n (length bytes.now) ≡ false → (taken self.new).refused ≡ (taken self.old).refused) }
         ensures held { WriteAppends (taken self.old).contents (taken self.new).contents result bytes.now }
         // A write that fails takes nothing.
         ensures failed { OnErr result ((taken self.new).failures ≡ (taken self.old).failures + 1) }

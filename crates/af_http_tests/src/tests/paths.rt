@@ -1,4 +1,6 @@
-use crate::tests::answers::{BAD_METHOD_OF_DAG, NO_PATH, NO_TOKEN};
+use crate::tests::answers::{
+    BAD_METHOD_OF_DAG, BAD_METHOD_OF_ROW, BAD_METHOD_OF_ROWS, NO_PATH, NO_TOKEN,
+};
 use crate::tests::cases::is_joined;
 use crate::tests::tools::{Paper, Pieces, run};
 use af_http::Ended;
@@ -29,6 +31,32 @@ const PATHS: [(&str, &str); 19] = [
     ("GET /api/v1/dags/b/dagRuns/%FF", NO_PATH),
 ];
 
+/// The same for pools and variables. Their names are printed ASCII, where a space, a slash or a `~` is a byte like others.
+const ROW_PATHS: [(&str, &str); 22] = [
+    ("GET /api/v1/pools", NO_TOKEN),
+    ("POST /api/v1/pools", NO_TOKEN),
+    ("DELETE /api/v1/pools", BAD_METHOD_OF_ROWS),
+    ("GET /api/v1/pools/", NO_PATH),
+    ("GET /api/v1/pools/a%20b", NO_TOKEN),
+    ("PATCH /api/v1/pools/a%2Fb", NO_TOKEN),
+    ("DELETE /api/v1/pools/~", NO_TOKEN),
+    ("GET /api/v1/pools/a/b", NO_PATH),
+    ("GET /api/v1/pools/%7F", NO_PATH),
+    ("PATCH /api/v1/pools/%C3%A9", NO_PATH),
+    ("POST /api/v1/pools/p", BAD_METHOD_OF_ROW),
+    ("POST /api/v1/pools/%7F", NO_PATH),
+    ("GET /api/v1/variables", NO_TOKEN),
+    ("POST /api/v1/variables", NO_TOKEN),
+    ("PATCH /api/v1/variables", BAD_METHOD_OF_ROWS),
+    ("GET /api/v1/variables/%20", NO_TOKEN),
+    ("PATCH /api/v1/variables/k%3Dv", NO_TOKEN),
+    ("DELETE /api/v1/variables/%25", NO_TOKEN),
+    ("GET /api/v1/variables/%0A", NO_PATH),
+    ("DELETE /api/v1/variables/%FF", NO_PATH),
+    ("PUT /api/v1/variables/k", BAD_METHOD_OF_ROW),
+    ("PUT /api/v1/variables/%0A", NO_PATH),
+];
+
 /// What answers this method and path, twice on one connection.
 fn is_answered(alloc: Global, asked: &str, wanted: &str) -> Result<bool, Fail> {
     let input = format!(in alloc;
@@ -46,6 +74,15 @@ fn is_answered(alloc: Global, asked: &str, wanted: &str) -> Result<bool, Fail> {
 fn paths(rt: HostRuntime) -> Result<(), Fail> {
     let alloc = rt.alloc();
     for (asked, wanted) in PATHS {
+        assert!(rt; is_answered(alloc, asked, wanted)?, "{asked}");
+    }
+    Ok(())
+}
+
+#[test]
+fn row_paths(rt: HostRuntime) -> Result<(), Fail> {
+    let alloc = rt.alloc();
+    for (asked, wanted) in ROW_PATHS {
         assert!(rt; is_answered(alloc, asked, wanted)?, "{asked}");
     }
     Ok(())
@@ -72,6 +109,8 @@ fn long_names(rt: HostRuntime) -> Result<(), Fail> {
             format!(in alloc; "GET /api/v1/dags/{name}")?,
             format!(in alloc; "GET /api/v1/dags/{name}/dagRuns")?,
             format!(in alloc; "GET /api/v1/dags/b/dagRuns/{name}")?,
+            format!(in alloc; "GET /api/v1/pools/{name}")?,
+            format!(in alloc; "GET /api/v1/variables/{name}")?,
         ] {
             assert!(rt;
                 is_answered(alloc, asked.as_str(), wanted)?,

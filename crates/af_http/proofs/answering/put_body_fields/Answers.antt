@@ -1,4 +1,4 @@
-use Rattle.std.proofs.Common.{◌∙◌, ◌++◌, ap, length}
+use Rattle.std.proofs.Common.{◌∙◌, ap, length}
 use Rattle.std.proofs.lemmas.List.{append_assoc}
 use Rattle.af_http.specs.Answers.{type_line_of, number_line}
 use Rattle.std.specs.Prelude.{codes, List, ℕ}

@@ -1,4 +1,4 @@
-use Rattle.std.proofs.Common.{◌++◌, take, arith, ap, ◌∙◌, sym}
+use Rattle.std.proofs.Common.{◌++◌, take, arith, ap, ◌∙◌}
 use Rattle.std.proofs.lemmas.List.{take-append-drop}
 use Rattle.af_http.proofs.SendLemmas.{put_held, put_over}
 use Rattle.af_http.proofs.outgoing.Outgoing.put_over.Goals as goal
