@@ -1,9 +1,9 @@
 ghost use Rattle.std.specs.Prelude.{◌≡◌};
 ghost use Rattle.std.specs.Option.{option_copied};
-ghost use Rattle.af_audit.specs.Logs.{act_dag, act_run, act_task, event_of, op_event};
+ghost use Rattle.af_audit.specs.Logs.{act_dag, act_run, act_task, event_of, op_event, pool_event, variable_event};
 
 use af_names::{DagId, RunId, TaskId};
-use af_ops::Op;
+use af_ops::{Op, PoolOp, VariableOp};
 use af_sched::{Claim, Outcome};
 
 /// What was done.
@@ -77,6 +77,32 @@ fn op_event(op: &Op) -> &'static str
         Op::DeleteRun(_, _) => "delete_dag_run",
         Op::ClearRun(_, _, _) => "clear_dag_run",
         Op::ClearInstances(_, _) => "clear_task_instances",
+        Op::Pool(it) => pool_event(it),
+        Op::Variable(it) => variable_event(it),
         _ => "",
+    }
+}
+
+/// The name of the event of an operation on pools.
+fn pool_event(op: &PoolOp) -> &'static str
+    ensures { result.now ≡ pool_event op.now }
+{
+    match op {
+        PoolOp::Add(_) => "post_pool",
+        PoolOp::Change(_, _) => "patch_pool",
+        PoolOp::Delete(_) => "delete_pool",
+        PoolOp::List | PoolOp::Get(_) => "",
+    }
+}
+
+/// The name of the event of an operation on variables.
+fn variable_event(op: &VariableOp) -> &'static str
+    ensures { result.now ≡ variable_event op.now }
+{
+    match op {
+        VariableOp::Add(_) => "post_variable",
+        VariableOp::Change(_, _) => "patch_variable",
+        VariableOp::Delete(_) => "delete_variable",
+        VariableOp::List | VariableOp::Get(_) => "",
     }
 }

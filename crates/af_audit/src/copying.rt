@@ -1,5 +1,6 @@
 ghost use Rattle.std.specs.Prelude.{◌≡◌, IfOk};
 
+use crate::copying_rows::{copied_pool_op, copied_variable_op};
 use af_graph::TaskIds;
 use af_names::{DagId, RunId};
 use af_ops::{BodyFault, Clear, Op, Trigger};
@@ -49,6 +50,8 @@ pub(crate) fn copied(alloc: Global, op: &Op) -> Result<Op, AllocError>
             let (dag_id, run_id) = copied_ids(alloc, dag_id, run_id)?;
             Ok(Op::GetInstance(dag_id, run_id, task_id.copied(alloc)?))
         }
+        Op::Pool(it) => Ok(Op::Pool(copied_pool_op(alloc, it)?)),
+        Op::Variable(it) => Ok(Op::Variable(copied_variable_op(alloc, it)?)),
     }
 }
 

@@ -1,10 +1,10 @@
-ghost use Rattle.std.specs.Prelude.{◌≡◌, ◌≤◌};
+ghost use Rattle.std.specs.Prelude.{◌≡◌, ◌≤◌, IfOk};
 ghost use Rattle.af_audit.specs.Ledgers.{IsLedger, opened};
 
 use crate::audit::Audit;
 use crate::replaying::show_state;
 use af_sched::State;
-use std::alloc::Global;
+use std::alloc::{AllocError, Global};
 use std::marker::Model;
 
 mod claiming;
@@ -33,19 +33,19 @@ impl Model for Ledger {
 }
 
 impl Ledger {
-    /// No entries yet, room for so many, and version 0. The opening state is handed in twice: one stays as it is. It takes no
-    /// memory.
-    pub fn open(alloc: Global, opening: State, state: State, limit: u32) -> Ledger
-        requires { opening.rows ≡ state.rows }
-        ensures { result ≡ opened opening.rows limit }
+    /// No entries yet, room for so many, and version 0, over this state, of which a copy stays as it is. `AllocError` only
+    /// where a growth was refused.
+    pub fn open(alloc: Global, state: State, limit: u32) -> Result<Ledger, AllocError>
+        ensures { IfOk result (λ ledger. ledger ≡ opened state.rows limit) }
     {
+        let opening = state.copied(alloc)?;
         show_state(&opening);
-        Ledger {
+        Ok(Ledger {
             opening,
             state,
             audit: Audit::new(alloc, limit),
             version: 0,
-        }
+        })
     }
 
     /// The state that it was opened with.

@@ -7,6 +7,7 @@ mod actor;
 mod audit;
 mod audit_fault;
 mod copying;
+mod copying_rows;
 mod entry;
 mod entry_row;
 pub mod laws;

@@ -1,0 +1,5 @@
+mod entries;
+mod opening;
+mod playing;
+mod rows;
+mod steps;

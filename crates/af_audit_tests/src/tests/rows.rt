@@ -1,0 +1,189 @@
+//! Acts on ledgers of two DAGs, b and a scheduled one: what is told of each, and how many entries there then are.
+use crate::tests::opening::ledger;
+use crate::tests::playing::{is_failed, is_replay, played};
+use crate::tests::steps::{Row, Step, Told};
+use af_ops::Endpoint;
+use af_sched::Outcome;
+use std::alloc::Global;
+use std::test::Fail;
+
+pub const PAUSED: &str = "{\"is_paused\":true}";
+
+pub const RUNNING: &str = "{\"is_paused\":false}";
+
+const PAUSE: Step = Step::Ask(Endpoint::PauseDag, PAUSED);
+
+const GO_ON: Step = Step::Ask(Endpoint::PauseDag, RUNNING);
+
+const CUT_BODY: Step = Step::Ask(Endpoint::PauseDag, "{");
+
+const SHOW: Step = Step::Ask(Endpoint::GetDag, "");
+
+const TRIGGER: Step = Step::Ask(Endpoint::TriggerRun, "{}");
+
+pub const JANUARY: &str = "2024-01-01T00:00:00Z";
+
+pub const MARCH: &str = "2024-03-01T00:00:00Z";
+
+/// The same once more is no change; what is refused is none either.
+const PAUSES: &[Row] = &[
+    (PAUSE, JANUARY, Told::Done, 1),
+    (PAUSE, JANUARY, Told::Done, 1),
+    (CUT_BODY, JANUARY, Told::BadBody, 1),
+    (SHOW, JANUARY, Told::Done, 1),
+    (GO_ON, JANUARY, Told::Done, 2),
+    (GO_ON, JANUARY, Told::Done, 2),
+];
+
+/// A history of three entries: what changes nothing is told nevertheless.
+const THREE: &[Row] = &[
+    (PAUSE, JANUARY, Told::Done, 1),
+    (GO_ON, JANUARY, Told::Done, 2),
+    (PAUSE, JANUARY, Told::Done, 3),
+    (GO_ON, JANUARY, Told::Full, 3),
+    (Step::Tick, MARCH, Told::Full, 3),
+    (PAUSE, JANUARY, Told::Done, 3),
+];
+
+/// With room for two entries a claim finds none.
+const CLAIMED: &[Row] = &[
+    (TRIGGER, JANUARY, Told::Done, 1),
+    (Step::Tick, JANUARY, Told::Done, 2),
+    (Step::Claim, JANUARY, Told::Full, 2),
+];
+
+/// With room for three a report finds none.
+const REPORTED: &[Row] = &[
+    (TRIGGER, JANUARY, Told::Done, 1),
+    (Step::Tick, JANUARY, Told::Done, 2),
+    (Step::Claim, JANUARY, Told::Done, 3),
+    (Step::Report(Outcome::Success), JANUARY, Told::Full, 3),
+];
+
+/// A run of b whose only task fails.
+pub const FAILED: &[Row] = &[
+    (TRIGGER, JANUARY, Told::Done, 1),
+    (TRIGGER, JANUARY, Told::RunExists, 1),
+    (Step::Claim, JANUARY, Told::Nothing, 1),
+    (Step::Tick, JANUARY, Told::Done, 2),
+    (Step::Tick, JANUARY, Told::Nothing, 2),
+    (Step::Claim, JANUARY, Told::Done, 3),
+    (Step::Claim, JANUARY, Told::Nothing, 3),
+    (Step::Report(Outcome::Failed), JANUARY, Told::Done, 4),
+    (Step::Report(Outcome::Failed), JANUARY, Told::NotRunning, 4),
+    (Step::Tick, JANUARY, Told::Done, 5),
+];
+
+const ADD_POOL: Step = Step::Ask(Endpoint::AddPool, "{\"name\":\"b\",\"slots\":2}");
+
+const CHANGE_POOL: Step = Step::Ask(Endpoint::ChangePool, "{\"slots\":3}");
+
+const DELETE_POOL: Step = Step::Ask(Endpoint::DeletePool, "");
+
+/// A pool is added, gets other slots, and is deleted; then it is added once more.
+pub const POOLS: &[Row] = &[
+    (CHANGE_POOL, JANUARY, Told::Absent, 0),
+    (ADD_POOL, JANUARY, Told::Done, 1),
+    (ADD_POOL, JANUARY, Told::Exists, 1),
+    (CHANGE_POOL, JANUARY, Told::Done, 2),
+    (CHANGE_POOL, JANUARY, Told::Done, 2),
+    (DELETE_POOL, JANUARY, Told::Done, 3),
+    (DELETE_POOL, JANUARY, Told::Absent, 3),
+    (ADD_POOL, JANUARY, Told::Done, 4),
+];
+
+const ADD_VARIABLE: Step = Step::Ask(Endpoint::AddVariable, "{\"key\":\"b\",\"value\":\"v\"}");
+
+const CHANGE_VARIABLE: Step = Step::Ask(Endpoint::ChangeVariable, "{\"value\":\"w\"}");
+
+const DELETE_VARIABLE: Step = Step::Ask(Endpoint::DeleteVariable, "");
+
+/// A variable is added, gets another text, and is deleted; then it is added once more.
+pub const VARIABLES: &[Row] = &[
+    (CHANGE_VARIABLE, JANUARY, Told::Absent, 0),
+    (ADD_VARIABLE, JANUARY, Told::Done, 1),
+    (ADD_VARIABLE, JANUARY, Told::Exists, 1),
+    (CHANGE_VARIABLE, JANUARY, Told::Done, 2),
+    (CHANGE_VARIABLE, JANUARY, Told::Done, 2),
+    (DELETE_VARIABLE, JANUARY, Told::Done, 3),
+    (DELETE_VARIABLE, JANUARY, Told::Absent, 3),
+    (ADD_VARIABLE, JANUARY, Told::Done, 4),
+];
+
+/// Rows on a ledger with room for so many entries.
+#[derive(Clone, Copy)]
+struct Story {
+    name: &'static str,
+    limit: u32,
+    rows: &'static [Row],
+}
+
+const STORIES: &[Story] = &[
+    Story {
+        name: "a change has one entry",
+        limit: 1_000_000,
+        rows: PAUSES,
+    },
+    Story {
+        name: "a full history takes no change",
+        limit: 3,
+        rows: THREE,
+    },
+    Story {
+        name: "a full history takes no claim",
+        limit: 2,
+        rows: CLAIMED,
+    },
+    Story {
+        name: "a full history takes no report",
+        limit: 3,
+        rows: REPORTED,
+    },
+    Story {
+        name: "a change of pools has one entry",
+        limit: 1_000_000,
+        rows: POOLS,
+    },
+    Story {
+        name: "a change of variables has one entry",
+        limit: 4,
+        rows: VARIABLES,
+    },
+    Story {
+        name: "a run fails",
+        limit: 1_000_000,
+        rows: FAILED,
+    },
+];
+
+/// How many rows of a story go as they should, and whether the entries then make the state.
+fn told_of(alloc: Global, story: &Story) -> Result<(usize, bool), Fail> {
+    let mut ledger = ledger(alloc, story.limit)?;
+    let count = played(alloc, &mut ledger, story.rows)?;
+    Ok((count, is_replay(alloc, &ledger)?))
+}
+
+#[test]
+fn acts_have_entries_and_these_make_the_state(rt: HostRuntime) -> Result<(), Fail> {
+    for story in STORIES {
+        let told = told_of(rt.alloc(), story)?;
+        assert_eq!(rt; told, (story.rows.len(), true), "{}", story.name);
+    }
+    Ok(())
+}
+
+/// Whether the first run of a ledger failed, after these rows.
+fn fails(alloc: Global) -> Result<bool, Fail> {
+    let mut ledger = ledger(alloc, 1_000_000)?;
+    let _count = played(alloc, &mut ledger, FAILED)?;
+    Ok(ledger.state().runs().first().is_some_and(is_failed))
+}
+
+#[test]
+fn a_run_fails_with_its_only_task(rt: HostRuntime) -> Result<(), Fail> {
+    assert!(rt;
+        fails(rt.alloc())?,
+        "the run failed, and its task at the first try"
+    );
+    Ok(())
+}
