@@ -1,5 +1,5 @@
--- What a whole configuration says, from its bytes: the roles, the users, the pools and the DAGs in this order, rows in
--- theirs, and the first fault decides the reason (this product's own rule).
+-- What a whole configuration says, from its bytes: the roles, the users, the pools, the variables and the DAGs in this order,
+-- rows in theirs, then its limits, and the first fault decides the reason (this product's own rule).
 use Rattle.std.specs.Prelude.{ℕ, ◌*◌, List, length, nat_lt, codes, is_some, ok_or, Result, Ok, Err, if◌then◌else◌}
 use Rattle.serde_json.specs.Data.{Data}
 use Rattle.serde_json.specs.Find.{as_object}
@@ -10,14 +10,20 @@ use Rattle.af_sched.specs.Scripts.{ScriptRow}
 use Rattle.af_sched.specs.State.{StateRows}
 use Rattle.af_base.specs.Parsed.{json_of}
 use Rattle.af_base.specs.Readings.{◌>>=◌, taking}
+use Rattle.af_server.specs.declared.config.limits.Limits.{Limits}
 use Rattle.af_server.specs.declared.reason.Reason.{Reason}
 use Rattle.af_server.specs.declared.reason.Reason.TheVariants.{Admin, Shape, Syntax, Unreadable}
 use Rattle.af_server.specs.Accounts.{role_in, user_in}
 use Rattle.af_server.specs.DagRows.{dag_taken}
 use Rattle.af_server.specs.Drafts.{Draft, opening_draft}
-use Rattle.af_server.specs.Members.{optional_list_in}
+use Rattle.af_server.specs.Members.{number_in, optional_list_in}
 use Rattle.af_server.specs.PoolRows.{pool_taken}
 use Rattle.af_server.specs.Reasons.{row_reason}
+use Rattle.af_server.specs.VariableRows.{variable_taken}
+
+-- what the rows of the list of that name make of this, each taken in turn; a list that is absent has none
+abbrev pub with_rows : {S : Type 0} → (S → Data → Result S Reason) → List ℕ → Data → S → Result S Reason
+with_rows take_row name config made = optional_list_in name config >>= taking take_row made
 
 -- the policy with one more role or user, or why there is none
 abbrev pub policy_or : Result PolicyRows RowFault → Result PolicyRows Reason
@@ -37,25 +43,30 @@ with_admin policy = if has_admin policy.users then Ok policy else Err Admin
 -- the default roles, then the roles and the users that are listed
 abbrev pub policy_in : Data → Result PolicyRows Reason
 policy_in config = do
-  roles ← optional_list_in (codes "roles") config
-  with_roles ← taking role_taken opening roles
-  users ← optional_list_in (codes "users") config
-  with_users ← taking user_taken with_roles users
+  with_roles ← with_rows role_taken (codes "roles") config opening
+  with_users ← with_rows user_taken (codes "users") config with_roles
   with_admin with_users
 
--- the default pool, then the pools and the DAGs that are listed
+-- the default pool, then the pools, the variables and the DAGs that are listed
 abbrev pub draft_in : Data → Result Draft Reason
 draft_in config = do
-  pools ← optional_list_in (codes "pools") config
-  with_pools ← taking pool_taken opening_draft pools
-  dags ← optional_list_in (codes "dags") config
-  taking dag_taken with_pools dags
+  with_pools ← with_rows pool_taken (codes "pools") config opening_draft
+  with_variables ← with_rows variable_taken (codes "variables") config with_pools
+  with_rows dag_taken (codes "dags") config with_variables
 
--- who may do what, what there is, and how the tries of tasks end that say it
+-- how many entries the audit may have, and the last version of the policy
+abbrev pub limits_in : Data → Result Limits Reason
+limits_in config = do
+  history ← number_in (codes "history_limit") 1 4_294_967_294 1_000_000 config
+  versions ← number_in (codes "version_limit") 1 4_294_967_295 4_294_967_295 config
+  Ok (record { history = history; versions = versions })
+
+-- who may do what, what there is, how the tries of tasks end that say it, and the limits
 pub record ConfigurationRows : Type 0 where
   pub policy : PolicyRows
   pub state : StateRows
   pub scripts : List ScriptRow
+  pub limits : Limits
 
 abbrev pub object_or : Data → Result Data Reason
 object_or value = if is_some (as_object value) then Ok value else Err Shape
@@ -66,7 +77,8 @@ configuration_in value = do
   config ← object_or value
   policy ← policy_in config
   draft ← draft_in config
-  Ok (record { policy = policy; state = draft.state; scripts = draft.scripts })
+  limits ← limits_in config
+  Ok (record { policy = policy; state = draft.state; scripts = draft.scripts; limits = limits })
 
 -- 16 MiB
 abbrev pub longest : ℕ

@@ -1,4 +1,4 @@
--- What was read so far of the lists that make the state: the pools, the DAGs with their scripts (this product's own rule).
+-- What was read so far of the lists that make the state: the pools, the variables, the DAGs with their scripts (this product's own rule).
 use Rattle.std.specs.Prelude.{List, [], ◌∷◌, Bool, false, Option, Some, None, Result, Ok, Err}
 use Rattle.af_pool.specs.Pools.{default_name}
 use Rattle.af_sched.specs.Scripts.{ScriptRow}
@@ -12,10 +12,16 @@ pub record Draft : Type 0 where
   -- whether a row gave the default pool its slots
   pub has_default : Bool
 
--- no DAGs, and of pools the default one alone
+-- no DAGs and no variables, and of pools the default one alone
 abbrev pub opening_draft : Draft
 opening_draft = record {
-  state = record { dags = []; runs = []; next_run = 1; pools = record { name = default_name; slots = 128 } ∷ [] };
+  state = record {
+    dags = [];
+    runs = [];
+    next_run = 1;
+    pools = record { name = default_name; slots = 128 } ∷ [];
+    variables = [];
+  };
   scripts = [];
   has_default = false;
 }

@@ -3,6 +3,7 @@ pub mod Members
 pub mod Accounts
 pub mod Drafts
 pub mod PoolRows
+pub mod VariableRows
 pub mod Tasks
 pub mod DagRows
 pub mod Configurations

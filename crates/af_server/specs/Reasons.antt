@@ -8,6 +8,8 @@ use Rattle.af_graph.specs.declared.dag_fault.DagFault.{DagFault}
 use Rattle.af_graph.specs.declared.dag_fault.DagFault.TheVariants as dag
 use Rattle.af_pool.specs.declared.fault.PoolFault.{PoolFault}
 use Rattle.af_pool.specs.declared.fault.PoolFault.TheVariants as pool
+use Rattle.af_vars.specs.declared.fault.VariableFault.{VariableFault}
+use Rattle.af_vars.specs.declared.fault.VariableFault.TheVariants as variable
 use Rattle.af_sched.specs.declared.add_dag_fault.AddDagFault.{AddDagFault}
 use Rattle.af_sched.specs.declared.add_dag_fault.AddDagFault.TheVariants as add
 use Rattle.af_server.specs.declared.reason.Reason.{Reason}
@@ -51,6 +53,13 @@ pool_reason pool.DefaultPool = Pool
 pool_reason pool.InUse = Pool
 pool_reason pool.Full = Limit
 pool_reason pool.OutOfMemory = Memory
+
+-- a variable that is not added
+abbrev pub variable_reason : VariableFault → Reason
+variable_reason variable.NoSuchVariable = Name
+variable_reason variable.Exists = Duplicate
+variable_reason variable.Full = Limit
+variable_reason variable.OutOfMemory = Memory
 
 -- tasks that make no DAG
 abbrev pub graph_reason : DagFault (List ℕ) → Reason

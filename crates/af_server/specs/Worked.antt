@@ -9,6 +9,7 @@ use Rattle.af_pool.specs.Pools.{default_name}
 use Rattle.af_pool.specs.declared.pool.Pool.{Pool}
 use Rattle.af_sched.specs.State.{StateRows}
 use Rattle.af_sched.specs.declared.dag_row.DagRow.{DagRow}
+use Rattle.af_server.specs.declared.config.limits.Limits.{Limits}
 use Rattle.af_server.specs.declared.reason.Reason.{Reason}
 use Rattle.af_server.specs.Configurations.{ConfigurationRows, configuration_in}
 
@@ -48,6 +49,19 @@ pools rows = object (member (codes "pools") (array (items rows)) no_members)
 abbrev pub pool : List ℕ → Data → Data
 pool name slots = object (member (codes "name") (string name) (member (codes "slots") slots no_members))
 
+abbrev pub variables : List Data → Data
+variables rows = object (member (codes "variables") (array (items rows)) no_members)
+
+abbrev pub variable : List ℕ → Data → Data
+variable key value = object (member (codes "key") (string key) (member (codes "value") value no_members))
+
+-- with one member
+abbrev pub with_limit : List ℕ → Data → Data
+with_limit name value = object (member name value no_members)
+
+abbrev pub limits : ℕ → ℕ → Limits
+limits history versions = record { history = history; versions = versions }
+
 -- a task of which nothing but its id is said
 abbrev pub task_row : TaskSpec
 task_row = record {
@@ -72,7 +86,7 @@ abbrev pub default_pool : ℕ → Pool
 default_pool slots = record { name = default_name; slots = slots }
 
 abbrev pub state_of : List DagRow → List Pool → StateRows
-state_of dags pools = record { dags = dags; runs = []; next_run = 1; pools = pools }
+state_of dags pools = record { dags = dags; runs = []; next_run = 1; pools = pools; variables = [] }
 
 -- one user, who is an administrator, beside the default roles, and one DAG
 abbrev pub digest : List ℕ
@@ -87,4 +101,5 @@ configuration = record {
   };
   state = state_of (dag_row (codes "a") ∷ []) (default_pool 128 ∷ []);
   scripts = [];
+  limits = limits 1_000_000 4_294_967_295;
 }

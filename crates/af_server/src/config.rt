@@ -1,4 +1,4 @@
-// The configuration: a JSON object of roles, users, pools and DAGs.
+// The configuration: a JSON object of roles, users, pools, variables, DAGs and limits.
 ghost use Rattle.std.specs.Prelude.{◌≡◌, ◌≤◌, ◌<◌, length, Err, IfOk, ok_or, is_some, true};
 ghost use Rattle.serde_json.specs.Find.{as_object};
 ghost use Rattle.af_base.specs.JsonValue.{view};
@@ -11,6 +11,7 @@ ghost use Rattle.af_server.specs.Configurations.{configuration_in, configuration
 
 mod dags;
 mod draft;
+mod limits;
 mod lists;
 mod pools;
 mod roles;
@@ -20,6 +21,7 @@ mod scripts;
 mod tasks;
 mod upstream;
 mod users;
+mod variables;
 
 use crate::reason::Reason;
 use af_base::{Json, json_in};
@@ -27,19 +29,22 @@ use af_policy::Policy;
 use af_sched::{Script, State};
 use draft::StateDraft;
 use json::Scratch;
+use limits::{Limits, read_limits};
 use std::alloc::Global;
 use std::marker::Model;
 
 /// How long a configuration may be, in bytes.
 pub const LONGEST: usize = 16 * 1024 * 1024;
 
-/// What a configuration says: who may do what, what there is, and how the tries of tasks end that say it.
+/// What a configuration says: who may do what, what there is, how the tries of tasks end that say it, and how much there may be.
 #[derive(Drop)]
 pub struct Configuration {
     pub policy: Policy,
     pub state: State,
     /// Nothing runs them yet.
     pub scripts: Vec<Script>,
+    /// Nothing obeys them yet.
+    pub limits: Limits,
 }
 
 impl Model for Configuration {
@@ -51,12 +56,13 @@ impl Model for Configuration {
       policy = configuration.policy;
       state = configuration.state.rows;
       scripts = configuration.scripts.items;
+      limits = configuration.limits;
     } };
 }
 
 impl Configuration {
-    /// Reads a configuration. The lists are taken in order, roles, users, pools and DAGs, and rows in theirs; the first
-    /// fault decides the reason. Of a row, its members are read first, in order (kind, then name, then limits), and then
+    /// Reads a configuration. The lists are taken in order, roles, users, pools, variables and DAGs, and rows in theirs, and then
+    /// the limits; the first fault decides the reason. Of a row, its members are read first, in order (kind, then name, then limits), and then
     /// its own faults are looked for. `Memory` comes only of bytes that are not too long, where a growth was refused before
     /// a fault was met.
     pub fn read(alloc: Global, bytes: &[u8]) -> Result<Configuration, Reason>
@@ -92,11 +98,14 @@ impl Configuration {
             return Err(Reason::Shape);
         }
         let policy = lists::read_policy(alloc, value)?;
-        let StateDraft { state, scripts, .. } = lists::read_state(alloc, value)?;
+        let draft = lists::read_state(alloc, value)?;
+        let limits = read_limits(value)?;
+        let StateDraft { state, scripts, .. } = draft;
         Ok(Configuration {
             policy,
             state,
             scripts,
+            limits,
         })
     }
 }

@@ -1,12 +1,13 @@
 ghost use Rattle.std.specs.Prelude.{◌≡◌};
 ghost use Rattle.af_server.specs.declared.reason.Reason.TheVariants.{Memory};
-ghost use Rattle.af_server.specs.Reasons.{name_reason, reason_text, row_reason, dag_reason, graph_reason, pool_reason};
+ghost use Rattle.af_server.specs.Reasons.{name_reason, reason_text, row_reason, dag_reason, graph_reason, pool_reason, variable_reason};
 
 use af_graph::DagFault;
 use af_names::NameError;
 use af_policy::RowFault;
 use af_pool::PoolFault;
 use af_sched::AddDagFault;
+use af_vars::VariableFault;
 use std::alloc::{AllocError, AllocFailed};
 
 /// Why a configuration is refused.
@@ -115,6 +116,19 @@ impl From<PoolFault> for Reason {
             PoolFault::Exists => Reason::Duplicate,
             PoolFault::NoSuchPool | PoolFault::DefaultPool | PoolFault::InUse => Reason::Pool,
             PoolFault::OutOfMemory => Reason::Memory,
+        }
+    }
+}
+
+impl From<VariableFault> for Reason {
+    ghost from_gives = { λ fault reason. reason ≡ variable_reason fault };
+
+    fn from(fault: VariableFault) -> Reason {
+        match fault {
+            VariableFault::NoSuchVariable => Reason::Name,
+            VariableFault::Exists => Reason::Duplicate,
+            VariableFault::Full => Reason::Limit,
+            VariableFault::OutOfMemory => Reason::Memory,
         }
     }
 }

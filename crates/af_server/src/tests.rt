@@ -7,6 +7,9 @@ mod dags;
 mod instances;
 mod many;
 mod marks;
+mod pools;
+mod rows;
+mod variables;
 
 use crate::once::once;
 use crate::reason::Reason;
@@ -70,7 +73,15 @@ impl Write for Paper {
     }
 }
 
-/// How a connection with this input ends under a configuration, and what is written in it.
+/// Nothing was written yet.
+fn paper(alloc: Global) -> Counted<Paper> {
+    Counted::new(Paper {
+        bytes: Vec::new(alloc),
+    })
+}
+
+/// How a connection with this input, of which at most so many bytes come at once, ends under a configuration, and what is written
+/// in it.
 fn run(
     alloc: Global,
     config: &str,
@@ -79,9 +90,39 @@ fn run(
 ) -> Result<(Result<Ended, Reason>, Vec<u8>), Fail> {
     let now = Instant::read("2024-01-01T00:00:00Z")?;
     let mut reader = Counted::new(Pieces { rest: input, size });
-    let mut writer = Counted::new(Paper {
-        bytes: Vec::new(alloc),
-    });
+    let mut writer = paper(alloc);
     let ended = once(alloc, config.as_bytes(), now, &mut reader, &mut writer);
     Ok((ended, writer.into_inner().bytes))
+}
+
+/// Whether this is what is written in a connection with this input under the sample configuration, and how it ends.
+fn is_told(alloc: Global, input: &[u8], size: usize, told: &str, end: Ended) -> Result<bool, Fail> {
+    let (ended, written) = run(alloc, BASE, input, size)?;
+    Ok(written.as_slice() == told.as_bytes() && ended == Ok(end))
+}
+
+/// A request, and what is told of it.
+type Exchange = (&'static str, &'static str);
+
+/// The requests of these exchanges, one after another, and their answers.
+fn texts(alloc: Global, exchanges: &[Exchange]) -> Result<(String, String), Fail> {
+    let mut requests = String::new(alloc);
+    let mut answers = String::new(alloc);
+    for exchange in exchanges {
+        requests.push_str(exchange.0)?;
+        answers.push_str(exchange.1)?;
+    }
+    Ok((requests, answers))
+}
+
+/// Whether the exchanges go as they should in one connection, of which at most so many bytes come at once.
+fn are_told(alloc: Global, exchanges: &[Exchange], size: usize) -> Result<bool, Fail> {
+    let (requests, answers) = texts(alloc, exchanges)?;
+    is_told(
+        alloc,
+        requests.as_bytes(),
+        size,
+        answers.as_str(),
+        Ended::Closed,
+    )
 }

@@ -2,10 +2,10 @@
 ghost use Rattle.std.specs.Prelude.{◌≡◌, [], ◌∷◌, codes, pos, negsuc, Err, Ok, None, Some, true, false};
 ghost use Rattle.af_sched.specs.declared.outcome.Outcome.TheVariants as outcome;
 ghost use Rattle.af_server.specs.declared.reason.Reason.TheVariants as reason;
-ghost use Rattle.af_server.specs.Configurations.{draft_in};
+ghost use Rattle.af_server.specs.Configurations.{draft_in, limits_in};
 ghost use Rattle.af_server.specs.DagRows.{dag_in};
 ghost use Rattle.af_server.specs.Tasks.{no_tasks, task_in, task_taken};
-ghost use Rattle.af_server.specs.Worked.{configuration, dag, dag_of_tasks, dag_row, dag_with, dags, default_pool, items, pool, pools, said, state_of, task, task_row, task_with};
+ghost use Rattle.af_server.specs.Worked.{configuration, dag, dag_of_tasks, dag_row, dag_with, dags, default_pool, items, limits, pool, pools, said, state_of, task, task_row, task_with, variable, variables, with_limit};
 ghost use Rattle.serde_json.specs.Data.{array, boolean, null, number, string, unsigned, negative};
 
 /// The first fault of each of these decides.
@@ -34,6 +34,26 @@ pub fn pools_by_the_rule()
     ensures twice { draft_in (pools (pool (codes "p") (number (unsigned 0)) ∷ pool (codes "p") (number (unsigned 1)) ∷ [])) ≡ Err reason.Duplicate }
     ensures too_many_slots { draft_in (pools (pool (codes "p") (number (unsigned 1000001)) ∷ [])) ≡ Err reason.Limit }
     ensures no_slots { draft_in (pools (pool (codes "p") null ∷ [])) ≡ Err reason.Shape }
+{}
+
+/// Variables: in byte order of their keys, which differ; a text may be empty.
+pub fn variables_by_the_rule()
+    ensures order { draft_in (variables (variable (codes "b") (string (codes "v")) ∷ variable (codes "a") (string []) ∷ [])) ≡ Ok record { state = record (state_of [] (default_pool 128 ∷ [])) { variables = record { key = codes "a"; value = [] } ∷ record { key = codes "b"; value = codes "v" } ∷ [] }; scripts = []; has_default = false } }
+    ensures twice { draft_in (variables (variable (codes "k") (string (codes "v")) ∷ variable (codes "k") (string (codes "w")) ∷ [])) ≡ Err reason.Duplicate }
+    ensures bad_key { draft_in (variables (variable (codes "") null ∷ [])) ≡ Err reason.Name }
+    ensures no_value { draft_in (variables (variable (codes "k") null ∷ [])) ≡ Err reason.Shape }
+    ensures number { draft_in (variables (variable (codes "k") (number (unsigned 1)) ∷ [])) ≡ Err reason.Shape }
+{}
+
+/// Limits: what is absent is by default; each kind of fault.
+pub fn limits_by_the_rule()
+    ensures default { limits_in (with_limit (codes "history_limit") null) ≡ Ok (limits 1000000 4294967295) }
+    ensures least { limits_in (with_limit (codes "history_limit") (number (unsigned 1))) ≡ Ok (limits 1 4294967295) }
+    ensures most { limits_in (with_limit (codes "version_limit") (number (unsigned 4294967295))) ≡ Ok (limits 1000000 4294967295) }
+    ensures no_history { limits_in (with_limit (codes "history_limit") (number (unsigned 0))) ≡ Err reason.Limit }
+    ensures long_history { limits_in (with_limit (codes "history_limit") (number (unsigned 4294967295))) ≡ Err reason.Limit }
+    ensures no_versions { limits_in (with_limit (codes "version_limit") (number (negative (negsuc 0)))) ≡ Err reason.Limit }
+    ensures no_number { limits_in (with_limit (codes "version_limit") (boolean true)) ≡ Err reason.Shape }
 {}
 
 /// Tasks: what is absent is by default; each kind of fault.

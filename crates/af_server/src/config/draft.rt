@@ -28,7 +28,7 @@ impl Model for StateDraft {
 }
 
 impl StateDraft {
-    /// No DAGs, and of pools the default one alone. `AllocError` only where a growth was refused.
+    /// No DAGs and no variables, and of pools the default one alone. `AllocError` only where a growth was refused.
     pub fn new(alloc: Global) -> Result<StateDraft, AllocError>
         ensures { IfOk result (λ draft. draft ≡ opening_draft) }
     {

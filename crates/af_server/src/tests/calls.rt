@@ -1,4 +1,4 @@
-use super::{BASE, Paper, Pieces};
+use super::{BASE, Pieces, paper};
 use crate::command::Command;
 use crate::console::Console;
 use crate::files::read_whole;
@@ -20,36 +20,47 @@ fn asked(alloc: Global, words: &[&str]) -> Result<Command, Fail> {
     Ok(Command::of_words(all.into_iter()))
 }
 
+/// Words that ask for nothing that there is.
+const WRONG: [&[&str]; 6] = [
+    &["afplane"],
+    &["afplane", "once", "base.json"],
+    &["afplane", "once", "base.json", "today"],
+    &[
+        "afplane",
+        "once",
+        "base.json",
+        "2024-01-01T00:00:00Z",
+        "more",
+    ],
+    &["afplane", "serve", "base.json", "0", "1"],
+    &["afplane", "twice", "base.json", "2024-01-01T00:00:00Z"],
+];
+
+/// Whether the words ask for one connection under the configuration at this path.
+fn asks_once(alloc: Global, words: &[&str], path: &str) -> Result<bool, Fail> {
+    match asked(alloc, words)? {
+        Command::Once { config, .. } => Ok(config.as_str() == path),
+        Command::Usage => Ok(false),
+    }
+}
+
+/// Whether the words ask for how the program is called.
+fn asks_usage(alloc: Global, words: &[&str]) -> Result<bool, Fail> {
+    match asked(alloc, words)? {
+        Command::Once { .. } => Ok(false),
+        Command::Usage => Ok(true),
+    }
+}
+
 #[test]
 fn the_words_of_the_program(rt: HostRuntime) -> Result<(), Fail> {
-    let alloc = rt.alloc();
-    let once = asked(
-        alloc,
-        &["afplane", "once", "base.json", "2024-01-01T00:00:00Z"],
-    )?;
-    assert_eq!(rt;
-        matches!(&once, Command::Once { config, .. } if config.as_str() == "base.json"),
-        true
+    let once = ["afplane", "once", "base.json", "2024-01-01T00:00:00Z"];
+    assert!(rt;
+        asks_once(rt.alloc(), &once, "base.json")?,
+        "one connection"
     );
-    for words in [
-        &["afplane"] as &[&str],
-        &["afplane", "once", "base.json"],
-        &["afplane", "once", "base.json", "today"],
-        &[
-            "afplane",
-            "once",
-            "base.json",
-            "2024-01-01T00:00:00Z",
-            "more",
-        ],
-        &["afplane", "serve", "base.json", "0", "1"],
-        &["afplane", "twice", "base.json", "2024-01-01T00:00:00Z"],
-    ] {
-        assert_eq!(rt;
-            matches!(asked(alloc, words)?, Command::Usage),
-            true,
-            "{words:?}"
-        );
+    for words in WRONG {
+        assert!(rt; asks_usage(rt.alloc(), words)?, "{words:?}");
     }
     Ok(())
 }
@@ -72,132 +83,153 @@ impl Read for Failing {
     }
 }
 
-/// Nothing was written yet.
-fn paper(alloc: Global) -> Counted<Paper> {
-    Counted::new(Paper {
-        bytes: Vec::new(alloc),
+/// What a file holds, what comes from standard input, the status, whether there is an answer, and what is told on standard error.
+type Call = (&'static str, &'static str, u8, bool, &'static str);
+
+const CALLS: [Call; 6] = [
+    (BASE, "", 0, false, ""),
+    (
+        BASE,
+        "GET /api/v1/version HTTP/1.1\r\nHost: h\r\n\r\n",
+        0,
+        true,
+        "",
+    ),
+    (BASE, "GET", 1, true, ""),
+    (
+        "{",
+        "GET",
+        3,
+        false,
+        "afplane: configuration refused: syntax\n",
+    ),
+    (
+        "[]",
+        "GET",
+        3,
+        false,
+        "afplane: configuration refused: shape\n",
+    ),
+    (
+        "{}",
+        "",
+        3,
+        false,
+        "afplane: configuration refused: admin\n",
+    ),
+];
+
+/// These bytes, of which a read gives 4,096 at most.
+fn pieces(text: &'static str) -> Counted<Pieces<'static>> {
+    Counted::new(Pieces {
+        rest: text.as_bytes(),
+        size: 4_096,
     })
 }
 
-/// The status, what is answered and what is told where a file holds this configuration and this comes from standard input.
+/// The status of a call, and what is written and told.
+fn called(
+    alloc: Global,
+    config: &'static str,
+    input: &'static str,
+) -> Result<(u8, Vec<u8>, Vec<u8>), Fail> {
+    let now = Instant::read("2024-01-01T00:00:00Z")?;
+    let mut console = Console {
+        input: pieces(input),
+        output: paper(alloc),
+        errors: paper(alloc),
+    };
+    let status = run_once(alloc, &mut pieces(config), now, &mut console);
+    let Console { output, errors, .. } = console;
+    Ok((status, output.into_inner().bytes, errors.into_inner().bytes))
+}
+
+/// Whether a call goes as it should.
+fn is_said(alloc: Global, call: Call) -> Result<bool, Fail> {
+    let (config, input, status, answered, told) = call;
+    let (said, output, errors) = called(alloc, config, input)?;
+    Ok(said == status && output.is_empty() != answered && errors.as_slice() == told.as_bytes())
+}
+
 #[test]
 fn what_the_program_says(rt: HostRuntime) -> Result<(), Fail> {
-    let alloc = rt.alloc();
-    let now = Instant::read("2024-01-01T00:00:00Z")?;
-    for (config, input, status, answered, told) in [
-        (BASE, "", 0, false, ""),
-        (
-            BASE,
-            "GET /api/v1/version HTTP/1.1\r\nHost: h\r\n\r\n",
-            0,
-            true,
-            "",
-        ),
-        (BASE, "GET", 1, true, ""),
-        (
-            "{",
-            "GET",
-            3,
-            false,
-            "afplane: configuration refused: syntax\n",
-        ),
-        (
-            "[]",
-            "GET",
-            3,
-            false,
-            "afplane: configuration refused: shape\n",
-        ),
-        (
-            "{}",
-            "",
-            3,
-            false,
-            "afplane: configuration refused: admin\n",
-        ),
-    ] {
-        let mut file = Counted::new(Pieces {
-            rest: config.as_bytes(),
-            size: 4096,
-        });
-        let mut console = Console {
-            input: Counted::new(Pieces {
-                rest: input.as_bytes(),
-                size: 4096,
-            }),
-            output: paper(alloc),
-            errors: paper(alloc),
-        };
-        let said = run_once(alloc, &mut file, now, &mut console);
-        assert_eq!(rt; said, status, "{config}");
-        let Console { output, errors, .. } = console;
-        assert_eq!(rt; !output.into_inner().bytes.is_empty(), answered, "{config}");
-        assert_eq!(rt;
-            errors.into_inner().bytes.as_slice(),
-            told.as_bytes(),
-            "{config}"
-        );
+    for call in CALLS {
+        assert!(rt; is_said(rt.alloc(), call)?, "{}", call.0);
     }
     Ok(())
 }
 
-/// A file that fails, and the longest: 16 MiB are read whole, and a byte more is too long.
+/// How a file that fails after so many bytes is refused.
+fn failing(alloc: Global, left: usize) -> Option<Reason> {
+    let mut file = Counted::new(Failing { left });
+    read_whole(alloc, &mut file).err()
+}
+
+/// How a file of so many bytes is refused, of which a read gives 999 at most.
+fn spaces(alloc: Global, length: usize) -> Result<Option<Reason>, Fail> {
+    let bytes = Vec::from_elem(alloc, b' ', length)?;
+    let mut file = Counted::new(Pieces {
+        rest: bytes.as_slice(),
+        size: 999,
+    });
+    Ok(read_whole(alloc, &mut file).err())
+}
+
 #[test]
-fn files_that_are_refused(rt: HostRuntime) -> Result<(), Fail> {
-    let alloc = rt.alloc();
+fn files_that_fail_are_refused(rt: HostRuntime) -> Result<(), Fail> {
     for left in [0usize, 70_000] {
-        let mut file = Counted::new(Failing { left });
         assert_eq!(rt;
-            read_whole(alloc, &mut file).err(),
+            failing(rt.alloc(), left),
             Some(Reason::Unreadable),
             "{left}"
         );
     }
-    for (length, refused) in [(0, None), (20_000, None)] {
-        let bytes = Vec::from_elem(alloc, b' ', length)?;
-        let mut file = Counted::new(Pieces {
-            rest: bytes.as_slice(),
-            size: 999,
-        });
-        assert_eq!(rt; read_whole(alloc, &mut file).err(), refused, "{length}");
+    for length in [0usize, 20_000] {
+        assert_eq!(rt; spaces(rt.alloc(), length)?, None, "{length}");
     }
     Ok(())
 }
 
-/// Each reason has a word of its own, and wrong words the line of the usage.
+/// Each reason, and its word.
+const WORDS: [(Reason, &str); 14] = [
+    (Reason::Unreadable, "unreadable"),
+    (Reason::Syntax, "syntax"),
+    (Reason::Shape, "shape"),
+    (Reason::Name, "name"),
+    (Reason::Duplicate, "duplicate"),
+    (Reason::Role, "role"),
+    (Reason::Action, "action"),
+    (Reason::Pair, "pair"),
+    (Reason::Admin, "admin"),
+    (Reason::Pool, "pool"),
+    (Reason::Graph, "graph"),
+    (Reason::Schedule, "schedule"),
+    (Reason::Limit, "limit"),
+    (Reason::Memory, "memory"),
+];
+
+/// Whether a reason is told by this word.
+fn is_word(alloc: Global, reason: Reason, word: &str) -> Result<bool, Fail> {
+    let mut errors = paper(alloc);
+    let status = ended(&mut errors, Err(reason));
+    let line = format!(in alloc; "afplane: configuration refused: {word}\n")?;
+    Ok(status == 3 && errors.into_inner().bytes.as_slice() == line.as_bytes())
+}
+
 #[test]
 fn each_line(rt: HostRuntime) -> Result<(), Fail> {
-    let alloc = rt.alloc();
-    for (reason, word) in [
-        (Reason::Unreadable, "unreadable"),
-        (Reason::Syntax, "syntax"),
-        (Reason::Shape, "shape"),
-        (Reason::Name, "name"),
-        (Reason::Duplicate, "duplicate"),
-        (Reason::Role, "role"),
-        (Reason::Action, "action"),
-        (Reason::Pair, "pair"),
-        (Reason::Admin, "admin"),
-        (Reason::Pool, "pool"),
-        (Reason::Graph, "graph"),
-        (Reason::Schedule, "schedule"),
-        (Reason::Limit, "limit"),
-        (Reason::Memory, "memory"),
-    ] {
-        let mut errors = paper(alloc);
-        assert_eq!(rt; ended(&mut errors, Err(reason)), 3, "{word}");
-        let line = format!(in alloc; "afplane: configuration refused: {word}\n")?;
-        assert_eq!(rt;
-            errors.into_inner().bytes.as_slice(),
-            line.as_bytes(),
-            "{word}"
-        );
+    for (reason, word) in WORDS {
+        assert!(rt; is_word(rt.alloc(), reason, word)?, "{word}");
     }
-    let mut errors = paper(alloc);
+    Ok(())
+}
+
+const USAGE: &[u8] = b"usage: afplane once CONFIG NOW | serve CONFIG PORT WORKERS | verify TRACE\n";
+
+#[test]
+fn the_line_of_the_usage(rt: HostRuntime) -> Result<(), Fail> {
+    let mut errors = paper(rt.alloc());
     assert_eq!(rt; usage(&mut errors), 2);
-    assert_eq!(rt;
-        errors.into_inner().bytes.as_slice(),
-        b"usage: afplane once CONFIG NOW | serve CONFIG PORT WORKERS | verify TRACE\n" as &[u8]
-    );
+    assert_eq!(rt; errors.into_inner().bytes.as_slice(), USAGE);
     Ok(())
 }

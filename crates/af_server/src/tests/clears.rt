@@ -1,10 +1,9 @@
-use super::{BASE, run};
-use af_http::Ended;
+use super::{Exchange, are_told};
 use std::test::Fail;
 
 /// Instances that are cleared, in one connection: who may not clear them, bodies that are none, what is not there, dry runs, and
 /// clears. What stands already is no change, and is told with the count of changes as it was. Then the run is deleted, once.
-const CLEARS: [(&str, &str); 31] = [
+const CLEARS: [Exchange; 31] = [
     (
         "POST /api/v1/dags/b/dagRuns HTTP/1.1\r\nHost: h\r\nAuthorization: Bearer abc\r\nContent-Length: 18\r\n\r\n{\"dag_run_id\":\"r\"}",
         "HTTP/1.1 200 OK\r\nContent-Type: application/json\r\nContent-Length: 243\r\nX-Policy-Version: 0\r\nX-Plane-Seq: 1\r\n\r\n{\"dag_id\":\"b\",\"dag_run_id\":\"r\",\"data_interval_end\":\"2024-01-01T00:00:00+00:00\",\"data_interval_start\":\"2024-01-01T00:00:00+00:00\",\"end_date\":null,\"logical_date\":\"2024-01-01T00:00:00+00:00\",\"run_type\":\"manual\",\"start_date\":null,\"state\":\"queued\"}",
@@ -133,17 +132,8 @@ const CLEARS: [(&str, &str); 31] = [
 
 #[test]
 fn instances_are_cleared(rt: HostRuntime) -> Result<(), Fail> {
-    let alloc = rt.alloc();
-    let mut requests = String::from_str(alloc, "")?;
-    let mut answers = String::from_str(alloc, "")?;
-    for (request, answer) in CLEARS {
-        requests.push_str(request)?;
-        answers.push_str(answer)?;
-    }
     for size in [1, 4_096] {
-        let (ended, written) = run(alloc, BASE, requests.as_bytes(), size)?;
-        assert_eq!(rt; written.as_slice(), answers.as_bytes(), "{size}");
-        assert_eq!(rt; ended, Ok(Ended::Closed), "{size}");
+        assert!(rt; are_told(rt.alloc(), &CLEARS, size)?, "{size}");
     }
     Ok(())
 }

@@ -13,6 +13,12 @@ pub fn refused(alloc: Global, config: &str) -> Option<Reason> {
     Configuration::read(alloc, config.as_bytes()).err()
 }
 
+/// Whether a configuration of an administrator and each of these members is refused for its reason, or taken.
+pub fn are_refused(alloc: Global, rows: &[(&str, Option<Reason>)]) -> Result<bool, Fail> {
+    let before = format!(in alloc; "{{{ADMIN},")?;
+    Ok(first_fault(alloc, before.as_str(), "}", rows)?.is_none())
+}
+
 /// The number of the first of these texts that, between these two, is not refused for its reason.
 pub fn first_fault(
     alloc: Global,
@@ -21,12 +27,23 @@ pub fn first_fault(
     rows: &[(&str, Option<Reason>)],
 ) -> Result<Option<usize>, Fail> {
     for (number, (text, reason)) in rows.iter().enumerate() {
-        let config = format!(in alloc; "{before}{text}{after}")?;
-        if refused(alloc, config.as_str()) != *reason {
+        if !is_refused(alloc, before, *text, after, *reason)? {
             return Ok(Some(number));
         }
     }
     Ok(None)
+}
+
+/// Whether a text between two is refused for this reason, or taken where there is none.
+fn is_refused(
+    alloc: Global,
+    before: &str,
+    text: &str,
+    after: &str,
+    reason: Option<Reason>,
+) -> Result<bool, Fail> {
+    let config = format!(in alloc; "{before}{text}{after}")?;
+    Ok(refused(alloc, config.as_str()) == reason)
 }
 
 /// Whole configurations.
@@ -148,9 +165,7 @@ const LISTS: [(&str, Option<Reason>); 20] = [
 
 #[test]
 fn each_reason(rt: HostRuntime) -> Result<(), Fail> {
-    let alloc = rt.alloc();
-    assert_eq!(rt; first_fault(alloc, "", "", &WHOLE)?, None);
-    let before = format!(in alloc; "{{{ADMIN},")?;
-    assert_eq!(rt; first_fault(alloc, before.as_str(), "}", &LISTS)?, None);
+    assert_eq!(rt; first_fault(rt.alloc(), "", "", &WHOLE)?, None);
+    assert!(rt; are_refused(rt.alloc(), &LISTS)?, "pools and DAGs");
     Ok(())
 }

@@ -1,4 +1,4 @@
-use super::{BASE, run};
+use super::{Exchange, are_told, is_told};
 use af_http::Ended;
 use af_ops::Status;
 use std::alloc::Global;
@@ -34,73 +34,104 @@ fn asks_list(alloc: Global, token: &str) -> Result<String, Fail> {
     )?)
 }
 
+/// What each user is told of the list of DAGs, by the user's token.
+const LISTS: [Exchange; 10] = [
+    ("test", LIST),
+    ("admin", LIST),
+    ("password", LIST),
+    ("hello", LIST),
+    ("abc", LIST),
+    ("foo", ONE),
+    ("secret", ONE),
+    ("bar", DENIED),
+    ("nope", NOBODY),
+    ("tes", NOBODY),
+];
+
+/// Whether the user of a token is told this of the list of DAGs.
+fn is_listed(alloc: Global, token: &str, told: &str) -> Result<bool, Fail> {
+    let input = asks_list(alloc, token)?;
+    is_told(alloc, input.as_bytes(), 4_096, told, Ended::Closed)
+}
+
 #[test]
 fn what_each_user_is_told(rt: HostRuntime) -> Result<(), Fail> {
-    let alloc = rt.alloc();
-    for (token, told) in [
-        ("test", LIST),
-        ("admin", LIST),
-        ("password", LIST),
-        ("hello", LIST),
-        ("abc", LIST),
-        ("foo", ONE),
-        ("secret", ONE),
-        ("bar", DENIED),
-        ("nope", NOBODY),
-        ("tes", NOBODY),
-    ] {
-        let (ended, out) = run(alloc, BASE, asks_list(alloc, token)?.as_bytes(), 4096)?;
-        assert_eq!(rt; out.as_slice(), told.as_bytes(), "{token}");
-        assert_eq!(rt; ended, Ok(Ended::Closed), "{token}");
+    for (token, told) in LISTS {
+        assert!(rt; is_listed(rt.alloc(), token, told)?, "{token}");
     }
     Ok(())
 }
+
+/// Without a token, or with a method that there is not.
+const OPEN: [Exchange; 3] = [
+    ("GET /api/v1/dags HTTP/1.1\r\nHost: h\r\n\r\n", NOBODY),
+    (ASKS_VERSION, VERSION),
+    ("PUT /api/v1/dags HTTP/1.1\r\nHost: h\r\n\r\n", NO_METHOD),
+];
 
 #[test]
 fn without_a_token_or_a_method(rt: HostRuntime) -> Result<(), Fail> {
-    let alloc = rt.alloc();
-    for (input, told) in [
-        ("GET /api/v1/dags HTTP/1.1\r\nHost: h\r\n\r\n", NOBODY),
-        (ASKS_VERSION, VERSION),
-        ("PUT /api/v1/dags HTTP/1.1\r\nHost: h\r\n\r\n", NO_METHOD),
-    ] {
-        let (ended, out) = run(alloc, BASE, input.as_bytes(), 4096)?;
-        assert_eq!(rt; out.as_slice(), told.as_bytes(), "{input}");
-        assert_eq!(rt; ended, Ok(Ended::Closed), "{input}");
+    for exchange in OPEN {
+        assert!(rt; are_told(rt.alloc(), &[exchange], 4_096)?, "{}", exchange.0);
     }
     Ok(())
 }
 
-/// The viewer's two requests on one connection, however they are cut.
-#[test]
-fn in_pieces_of_any_size(rt: HostRuntime) -> Result<(), Fail> {
-    let alloc = rt.alloc();
+/// The viewer's two requests, and what is told of them.
+fn two(alloc: Global) -> Result<(String, String), Fail> {
     let mut input = asks_list(alloc, "test")?;
     input.push_str(ASKS_VERSION)?;
     let mut told = String::from_str(alloc, LIST)?;
     told.push_str(VERSION)?;
+    Ok((input, told))
+}
+
+/// On one connection, however they are cut.
+#[test]
+fn in_pieces_of_any_size(rt: HostRuntime) -> Result<(), Fail> {
+    let (input, told) = two(rt.alloc())?;
     for size in 1..=input.len() {
-        let (ended, out) = run(alloc, BASE, input.as_bytes(), size)?;
-        assert_eq!(rt; out.as_slice(), told.as_bytes(), "{size}");
-        assert_eq!(rt; ended, Ok(Ended::Closed), "{size}");
+        let same = is_told(
+            rt.alloc(),
+            input.as_bytes(),
+            size,
+            told.as_str(),
+            Ended::Closed,
+        )?;
+        assert!(rt; same, "{size}");
     }
     Ok(())
 }
 
-/// A request of 41 bytes, of which only the first so many come.
+/// Whether a request of which only the first so many bytes come is refused.
+fn is_incomplete(alloc: Global, length: usize) -> Result<bool, Fail> {
+    match ASKS_VERSION.as_bytes().get(..length) {
+        Some(front) => is_told(
+            alloc,
+            front,
+            4_096,
+            INCOMPLETE,
+            Ended::Refused(Status::BadRequest),
+        ),
+        None => Ok(false),
+    }
+}
+
+/// A request of 41 bytes.
 #[test]
 fn cut_after_each_byte(rt: HostRuntime) -> Result<(), Fail> {
-    let alloc = rt.alloc();
-    let (ended, out) = run(alloc, BASE, b"", 4096)?;
-    assert_eq!(rt; (ended, out.len()), (Ok(Ended::Closed), 0));
     for length in 1..41usize {
-        let Some(front) = ASKS_VERSION.as_bytes().get(..length) else {
-            return Err(Fail::new("the request has 41 bytes"));
-        };
-        let (ended, out) = run(alloc, BASE, front, 4096)?;
-        assert_eq!(rt; ended, Ok(Ended::Refused(Status::BadRequest)), "{length}");
-        assert_eq!(rt; out.as_slice(), INCOMPLETE.as_bytes(), "{length}");
+        assert!(rt; is_incomplete(rt.alloc(), length)?, "{length}");
     }
     assert_eq!(rt; ASKS_VERSION.len(), 41);
+    Ok(())
+}
+
+#[test]
+fn nothing_is_asked(rt: HostRuntime) -> Result<(), Fail> {
+    assert!(rt;
+        are_told(rt.alloc(), &[], 4_096)?,
+        "no answer, and it closes"
+    );
     Ok(())
 }

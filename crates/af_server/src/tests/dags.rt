@@ -1,5 +1,6 @@
 use super::configurations::{ADMIN, first_fault};
 use crate::reason::Reason;
+use std::alloc::Global;
 use std::test::Fail;
 
 /// Members of a DAG of one task, in the order in which their faults are told.
@@ -143,15 +144,24 @@ const TASKS: [(&str, Option<Reason>); 28] = [
     ),
 ];
 
-#[test]
-fn each_reason_of_a_dag(rt: HostRuntime) -> Result<(), Fail> {
-    let alloc = rt.alloc();
+/// The first of these members of a DAG that is not refused for its reason.
+fn first_of_dags(alloc: Global) -> Result<Option<usize>, Fail> {
     let before = format!(in alloc; "{{{ADMIN},\"dags\":[{{\"dag_id\":\"a\",")?;
     let after = r#","tasks":[{"task_id":"t"}]}]}"#;
-    assert_eq!(rt; first_fault(alloc, before.as_str(), after, &DAGS)?, None);
+    first_fault(alloc, before.as_str(), after, &DAGS)
+}
+
+/// The first of these lists of tasks that is not refused for its reason.
+fn first_of_tasks(alloc: Global) -> Result<Option<usize>, Fail> {
     let before = format!(in alloc;
         "{{{ADMIN},\"pools\":[{{\"name\":\"p\",\"slots\":1}}],\"dags\":[{{\"dag_id\":\"a\",\"tasks\":["
     )?;
-    assert_eq!(rt; first_fault(alloc, before.as_str(), "]}]}", &TASKS)?, None);
+    first_fault(alloc, before.as_str(), "]}]}", &TASKS)
+}
+
+#[test]
+fn each_reason_of_a_dag(rt: HostRuntime) -> Result<(), Fail> {
+    assert_eq!(rt; first_of_dags(rt.alloc())?, None, "members of a DAG");
+    assert_eq!(rt; first_of_tasks(rt.alloc())?, None, "members of tasks");
     Ok(())
 }

@@ -2,12 +2,22 @@ use super::configurations::{ADMIN, refused};
 use crate::config::Configuration;
 use crate::reason::Reason;
 use af_names::Instant;
+use std::alloc::Global;
 use std::test::Fail;
 
 /// Members with a list of many rows: what stands before the rows, the three parts of a row, with its number between them,
-/// what stands after the rows, how many rows there are, and why they are refused. A role has a hundred permissions; the
-/// thousandth user and pool are taken, and as many DAGs as there may be, and not one more.
-const MANY: [(&str, [&str; 3], &str, u32, Option<Reason>); 5] = [
+/// what stands after the rows, how many rows there are, and why they are refused.
+type Many = (
+    &'static str,
+    [&'static str; 3],
+    &'static str,
+    u16,
+    Option<Reason>,
+);
+
+/// A role has a hundred permissions; the thousandth user, pool and variable are taken, and as many DAGs as there may be, and not
+/// one more.
+const MANY: [Many; 6] = [
     (
         r#""dags":["#,
         [r#"{"dag_id":"d"#, r#"","tasks":[{"task_id":"t"#, r#""}]}"#],
@@ -25,6 +35,13 @@ const MANY: [(&str, [&str; 3], &str, u32, Option<Reason>); 5] = [
     (
         r#""pools":["#,
         [r#"{"name":"p"#, r#"","slots":"#, "}"],
+        "]",
+        1_000,
+        None,
+    ),
+    (
+        r#""variables":["#,
+        [r#"{"key":"k"#, r#"","value":""#, r#""}"#],
         "]",
         1_000,
         None,
@@ -53,73 +70,113 @@ const MANY: [(&str, [&str; 3], &str, u32, Option<Reason>); 5] = [
     ),
 ];
 
+/// The number of the first row.
+const FIRST: u32 = 10_001;
+
+/// A row of that number.
+fn row(alloc: Global, parts: [&str; 3], number: u32) -> Result<String, Fail> {
+    let comma = if number == FIRST { "" } else { "," };
+    let [first, second, third] = parts;
+    Ok(format!(in alloc; "{comma}{first}{number}{second}{number}{third}")?)
+}
+
+/// Adds that many rows to a text.
+fn add_rows(alloc: Global, config: &mut String, parts: [&str; 3], count: u16) -> Result<(), Fail> {
+    for number in FIRST..FIRST + u32::from(count) {
+        config.push_str(row(alloc, parts, number)?.as_str())?;
+    }
+    Ok(())
+}
+
+/// The configuration of an administrator and these rows.
+fn config_of(alloc: Global, many: Many) -> Result<String, Fail> {
+    let (before, parts, after, count, _) = many;
+    let mut config = format!(in alloc; "{{{ADMIN},{before}")?;
+    add_rows(alloc, &mut config, parts, count)?;
+    config.push_str(after)?;
+    config.push_str("}")?;
+    Ok(config)
+}
+
+/// Whether these rows are refused for their reason.
+fn is_refused(alloc: Global, many: Many) -> Result<bool, Fail> {
+    let config = config_of(alloc, many)?;
+    Ok(refused(alloc, config.as_str()) == many.4)
+}
+
 #[test]
 fn many_rows(rt: HostRuntime) -> Result<(), Fail> {
-    let alloc = rt.alloc();
-    for (before, [first, second, third], after, count, reason) in MANY {
-        let mut config = format!(in alloc; "{{{ADMIN},{before}")?;
-        for number in 10_001..=10_000 + count {
-            let comma = if number == 10_001 { "" } else { "," };
-            let row = format!(in alloc; "{comma}{first}{number}{second}{number}{third}")?;
-            config.push_str(row.as_str())?;
-        }
-        config.push_str(after)?;
-        config.push_str("}")?;
-        assert_eq!(rt;
-            refused(alloc, config.as_str()),
-            reason,
-            "{count} after {before}"
+    for many in MANY {
+        assert!(rt;
+            is_refused(rt.alloc(), many)?,
+            "{} after {}",
+            many.3,
+            many.0
         );
     }
     Ok(())
 }
 
+/// A schedule, its start date, and the first point at or after it, if there is one.
+type Start = (&'static str, &'static str, Option<&'static str>);
+
+const STARTS: [Start; 6] = [
+    (
+        r#""@hourly""#,
+        "2024-02-28T23:00:00.000001Z",
+        Some("2024-02-29T00:00:00Z"),
+    ),
+    (
+        r#""@daily""#,
+        "2024-02-29T00:00:00Z",
+        Some("2024-02-29T00:00:00Z"),
+    ),
+    (
+        r#""@weekly""#,
+        "2024-01-01T00:00:00Z",
+        Some("2024-01-07T00:00:00Z"),
+    ),
+    (
+        r#""@monthly""#,
+        "2024-01-01T00:00:01Z",
+        Some("2024-02-01T00:00:00Z"),
+    ),
+    (
+        "7",
+        "2024-01-01T00:00:01.5Z",
+        Some("2024-01-01T00:00:01.5Z"),
+    ),
+    (r#""@monthly""#, "9998-12-31T00:00:00Z", None),
+];
+
+/// The configuration of a paused DAG with this schedule.
+fn scheduled(alloc: Global, schedule: &str, start: &str) -> Result<Configuration, Fail> {
+    let config = format!(in alloc;
+        "{{{ADMIN},\"dags\":[{{\"dag_id\":\"a\",\"schedule\":{schedule},\"start_date\":\"{start}\",\"is_paused\":true,\"tasks\":[{{\"task_id\":\"t\"}}]}}]}}"
+    )?;
+    match Configuration::read(alloc, config.as_bytes()) {
+        Ok(read) => Ok(read),
+        Err(_) => Err(Fail::new("it is no configuration")),
+    }
+}
+
+/// Whether the cursor of the only DAG is at this instant.
+fn is_at(read: &Configuration, first: Option<&str>) -> Result<bool, Fail> {
+    let [row] = read.state.dags() else {
+        return Ok(false);
+    };
+    match first {
+        Some(text) => Ok(row.cursor == Some(Instant::read(text)?)),
+        None => Ok(row.cursor.is_none()),
+    }
+}
+
 /// The first point of each schedule at or after its start, of a paused DAG too.
 #[test]
 fn the_first_cursor(rt: HostRuntime) -> Result<(), Fail> {
-    let alloc = rt.alloc();
-    for (schedule, start, first) in [
-        (
-            r#""@hourly""#,
-            "2024-02-28T23:00:00.000001Z",
-            Some("2024-02-29T00:00:00Z"),
-        ),
-        (
-            r#""@daily""#,
-            "2024-02-29T00:00:00Z",
-            Some("2024-02-29T00:00:00Z"),
-        ),
-        (
-            r#""@weekly""#,
-            "2024-01-01T00:00:00Z",
-            Some("2024-01-07T00:00:00Z"),
-        ),
-        (
-            r#""@monthly""#,
-            "2024-01-01T00:00:01Z",
-            Some("2024-02-01T00:00:00Z"),
-        ),
-        (
-            "7",
-            "2024-01-01T00:00:01.5Z",
-            Some("2024-01-01T00:00:01.5Z"),
-        ),
-        (r#""@monthly""#, "9998-12-31T00:00:00Z", None),
-    ] {
-        let config = format!(in alloc;
-            "{{{ADMIN},\"dags\":[{{\"dag_id\":\"a\",\"schedule\":{schedule},\"start_date\":\"{start}\",\"is_paused\":true,\"tasks\":[{{\"task_id\":\"t\"}}]}}]}}"
-        )?;
-        let Ok(read) = Configuration::read(alloc, config.as_bytes()) else {
-            return Err(Fail::new("it is no configuration"));
-        };
-        let [row] = read.state.dags() else {
-            return Err(Fail::new("it has one DAG"));
-        };
-        let expected = match first {
-            Some(text) => Some(Instant::read(text)?),
-            None => None,
-        };
-        assert_eq!(rt; row.cursor, expected, "{schedule} from {start}");
+    for (schedule, start, first) in STARTS {
+        let read = scheduled(rt.alloc(), schedule, start)?;
+        assert!(rt; is_at(&read, first)?, "{schedule} from {start}");
     }
     Ok(())
 }
