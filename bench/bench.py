@@ -46,7 +46,7 @@ SECONDS = 120
 # Under valgrind the C library is not to fill and copy by `rep`, of which callgrind counts each byte.
 PLAIN = {"GLIBC_TUNABLES": "glibc.cpu.x86_rep_stosb_threshold=1000000000:glibc.cpu.x86_rep_movsb_threshold=1000000000"}
 # What the oracle is asked for: all that the baseline has.
-HAS = having("landed,changes")
+HAS = having("landed")
 RULES = ["all_success", "all_done", "none_failed", "one_success", "none_failed_min_one_success"]
 
 
@@ -74,8 +74,8 @@ def tasks_of(count):
     return rows
 
 
-def config(users=10, dags=3, tasks=1, asking=0, role="Viewer"):
-    """So many users and DAGs with so many tasks each; the user who asks has the role."""
+def config(users=10, dags=3, tasks=1, asking=0, role="Viewer", variables=0):
+    """So many users, variables, and DAGs with so many tasks each; the user who asks has the role."""
     ids = ids_of(dags)
     one_dag = [{"action": {"name": "can_read"}, "resource": {"name": "DAG:" + ids[dags // 2]}}]
 
@@ -89,6 +89,7 @@ def config(users=10, dags=3, tasks=1, asking=0, role="Viewer"):
         "roles": [{"name": "One", "actions": one_dag}],
         "users": [{"username": f"user{i}", "roles": [{"name": role_of(i)}], "token_sha256": digest(i)} for i in range(users)],
         "pools": [{"name": f"pool_{i}", "slots": 4} for i in range(8)] if tasks > 1 else None,
+        "variables": [{"key": f"key_{i * 7919 % variables:05}", "value": str(i)} for i in range(variables)] or None,
         "dags": [{"dag_id": it, "is_paused": i % 5 == 0, "tasks": tasks_of(tasks)} for i, it in enumerate(ids)],
     }
     if tasks > 1:
@@ -123,6 +124,11 @@ def runs_before(ids, count):
     """So many triggers, three of four on one DAG, and where each run is."""
     dags = [ids[len(ids) // 2] if n % 4 else ids[n % len(ids)] for n in range(count)]
     return [trigger(it, n) for n, it in enumerate(dags)], [f"/dags/{it}/dagRuns/run_{n:05}" for n, it in enumerate(dags)]
+
+
+def added(path, row, n):
+    """A row is added, and then it is deleted."""
+    return ask(path, "POST", row) if n % 2 == 0 else ask(f"{path}/{next(iter(row.values()))}", "DELETE")
 
 
 def mixed(ids):
@@ -220,10 +226,19 @@ def loads():
     yield Load("clear, a dry run of 300 of 400 runs", made, [ask(f"/dags/{ids[50]}/clearTaskInstances", "POST", {"only_failed": False, "task_ids": ["step_00"]})] * MOST, lead)
     yield Load("delete a run, of 400", made, [ask(it, "DELETE") for it in runs], lead)
     yield Load("pools, 9", made, [ask("/pools")] * MOST)
+    yield Load("show a pool, of 9", made, [ask(f"/pools/pool_{n % 8}") for n in range(MOST)])
+    yield Load("show a pool, 400 runs of 5 tasks", made, [ask("/pools/pool_1")] * MOST, lead)
+    yield Load("pools, 9, 400 runs of 5 tasks", made, [ask("/pools")] * MOST, lead)
+    yield Load("add and delete a pool, of 9", made, [added("/pools", {"name": f"new_{n // 2}", "slots": 4}, n) for n in range(MOST)])
     yield Load("change a pool", made, [ask("/pools/pool_1", "PATCH", {"slots": 4 + n % 2}) for n in range(MOST)])
     variables = [ask("/variables", "POST", {"key": f"key_{n:03}", "value": "0"}) for n in range(100)]
     yield Load("change a variable, of 100", made, [ask(f"/variables/key_{n % 100:03}", "PATCH", {"value": str(n)}) for n in range(MOST)], variables)
+    yield Load("show a variable, of 100", made, [ask(f"/variables/key_{n % 100:03}") for n in range(MOST)], variables)
+    yield Load("add and delete a variable, of 100", made, [added("/variables", {"key": f"new_{n // 2}", "value": str(n)}, n) for n in range(MOST)], variables)
     yield Load("variables, 100", made, [ask("/variables")] * MOST, variables)
+    many = lambda: config(dags=100, tasks=5, role="Op", variables=10_000)
+    yield Load("add and delete a variable, of 10,000", many, [added("/variables", {"key": f"new_{n // 2}", "value": str(n)}, n) for n in range(MOST)])
+    yield Load("variables, 100 of 10,000", many, [ask("/variables")] * MOST)
     lead, played = changed(ids, 700)
     yield Load("reads and changes, 700 runs", made, played, lead)
     for name, made in (
@@ -231,6 +246,7 @@ def loads():
         ("1,024 DAGs of 1 task", lambda: config(dags=1024)),
         ("1,024 DAGs of 20 tasks", lambda: config(dags=1024, tasks=20)),
         ("65,536 users, 3 DAGs", lambda: config(users=65536)),
+        ("10,000 variables, 3 DAGs", lambda: config(variables=10_000)),
         ("65,536 users, 1,024 DAGs", lambda: config(users=65536, dags=1024)),
     ):
         yield Load(f"start-up, {name}", made, [ask("/dags")], figure="start")

@@ -12,6 +12,9 @@ STARTS = [
 ]
 RULES = ["all_success", "all_failed", "all_done", "one_success", "one_failed", "one_done", "none_failed", "none_failed_min_one_success", "none_skipped", "all_skipped", "always"]
 POOLS = ["p", "default_pool", "q r", "~", "P" * 250]
+KEYS = ["k", "K", "a b", "a/b", "~", "%", '"\\', "k" * 250, "none"]
+VALUES = ["v", "", "\u00e9\U0001f600", '"\\/\b\f\n\r\t\u0000\u001f\u007f\u2028', "x" * 300, "null", "v2"]
+LIMITS = {"history_limit": [1, 2, 5, 30, 10**6, 2**32 - 2, None], "version_limit": [1, 2, 5, 30, 2**32 - 2, 2**32 - 1, None]}
 NAMES = ["vera", "x", "A b", "~", " ", '"', "\\", "u" * 64, "{}", "Viewer2", "admin", "DAG:a"]
 DAG_IDS = ["a", "b", "c", "a.b", "A", "_", "-", "0", "z" * 250, "a-b", "a_b", ".", "team.report", "B1"]
 OTHERS = [None, True, 0, -1, 1.5, "", "x", [], {}, [0], {"name": 1}, [None], [{"name": None}], [{}], [[]]]
@@ -49,6 +52,12 @@ def task_rows(rng, pools):
     return rows
 
 
+def variable_rows(rng):
+    """Variables, now and then more than a page has, or none."""
+    keys = rng.sample(KEYS, rng.randint(0, 5)) if rng.random() < 0.9 else [f"v{n}" for n in range(rng.randint(98, 130))]
+    return [{"key": it, "value": rng.choice(VALUES)} for it in keys] or rng.choice([None, []])
+
+
 def good(rng):
     """A configuration that is accepted, and the tokens that its users have."""
     roles = [role_row(it, *[pair(rng) for _ in range(rng.randint(0, 4))]) for it in rng.sample(NAMES, rng.randint(0, 5))]
@@ -72,8 +81,9 @@ def good(rng):
     config = {"roles": roles, "users": users, "dags": dags}
     if pools or rng.random() < 0.2:
         config["pools"] = [{"name": it, "slots": rng.choice([0, 1, 128, 1_000_000])} for it in pools] or None
-    if rng.random() < 0.1:
-        config.update({"variables": None, "history_limit": "x", "version_limit": -1})
+    if rng.random() < 0.4:
+        config["variables"] = variable_rows(rng)
+    config.update({name: rng.choice(values) for name, values in LIMITS.items() if rng.random() < 0.1})
     if not roles and rng.random() < 0.5:
         config["roles"] = None
     return config, tokens
@@ -157,6 +167,22 @@ def pool_fault(rng, row):
         row.pop(rng.choice(sorted(row)), None)
 
 
+def variable_fault(rng, row):
+    which = rng.choice(["key", "value", "both", "drop"])
+    if which in ("key", "both"):
+        row["key"] = wrong(rng, "k" * 251, "", "\u00e9", "a\nb", "\x7f", "k", "K")
+    if which in ("value", "both"):
+        row["value"] = rng.choice(OTHERS)
+    if which == "drop":
+        row.pop(rng.choice(sorted(row)), None)
+
+
+def limit_fault(rng, config):
+    """Spoils one of the limits, or both, so that the first of them is told."""
+    for name in rng.choice([["history_limit"], ["version_limit"], ["history_limit", "version_limit"]]):
+        config[name] = wrong(rng, 0, -1, 2**32 - 1, 2**32, 2**63, 2**64, 1.0, -0.0, "1")
+
+
 def dag_fault(rng, row):
     which = rng.choice(["dag_id", "schedule", "start_date", "catchup", "max_active_runs", "is_paused", "tasks", "task", "task", "drop"])
     if which == "dag_id":
@@ -193,19 +219,21 @@ def faulty(rng, spoil=None):
         if rng.random() < 0.5:
             return written(rng, config)
     for _ in range(rng.choice([1, 1, 2])):
-        part = rng.choice(["roles", "users", "pools", "dags", "dags", "dags", "list", "admin", "again"])
+        part = rng.choice(["roles", "users", "pools", "variables", "dags", "dags", "dags", "list", "limits", "admin", "again"])
         if part == "list":
-            config[rng.choice(["roles", "users", "pools", "dags"])] = rng.choice(OTHERS)
+            config[rng.choice(["roles", "users", "pools", "variables", "dags"])] = rng.choice(OTHERS)
+        elif part == "limits":
+            limit_fault(rng, config)
         elif part == "admin" and isinstance(config.get("users"), list):
             for it in config["users"]:
                 if isinstance(it, dict) and isinstance(it.get("roles"), list):
                     it["roles"] = [{"name": "Viewer"}]
         elif part == "again" and isinstance(config.get("dags"), list) and config["dags"]:
             config["dags"].append(copy.deepcopy(config["dags"][0]))
-        elif part in ("roles", "users", "pools", "dags"):
+        elif part in ("roles", "users", "pools", "variables", "dags"):
             of = config.get(part)
             if isinstance(of, list) and of and isinstance(row := rng.choice(of), dict) and "touched" not in row:
-                {"roles": role_fault, "users": user_fault, "pools": pool_fault, "dags": dag_fault}[part](rng, row)
+                {"roles": role_fault, "users": user_fault, "pools": pool_fault, "variables": variable_fault, "dags": dag_fault}[part](rng, row)
                 row["touched"] = True
     return written(rng, config)
 
@@ -231,6 +259,16 @@ def fixed_configs():
     yield from (text.replace("{", '{"pools":[{"name":"p","slots":' + it + "}],", 1).encode() for it in slots)
     yield from (json.dumps({**base, "pools": [{"name": it, "slots": 1} for it in names]}).encode() for names in (["default_pool"], ["default_pool"] * 2, ["p", "p"]))
     yield from (json.dumps({**base, "pools": [{"name": f"p{i}", "slots": 1} for i in range(n)]}).encode() for n in (65535, 65536))
+    yield from (json.dumps({**base, "variables": [{"key": it, "value": it} for it in keys]}).encode() for keys in (["k"], ["k", "k"], ["k", "K"], [" "], ["k" * 250], ["k" * 251]))
+    yield from (json.dumps({**base, "variables": [{"key": "k", "value": it}]}).encode() for it in [*OTHERS, *VALUES, "x" * 1_000_000])
+    yield from (json.dumps({**base, "variables": [{"key": f"k{i}", "value": ""} for i in range(n)]}).encode() for n in (65536, 65537))
+    # Of two members with a fault, the one that is taken first is told, whatever their order in the file.
+    faults = {"pools": [{"name": "p", "slots": 1}] * 2, "variables": [{"key": "", "value": ""}], "dags": [{"dag_id": "a"}], "history_limit": 0, "version_limit": True}
+    for one in faults:
+        for other in faults:
+            yield json.dumps({one: faults[one], other: faults[other], "users": users, **({} if "dags" in (one, other) else {"dags": base["dags"]})}).encode()
+    numbers = ["0", "1", "-1", "1.0", "1e2", "-0", "4294967294", "4294967295", "4294967296", "9223372036854775808", "18446744073709551615", "18446744073709551616", "true", '"1"', "[]", "null"]
+    yield from (text.replace("{", f'{{"{name}":{it},', 1).encode() for name in ("history_limit", "version_limit") for it in numbers)
     for start in STARTS:
         yield from (json.dumps({**base, "dags": [{**base["dags"][0], "schedule": it, "start_date": start}]}).encode() for it in SCHEDULES)
     cycle = [{"task_id": "x", "upstream": ["y"]}, {"task_id": "y", "upstream": ["x"]}]

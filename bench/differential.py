@@ -4,9 +4,8 @@
   python3 bench/differential.py                       2,000 cases of seed 1, after the examples and the limits
   python3 bench/differential.py --cases 20000 --seed 7
   python3 bench/differential.py --program 'PATH/PROGRAM'
-  python3 bench/differential.py --has landed,changes  a program that also has the changes of runs, instances, pools and variables
-  python3 bench/differential.py --baseline --has landed,changes
-                                                      the plain Rust program that bench.py measures beside afplane
+  python3 bench/differential.py --has dags,variables  a program that has not all that the oracle takes it to have, or more
+  python3 bench/differential.py --baseline            the plain Rust program that bench.py measures beside afplane
   python3 bench/differential.py --write FOLDER --random-only --cases 300
                                                       the cases as files, for a program that is not proved yet
 
@@ -216,6 +215,8 @@ def fixed_cases(it, folder, write):
         it.case(f"worked: {title}", [*write(json.dumps({**base, **members}).encode())[:2], now], data)
     for n, data in enumerate(state_cases.fixed()):
         it.case(f"each operation {n}", words, data)
+    for n, data in enumerate(state_cases.fixed_rows()):
+        it.case(f"pools and variables {n}", words, data)
     for n, data in enumerate(config_cases.fixed_configs()):
         it.case(f"limit of configurations {n}", write(data), request_cases.list_request(b"test"))
     for n, (data, requests) in enumerate(policy_cases.fixed_full()):

@@ -196,6 +196,12 @@ def read_dags(config, pools):
     return dags
 
 
+def limit_of(config, name, most, default, obeyed, having):
+    """What a limit comes to: it is judged where it is read, and counts where it is obeyed."""
+    given = number(config, name, 1, most, default) if name in having else default
+    return given if obeyed in having else default
+
+
 def read_config(data, having):
     """The opening policy and state, and the limits of history and versions; members not brought yet are not looked at."""
     need(len(data) <= MOST_BYTES, "unreadable")
@@ -211,6 +217,6 @@ def read_config(data, having):
     state = State(read_dags(config, pools), (), pools, variables, 1)
     if "access_control" in having:
         policy = read_access(config, policy)
-    entries = number(config, "history_limit", 1, MOST_ENTRIES, 1_000_000) if "history_limit" in having else 1_000_000
-    versions = number(config, "version_limit", 1, MOST_VERSIONS, MOST_VERSIONS) if "version_limit" in having else MOST_VERSIONS
+    entries = limit_of(config, "history_limit", MOST_ENTRIES, 1_000_000, "full_history", having)
+    versions = limit_of(config, "version_limit", MOST_VERSIONS, MOST_VERSIONS, "full_versions", having)
     return policy, state, entries, versions

@@ -93,16 +93,24 @@ def table():
 
 OPERATIONS = table()
 
-# Names for sets of names: operations, members of the configuration that are read, and `pages`, the reading of `limit` and `offset`.
-LANDED = {"list_dags", "show_dag", "patch_dag", "list_runs", "trigger_run", "show_run", "list_tasks", "list_instances", "show_instance", "mark_run", "delete_run",
-          "clear_run", "clear_instances"}
+
+def required_on(resource):
+    """The operations whose first requirement is on this resource."""
+    return {it.name for it in OPERATIONS if it.needs and it.needs[0][1] == resource}
+
+
+# Names for sets of names: operations, members of the configuration that are read, and what else a program may have: `pages`, the reading of `limit`
+# and `offset`; `full_history` and `full_versions`, that the limits of the configuration are obeyed.
 GROUPS = {
-    "landed": LANDED,
-    "changes": {"mark_run", "delete_run", "clear_run", "clear_instances", "variables"}
-    | {it.name for it in OPERATIONS if it.needs and it.needs[0][1] in (POOLS, VARIABLES)},
-    "pages": {"pages", "list_entries", "history_limit"},
-    "policy": {it.name for it in OPERATIONS if it.on_policy} | {"access_control", "version_limit"},
+    "dags": required_on(DAGS),
+    "pools": required_on(POOLS),
+    "variables": required_on(VARIABLES) | {"variables"},
+    "limits": {"history_limit", "version_limit"},
+    "pages": {"pages", "list_entries", "full_history"},
+    "policy": {it.name for it in OPERATIONS if it.on_policy} | {"access_control", "full_versions"},
 }
+LANDED = GROUPS["dags"] | GROUPS["pools"] | GROUPS["variables"] | GROUPS["limits"]
+GROUPS["landed"] = LANDED
 GROUPS["all"] = set().union(*GROUPS.values())
 
 

@@ -12,8 +12,6 @@ RESOURCES = [*config_cases.RESOURCES, "DAG:a", "DAG:b", "DAG:a.b", "DAG:gone"]
 ACTIONS = ["can_create", "can_read", "can_edit", "can_delete"]
 BAD_PAIRS = [("can_fly", "DAGs"), ("can_create", "DAG:a"), ("can_read", "DAG Run:a"), ("can_read", "dags"), ("", "x"), ("can_read", "DAG:a b")]
 BAD_LISTS = ["x", [1], [None], [{}], [{"name": 1}], [{"name": None}], {}, [{"action": {"name": "can_read"}}], [["can_read", "DAGs"]]]
-KEYS = ["k", "K", "a b", "a/b", "~", "%", '"\\', "k" * 250, "none"]
-VALUES = ["v", "", "\u00e9\U0001f600", '"\\/\b\f\n\r\t\u0000\u001f\u007f\u2028', "x" * 300, "null", "v2"]
 TOKENS = [b"root-token", b"uma-token", b"o0-token", b"fresh", b"later"]
 DIGESTS = [hashlib.sha256(it).hexdigest() for it in TOKENS] + [hashlib.sha256(b"fresh").hexdigest().upper()]
 BAD_DIGESTS = ["0" * 63, "0" * 65, "g" * 64, "", 1]
@@ -94,13 +92,12 @@ def add_members(rng, made, has):
     odd = [None, "x", -1, [], {}, [{"key": 1}]]
     names = [it["name"] for it in made["roles"]] + ["Viewer", "Admin", "Public"]
     if "variables" in has and rng.random() < 0.6:
-        keys = rng.sample(KEYS, rng.randint(0, 5)) if rng.random() < 0.9 else [f"v{n}" for n in range(rng.randint(98, 130))]
-        made["variables"] = [{"key": it, "value": rng.choice(VALUES)} for it in keys]
+        made["variables"] = config_cases.variable_rows(rng)
     elif "variables" not in has and rng.random() < 0.2:
         made["variables"] = rng.choice(odd)
-    for name in ("history_limit", "version_limit"):
+    for name, values in config_cases.LIMITS.items():
         if name in has and rng.random() < 0.2:
-            made[name] = rng.choice([1, 2, 5, 30, 2**32 - 2, None])
+            made[name] = rng.choice(values)
         elif name not in has and rng.random() < 0.2:
             made[name] = rng.choice(odd)
     for row in made["dags"]:
@@ -112,14 +109,14 @@ def add_members(rng, made, has):
 
 def add_fault(rng, made):
     """Spoils one of these members."""
-    which = rng.choice(["variables", "variables", "access_control", "access_control", "history_limit", "version_limit"])
+    which = rng.choice(["variables", "access_control", "access_control", "limits"])
     if which == "variables":
         row = {"key": rng.choice(["k", "k2", "", "\u00e9", "k" * 251, 1, None]), "value": rng.choice(["v", "v", 1, None, []])}
         made["variables"] = rng.choice([[row], [{"key": "k", "value": ""}, row], [{"key": "k"}], row, 1, None])
-    elif which == "access_control" and isinstance(made.get("dags"), list) and made["dags"] and isinstance(row := rng.choice(made["dags"]), dict):
+    elif which == "limits":
+        config_cases.limit_fault(rng, made)
+    elif isinstance(made.get("dags"), list) and made["dags"] and isinstance(row := rng.choice(made["dags"]), dict):
         row["access_control"] = rng.choice([access(rng, 1), access(rng, 1), [], "x", {"Viewer": {"DAGs": []}}, {"": 1}, {"": ["x"]}, {"nobody": ["can_fly"]}])
-    else:
-        made[which] = rng.choice([0, 1, 2**32 - 2, 2**32 - 1, 2**32, -1, 1.0, "1", True, []])
 
 
 def fixed_full():
@@ -134,5 +131,9 @@ def fixed_full():
     for name, (path, found, body) in rows.items():
         config = json.dumps({**base, name: base.get(name, []) + found}).encode()
         bodies = [(body % ((it, n) if body.count("%") > 1 else it)).encode() for n, it in enumerate(["x", "x", "y", "y"])]
-        requests = b"".join(request_cases.with_body(b"POST %s HTTP/1.1" % path.encode(), b"test", it) for it in bodies)
+        add = [request_cases.with_body(b"POST %s HTTP/1.1" % path.encode(), b"test", it) for it in bodies]
+        fields = [b"Host: h", b"Authorization: Bearer test"]
+        gone = request_cases.head(b"DELETE %s/x HTTP/1.1" % path.encode(), fields)
+        listing = request_cases.head(b"GET %s HTTP/1.1" % path.encode(), fields)
+        requests = b"".join([*add, listing, gone, *add, listing])
         yield config, requests + request_cases.list_request(b"test")

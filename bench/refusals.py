@@ -3,7 +3,7 @@
 
   python3 bench/refusals.py                           the examples, and each kind of change: a DAG paused, a run triggered
   python3 bench/refusals.py --program 'PATH/PROGRAM'
-  python3 bench/refusals.py --has landed,changes      also the changes of a program that has those
+  python3 bench/refusals.py --has dags,variables      the changes of these kinds alone
   python3 bench/refusals.py --tests                   each test of the crates below af_http whose tests `rt test` has built
 
 A run is refused its first allocation, the next its second, and so on, until a run meets none to refuse. Each is to end in
@@ -40,8 +40,9 @@ REPLY_LOST = (
 REFUSED = b"afplane: configuration refused: memory\n"
 MOST = 100_000
 INPUTS = [("base.json", "viewer.http"), ("team.json", "one-team.http"), ("team.json", "denied.http"), ("team.json", "wrong-token.http"), ("base.json", "pause.http"), ("team.json", "morning.http")]
-INPUTS += [("team.json", "everything.http")]
-# Changes over base.json, of each kind one or more, after what has to stand before them; what they do is looked at, and they are asked for again.
+INPUTS += [("team.json", it) for it in ("everything.http", "pools.http", "variables.http")]
+# Changes over base.json, of each kind one or more, after what has to stand before them; what they do is looked at, and they are asked for again. Of
+# one kind the last is the one that is done before others.
 CHANGES = [
     ("patch_dag", "PATCH /dags/b", '{"is_paused":true}', "/dags/b"),
     ("patch_dag", "PATCH /dags/a", '{"is_paused":false}', "/dags"),
@@ -54,11 +55,14 @@ CHANGES = [
     ("delete_run", "DELETE /dags/b/dagRuns/r1", "", "/dags/b/dagRuns"),
     ("clear_run", "POST /dags/b/dagRuns/r1/clear", '{"dry_run":false}', "/dags/b/dagRuns/r1"),
     ("clear_instances", "POST /dags/b/clearTaskInstances", '{"dry_run":false,"only_failed":false}', "/dags/b/dagRuns/r1/taskInstances"),
+    ("add_pool", "POST /pools", '{"name":"q \\u0072","slots":0}', "/pools/q%20r"),
     ("add_pool", "POST /pools", '{"name":"p","slots":2}', "/pools"),
     ("set_pool", "PATCH /pools/default_pool", '{"slots":2}', "/pools"),
     ("delete_pool", "DELETE /pools/p", "", "/pools"),
+    ("add_variable", "POST /variables", '{"key":"a \\"b\\"","value":"' + "\\n" * 300 + '"}', "/variables/a%20%22b%22"),
     ("add_variable", "POST /variables", '{"key":"k","value":"v"}', "/variables"),
     ("set_variable", "PATCH /variables/k", '{"value":"w"}', "/variables"),
+    ("set_variable", "PATCH /variables/k", '{"value":"' + "w" * 300 + '"}', "/variables/k"),
     ("delete_variable", "DELETE /variables/k", "", "/variables"),
     ("add_role", "POST /roles", '{"name":"X","actions":[]}', "/roles"),
     ("set_role", "PATCH /roles/EditB", '{"actions":[]}', "/roles/EditB"),

@@ -6,7 +6,7 @@ import config_cases
 import policy_cases
 import request_cases
 from body_cases import members, needed, part, spelled
-from policy_cases import KEYS, VALUES
+from config_cases import KEYS, VALUES
 from request_cases import odd
 
 NOWS = [
@@ -46,6 +46,8 @@ def clear_body(rng, wild, focus):
     return found
 
 
+# Names whose first eight bytes are one, or that begin one another: where a row stands among others turns on each byte.
+CLOSE = ["n" * 8, "n" * 9, "n" * 7, "n" * 8 + " ", "n" * 8 + "~", "n" * 7 + "m~", "n" * 8 + "N", "n " * 8, "n"]
 SLOTS = ([0, 1, 2, 128, 1_000_000], [1_000_001, -1, 1.0, "1", 2**63, 2**64])
 # name, method and path, what its body is made of; how often it is taken stands in `weights`
 MAKERS = [
@@ -64,19 +66,19 @@ MAKERS = [
     ("clear_run", "POST /dags/D/dagRuns/R/clear", lambda rng, wild, focus: members(rng, wild, dry_run=([True, False, False], ["no", 0]))),
     ("clear_instances", "POST /dags/D/clearTaskInstances", clear_body),
     ("list_pools", "GET /pools", None),
-    ("add_pool", "POST /pools", lambda rng, wild, focus: needed(rng, wild, name=([focus["P"], *POOLS], ["", "\u00e9", "P" * 251, "a\tb", 1]), slots=SLOTS)),
+    ("add_pool", "POST /pools", lambda rng, wild, focus: needed(rng, wild, name=([focus["P"], *POOLS, *CLOSE], ["", "\u00e9", "P" * 251, "a\tb", 1]), slots=SLOTS)),
     ("show_pool", "GET /pools/P", None),
     ("set_pool", "PATCH /pools/P", lambda rng, wild, focus: needed(rng, wild, slots=SLOTS)),
     ("delete_pool", "DELETE /pools/P", None),
     ("list_variables", "GET /variables", None),
-    ("add_variable", "POST /variables", lambda rng, wild, focus: needed(rng, wild, key=([focus["K"], *KEYS], ["", "\u00e9", "k" * 251, "a\nb", 1]), value=(VALUES, [1, [], True]))),
+    ("add_variable", "POST /variables", lambda rng, wild, focus: needed(rng, wild, key=([focus["K"], *KEYS, *CLOSE], ["", "\u00e9", "k" * 251, "a\nb", 1]), value=(VALUES, [1, [], True]))),
     ("show_variable", "GET /variables/K", None),
     ("set_variable", "PATCH /variables/K", lambda rng, wild, focus: needed(rng, wild, value=(VALUES, [1, [], True]))),
     ("delete_variable", "DELETE /variables/K", None),
     ("list_entries", "GET /eventLogs", None),
     *policy_cases.MAKERS,
 ]
-HEAVY = {"trigger_run": 6, "mark_run": 3, "show_run": 2, "clear_instances": 2, "patch_dag": 2}
+HEAVY = {"trigger_run": 6, "mark_run": 3, "show_run": 2, "clear_instances": 2, "patch_dag": 2, "add_pool": 3, "add_variable": 3, "set_pool": 2, "set_variable": 2}
 METHODS = [b"GET", b"POST", b"PATCH", b"DELETE", b"PUT", b"HEAD", b"post"]
 
 
@@ -89,12 +91,13 @@ class Asker:
         self.makers = [it for it in MAKERS if it[0] in has]
         self.others = [it for it in MAKERS if it[0] not in has]
         self.focus = self.look_elsewhere()
-        self.weights = [HEAVY.get(it[0], 1) for it in self.makers]
+        rows = 20 if rng.random() < 0.3 else 1  # how much of it is of pools and variables
+        self.weights = [HEAVY.get(it[0], 1) * (rows if "/pools" in it[1] or "/variables" in it[1] else 1) for it in self.makers]
 
     def look_elsewhere(self):
         """What is asked for next, mostly: one DAG, run, task, pool, variable, role and user."""
         rng = self.rng
-        names = {"D": [*self.dags[:2] * 4, *self.dags, "gone"], "R": RUN_IDS[:3] * 5 + RUN_IDS, "T": TASK_IDS, "P": POOLS, "K": KEYS}
+        names = {"D": [*self.dags[:2] * 4, *self.dags, "gone"], "R": RUN_IDS[:3] * 5 + RUN_IDS, "T": TASK_IDS, "P": POOLS + CLOSE, "K": KEYS + CLOSE}
         names.update({"O": policy_cases.ROLE_NAMES, "U": policy_cases.USER_NAMES * 4 + ["root"]})
         return {it: rng.choice(of) for it, of in names.items()}
 
@@ -145,11 +148,23 @@ class Asker:
         lists = [request_cases.head(b"GET /api/v1/dags/" + it + b"/dagRuns HTTP/1.1", [b"Host: h", b"Authorization: Bearer root-token"]) for it in (self.dags[0].encode(), b"~")]
         return b"".join([*(request_cases.with_body(first, self.tokens[0], it) for it in bodies), *lists])
 
+    def many_rows(self):
+        """About as many pools or variables as a page holds, in no order of names, then some of them gone, and their lists before and after."""
+        rng = self.rng
+        path, body = rng.choice([(b"/api/v1/pools", b'{"name":"%s","slots":3}'), (b"/api/v1/variables", b'{"key":"%s","value":"%s"}')])
+        names = [b"%s%d" % (rng.choice([b"m", b"n" * 8]), n) for n in rng.sample(range(1000), rng.randint(95, 130))]
+        fields = [b"Host: h", b"Authorization: Bearer root-token"]
+        added = [request_cases.with_body(b"POST " + path + b" HTTP/1.1", b"root-token", body.replace(b"%s", it)) for it in names]
+        gone = [request_cases.head(b"DELETE " + path + b"/" + it + b" HTTP/1.1", fields) for it in rng.choices(names, k=rng.randint(1, 60))]
+        listing = request_cases.head(b"GET " + path + b" HTTP/1.1", fields)
+        return b"".join([*added, listing, *gone, listing])
+
     def connection(self):
         rng = self.rng
         wild = rng.choice([0.01, 0.05, 0.05, 0.2, 0.5])
-        data = self.many_runs() if rng.random() < 0.03 else b""
-        count = rng.choice([3, 10, 40, 100, 200])
+        chance = rng.random()
+        data = self.many_runs() if chance < 0.03 else self.many_rows() if chance < 0.07 else b""
+        count = rng.choice([3, 10, 40, 100, 200, 400])
         pieces = [self.request(0, ["trigger_run"]) for _ in range(rng.choice([0, 0, 3, 8]))]
         for _ in range(count):
             pieces.append(self.request(wild) + (self.look() if rng.random() < 0.3 else b""))
@@ -183,11 +198,37 @@ def config(rng, has):
     return made, strong + [name.encode() + b"-token" for name in names] + tokens
 
 
+def by_adam(asked, body=b""):
+    """A request over examples/base.json, by one who may do everything."""
+    method, path = asked.split(b" ")
+    return request_cases.with_body(method + b" /api/v1" + path + b" HTTP/1.1", b"admin", body)
+
+
+def fixed_rows():
+    """Pools and variables at their limits, over examples/base.json: numbers as they may be spelled, texts of each length, and long lists."""
+    numbers = b"0 1 -1 1000000 1000001 1.0 1e2 -0 00 18446744073709551615 18446744073709551616 9223372036854775808 null true [] {} 1e400".split()
+    numbers += [b'"1"', b" 7\n", b"3,\"slots\":4", b'4,"slots":"x"', b"+1", b"0x1", b""]
+    for number in numbers:
+        added = by_adam(b"POST /pools", b'{"name":"p","slots":' + number + b"}")
+        yield added + by_adam(b"PATCH /pools/default_pool", b'{"slots":' + number + b"}") + added + by_adam(b"GET /pools")
+    for text in [it.encode() for it in ["", "\u00e9", "\u2028", "\x7f", "\U0001f600", "\\ud83d\\ude00", "\\ud83d", "\\u0000", "\\/", "\t", '\\"', "\\\\", "\\x", "a" * 250, "a" * 251, "\\u0061" * 250]] + [b"\xff", b"\xc3"]:
+        yield by_adam(b"POST /pools", b'{"name":"' + text + b'","slots":1}') + by_adam(b"POST /variables", b'{"key":"' + text + b'","value":"v"}') + by_adam(
+            b"POST /variables", b'{"key":"k","value":"' + text + b'"}') + by_adam(b"PATCH /variables/k", b'{"value":"w' + text + b'"}') + by_adam(b"GET /variables") + by_adam(b"GET /pools")
+    for length in (65535, 65536, 65537):
+        body = b'{"key":"k","value":""}'
+        yield by_adam(b"POST /variables", body[:-2] + b"v" * (length - len(body)) + body[-2:]) + by_adam(b"GET /variables/k") + by_adam(b"DELETE /variables/k") + by_adam(b"GET /variables")
+    for count, size in ((30, 60_000), (110, 10)):
+        added = [by_adam(b"POST /variables", b'{"key":"%d","value":"%s"}' % (n * 7919 % count, b"v\\n" * (size // 3))) for n in range(count)]
+        changed = [by_adam(b"PATCH /variables/%d" % n, b'{"value":"%d"}' % n) for n in range(0, count, 2)]
+        yield b"".join([*added, by_adam(b"GET /variables"), *changed, by_adam(b"GET /variables"), *(by_adam(b"DELETE /variables/%d" % n) for n in range(0, count, 3)), by_adam(b"GET /variables")])
+
+
 def fixed():
     """For each operation one connection over examples/base.json: each user, body, and name that is there or not."""
     begin = request_cases.with_body(b"POST /api/v1/dags/b/dagRuns HTTP/1.1", b"abc", b'{"dag_run_id":"r1"}')
+    begin += by_adam(b"POST /pools", b'{"name":"p","slots":2}') + by_adam(b"POST /variables", b'{"key":"k","value":"v"}')
     tokens = [b"admin", b"test", b"foo", b"bar", b"hello", b"abc", b"secret", b"nope"]
-    names = {"D": ["b", "gone", "~", "a b"], "R": ["r1", "gone", "~"], "T": ["t", "gone"], "P": ["default_pool", "gone"], "K": ["k", ""]}
+    names = {"D": ["b", "gone", "~", "a b"], "R": ["r1", "gone", "~"], "T": ["t", "gone"], "P": ["default_pool", "p", "gone", ""], "K": ["k", "gone", ""]}
     names.update({"O": ["OnlyB", "Viewer", "gone"], "U": ["bob", "gone"]})
     good = b'{"is_paused":true,"name":"n","slots":1,"key":"k","value":"v","state":"success","actions":[],"username":"n","roles":[],"token_sha256":"%s"}' % (b"0" * 64)
     for _, form, _ in MAKERS:

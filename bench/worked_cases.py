@@ -37,8 +37,15 @@ def pool_row(name, slots):
     return f'{{"name":"{name}","occupied_slots":0,"open_slots":{slots},"queued_slots":0,"running_slots":0,"slots":{slots}}}'
 
 
+def variable_row(key, value):
+    return f'{{"key":"{key}","value":"{value}"}}'
+
+
 TASK = '{"downstream_task_ids":[],"pool":"default_pool","pool_slots":1,"priority_weight":1,"retries":0,"task_id":"t","trigger_rule":"all_success"}'
 ENTRY = '{"dag_id":"b","event":"patch_dag","event_log_id":1,"owner":"uma","policy_version":0,"run_id":null,"task_id":null,"when":"%s"}' % MIDNIGHT
+ADDED = '{"dag_id":null,"event":"post_variable","event_log_id":1,"owner":"adam","policy_version":0,"run_id":null,"task_id":null,"when":"%s"}' % MIDNIGHT
+ONE_IN_Q_R = [{"dag_id": "a", "tasks": [{"task_id": "t", "pool": "q r"}, {"task_id": "u"}]}]
+TWO_VARIABLES = [{"key": "a", "value": "\u00e9"}, {"key": "B", "value": ""}]
 FIVE_RUNS = [
     ("uma", f"POST /dags/{dag}/dagRuns", '{"dag_run_id":"r%d","logical_date":"2024-01-0%dT00:00:00Z"}' % (n, n), 200, on_day(dag, n), n)
     for n, dag in enumerate("abbab", 1)
@@ -48,6 +55,7 @@ ROLE = '{"actions":[{"action":{"name":"can_read"},"resource":{"name":"DAG:b"}}],
 CLEARED = '{"task_instances":[{"dag_id":"b","dag_run_id":"r2","logical_date":"2024-01-02T00:00:00+00:00","task_id":"t"}]}'
 R2 = "/dags/b/dagRuns/r2"
 SYNC, RUNS, CLEAR = "POST /own/dags/b/sync", "/dags/b/dagRuns", "POST /dags/b/clearTaskInstances"
+Q_R = "/pools/q%20r"
 ON, OFF = '{"is_paused":true}', '{"is_paused":false}'
 ENDED = f'"{MIDNIGHT}"'
 
@@ -68,7 +76,7 @@ CONNECTIONS = [
         ("edna", f"POST {RUNS}", "{", 403, "missing permission DAG Runs.can_create", 0),
         ("uma", f"POST {RUNS}", "{", 400, "bad body", 0),
     ]),
-    ("a denial, then a body, then an absence, then a conflict", "landed,changes", NOW, {}, [
+    ("a denial, then a body, then an absence, then a conflict", "landed", NOW, {}, [
         ("edna", "PATCH /dags/gone/dagRuns/x", '{"state":"x"}', 403, "missing permission DAG:gone.can_edit", 0),
         ("edna", "PATCH /dags/b/dagRuns/x", '{"state":"x"}', 403, "missing permission DAG Runs.can_edit", 0),
         ("uma", "PATCH /dags/gone/dagRuns/x", '{"state":"x"}', 400, "bad member: state", 0),
@@ -111,7 +119,7 @@ CONNECTIONS = [
         ("bob", "GET /dags/~/dagRuns?limit=-1", "", 403, "missing permission DAG Runs.can_read", 5),
         ("vera", "GET /dags/b/tasks?limit=x", "", 200, listed("tasks", 1, TASK), 5),
     ]),
-    ("marks and clears", "landed,changes", NOW, {}, [
+    ("marks and clears", "landed", NOW, {}, [
         *FIVE_RUNS[:3],
         ("uma", f"PATCH {R2}", '{"state":"queued"}', 200, on_day("b", 2), 3),
         ("uma", f"PATCH {R2}", '{"state":"success"}', 200, run_row("b", "r2", "2024-01-02T00:00:00+00:00", "success", ENDED), 4),
@@ -130,29 +138,93 @@ CONNECTIONS = [
         ("uma", f"DELETE {R2}", "", 204, "", 7),
         ("uma", f"DELETE {R2}", "", 404, "no such run: r2", 7),
     ]),
-    ("pools and variables", "landed,changes", NOW, {}, [
+    ("pools and variables", "landed", NOW, {}, [
         ("adam", "POST /pools", '{"name":"p","slots":2}', 200, pool_row("p", 2), 1),
         ("adam", "POST /pools", '{"name":"p","slots":2}', 409, "exists: p", 1),
         ("adam", "GET /pools", "", 200, listed("pools", 2, pool_row("default_pool", 128), pool_row("p", 2)), 1),
+        ("adam", "GET /pools/p", "", 200, pool_row("p", 2), 1),
         ("adam", "PATCH /pools/p", '{"slots":2}', 200, pool_row("p", 2), 1),
         ("adam", "PATCH /pools/p", '{"slots":0}', 200, pool_row("p", 0), 2),
         ("adam", "PATCH /pools/p", '{"slots":1000001}', 400, "bad member: slots", 2),
         ("adam", "DELETE /pools/default_pool", "", 409, "default pool", 2),
         ("adam", "DELETE /pools/p", "", 204, "", 3),
         ("adam", "DELETE /pools/p", "", 404, "no such pool: p", 3),
-        ("adam", "POST /variables", '{"key":"k","value":"v"}', 200, '{"key":"k","value":"v"}', 4),
+        ("adam", "POST /variables", '{"key":"k","value":"v"}', 200, variable_row("k", "v"), 4),
         ("adam", "POST /variables", '{"key":"k","value":"w"}', 409, "exists: k", 4),
-        ("adam", "GET /variables", "", 200, listed("variables", 1, '{"key":"k","value":"v"}'), 4),
-        ("adam", "PATCH /variables/k", '{"value":"\\u0001\\u007f"}', 200, '{"key":"k","value":"\\u0001\x7f"}', 5),
+        ("adam", "GET /variables", "", 200, listed("variables", 1, variable_row("k", "v")), 4),
+        ("adam", "PATCH /variables/k", '{"value":"\\u0001\\u007f"}', 200, variable_row("k", "\\u0001\x7f"), 5),
+        ("adam", "PATCH /variables/k", '{"value":"\\u0001\x7f"}', 200, variable_row("k", "\\u0001\x7f"), 5),
         ("adam", "DELETE /variables/k", "", 204, "", 6),
         ("adam", "GET /variables/k", "", 404, "no such variable: k", 6),
         ("vera", "GET /pools", "", 403, "missing permission Pools.can_read", 6),
+    ]),
+    ("of a pool: a denial, then a body, then an absence, then a conflict", "landed", NOW, {}, [
+        ("uma", "POST /pools", "{", 403, "missing permission Pools.can_create", 0),
+        ("adam", "POST /pools", "{", 400, "bad body", 0),
+        ("adam", "POST /pools", "[]", 400, "bad body", 0),
+        ("adam", "POST /pools", '{"slots":-1}', 400, "bad member: name", 0),
+        ("adam", "POST /pools", '{"name":"","slots":-1}', 400, "bad member: name", 0),
+        ("adam", "POST /pools", '{"name":"default_pool","slots":-1}', 400, "bad member: slots", 0),
+        ("adam", "POST /pools", '{"name":"default_pool","slots":1.0}', 400, "bad member: slots", 0),
+        ("adam", "POST /pools", '{"name":"default_pool","slots":null}', 400, "bad member: slots", 0),
+        ("adam", "POST /pools", '{"name":"default_pool","slots":1}', 409, "exists: default_pool", 0),
+        ("uma", "PATCH /pools/gone", '{"slots":"x"}', 403, "missing permission Pools.can_edit", 0),
+        ("adam", "PATCH /pools/gone", '{"slots":"x"}', 400, "bad member: slots", 0),
+        ("adam", "PATCH /pools/gone", '{"slots":1}', 404, "no such pool: gone", 0),
+        ("adam", "PATCH /pools/default_pool", '{"slots":1000000}', 200, pool_row("default_pool", 1000000), 1),
+        ("uma", "DELETE /pools/gone", "", 403, "missing permission Pools.can_delete", 1),
+        ("adam", "DELETE /pools/gone", "", 404, "no such pool: gone", 1),
+        ("adam", "POST /pools", '{"name":"q r","slots":0,"note":1}', 200, pool_row("q r", 0), 2),
+        ("adam", f"GET {Q_R}", "", 200, pool_row("q r", 0), 2),
+        ("adam", "GET /pools/%C3%A9", "", 404, "no such path", None, None),
+        ("adam", "GET /pools/", "", 404, "no such path", None, None),
+        ("adam", "PUT /pools", "", 405, "method not allowed", None, None),
+        ("adam", "POST /pools/p", "", 405, "method not allowed", None, None),
+    ]),
+    ("pools that tasks name", "landed", NOW, {"pools": [{"name": "q r", "slots": 1}, {"name": "default_pool", "slots": 5}], "dags": ONE_IN_Q_R}, [
+        ("adam", "GET /pools", "", 200, listed("pools", 2, pool_row("default_pool", 5), pool_row("q r", 1)), 0),
+        ("adam", f"DELETE {Q_R}", "", 409, "pool in use: q r", 0),
+        ("adam", "DELETE /pools/default_pool", "", 409, "default pool", 0),
+        ("adam", f"PATCH {Q_R}", '{"slots":0}', 200, pool_row("q r", 0), 1),
+    ]),
+    ("of a variable: a denial, then a body, then an absence, then a conflict", "landed", NOW, {"variables": TWO_VARIABLES}, [
+        ("adam", "GET /variables", "", 200, listed("variables", 2, variable_row("B", ""), variable_row("a", "é")), 0),
+        ("uma", "GET /variables", "", 403, "missing permission Variables.can_read", 0),
+        ("uma", "POST /variables", '{"key":"","value":1}', 403, "missing permission Variables.can_create", 0),
+        ("adam", "POST /variables", '{"key":"","value":1}', 400, "bad member: key", 0),
+        ("adam", "POST /variables", '{"key":"a","value":1}', 400, "bad member: value", 0),
+        ("adam", "POST /variables", '{"key":"a","value":null}', 400, "bad member: value", 0),
+        ("adam", "POST /variables", '{"key":"a","value":""}', 409, "exists: a", 0),
+        ("uma", "PATCH /variables/c", "{", 403, "missing permission Variables.can_edit", 0),
+        ("adam", "PATCH /variables/c", "{", 400, "bad body", 0),
+        ("adam", "PATCH /variables/c", '{"value":"x"}', 404, "no such variable: c", 0),
+        ("adam", "POST /variables", '{"key":"A/\\u0022","value":"x"}', 200, variable_row('A/\\"', "x"), 1),
+        ("adam", "GET /variables/A%2F%22", "", 200, variable_row('A/\\"', "x"), 1),
+        ("adam", "PATCH /variables/A%2f%22", '{"value":"x","key":"y"}', 200, variable_row('A/\\"', "x"), 1),
+        ("uma", "DELETE /variables/c", "", 403, "missing permission Variables.can_delete", 1),
+        ("adam", "DELETE /variables/c", "", 404, "no such variable: c", 1),
+        ("adam", "DELETE /variables/A%2F%22", "", 204, "", 2),
+        ("adam", "GET /variables", "", 200, listed("variables", 2, variable_row("B", ""), variable_row("a", "é")), 2),
+    ]),
+    ("limits that are read, and not obeyed yet", "landed", NOW, {"history_limit": 1, "version_limit": 1}, [
+        ("adam", "POST /pools", '{"name":"p","slots":2}', 200, pool_row("p", 2), 1),
+        ("adam", "DELETE /pools/p", "", 204, "", 2),
     ]),
     ("the audit", "landed,pages", NOW, {}, [
         ("uma", "PATCH /dags/b", ON, 200, None, 1),
         ("uma", "PATCH /dags/b", ON, 200, None, 1),
         ("adam", "GET /eventLogs", "", 200, listed("event_logs", 1, ENTRY), 1),
         ("uma", "GET /eventLogs", "", 403, "missing permission Audit Logs.can_read", 1),
+    ]),
+    ("the limit of the history, of pools and variables", "landed,pages", NOW, {"history_limit": 1}, [
+        ("adam", "POST /variables", '{"key":"k","value":"v"}', 200, variable_row("k", "v"), 1),
+        ("adam", "POST /variables", '{"key":"k","value":"v"}', 409, "exists: k", 1),
+        ("adam", "POST /variables", '{"key":"l","value":"v"}', 507, "history full", 1),
+        ("adam", "PATCH /variables/k", '{"value":"v"}', 200, variable_row("k", "v"), 1),
+        ("adam", "DELETE /variables/k", "", 507, "history full", 1),
+        ("adam", "POST /pools", '{"name":"p","slots":2}', 507, "history full", 1),
+        ("adam", "DELETE /pools/default_pool", "", 409, "default pool", 1),
+        ("adam", "GET /eventLogs", "", 200, listed("event_logs", 1, ADDED), 1),
     ]),
     ("the limit of the history", "landed,pages", NOW, {"history_limit": 3}, [
         ("uma", "PATCH /dags/b", ON, 200, None, 1),
@@ -209,4 +281,4 @@ def request(name, asked, body=""):
     path = path if path.startswith("/own/") else "/api/v1" + path
     head = f"{method} {path} HTTP/1.1\r\nHost: h\r\n"
     head += f"Authorization: Bearer {TOKENS[name]}\r\n" if name else ""
-    return (head + (f"Content-Length: {len(body)}\r\n" if body else "") + "\r\n" + body).encode()
+    return (head + (f"Content-Length: {len(body.encode())}\r\n" if body else "") + "\r\n" + body).encode()

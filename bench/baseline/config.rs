@@ -255,6 +255,9 @@ pub fn read(bytes: &[u8]) -> Judged<(Policy, Plane)> {
         }
         dags.push(dag);
     }
+    // Read and judged; not obeyed yet.
+    number(&config, "history_limit", 1, 4_294_967_294, 1_000_000)?;
+    number(&config, "version_limit", 1, 4_294_967_295, 4_294_967_295)?;
     dags.sort_unstable_by(|a, b| a.id.cmp(&b.id));
     let places = dags.iter().enumerate().map(|(place, it)| (it.id.clone(), place)).collect();
     Ok((policy, Plane { dags, places, runs: Vec::new(), count: 0, pools, variables, entries: 0 }))
