@@ -1,4 +1,5 @@
 pub mod Definition
+pub mod FaultTexts
 pub mod Graph
 pub mod Laws
 pub mod Limits

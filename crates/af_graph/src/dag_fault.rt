@@ -45,6 +45,11 @@ impl<X: Drop, T> From<AllocFailed<X>> for DagFault<T> {
 }
 
 impl fmt::Display for DagFault {
+    ghost use Rattle.std.specs.Prelude.{Some};
+    ghost use Rattle.af_graph.specs.FaultTexts.{dag_text};
+
+    ghost output = { λ fault. Some (dag_text fault) };
+
     fn fmt<W: fmt::Write>(&self, f: &mut fmt::Formatter<W>) -> fmt::Result {
         match self {
             DagFault::NoTask => f.write_str("no task"),

@@ -49,12 +49,7 @@ impl<'a> Row for MarkedRow<'a> {
 }
 
 /// The members of a run's row, as it stands once the run is marked at a moment: where it is in the state already, its dates stay.
-fn put_marked(
-    out: &mut Text,
-    run: &Run,
-    mark: Mark,
-    at: Instant,
-) -> Result<(), AllocError>
+fn put_marked(out: &mut Text, run: &Run, mark: Mark, at: Instant) -> Result<(), AllocError>
     ensures { OnOk result (Adds false out.old out.new (run_fields (marked_run mark at run.now))) }
 {
     let start_date = start_of(run, mark);

@@ -4,6 +4,7 @@ pub mod Chains
 pub mod Clears
 pub mod Codes
 pub mod DagLists
+pub mod FaultTexts
 pub mod Index
 pub mod Instances
 pub mod Laws

@@ -99,7 +99,7 @@ impl Run {
     }
 
     /// Whether one of its instances is queued or running.
-    fn holds_any(&self) -> bool
+    pub fn holds_any(&self) -> bool
         ensures { result ≡ holds_any self.now }
     {
         self.instances.as_slice().iter().any(|instance| matches!(

@@ -26,6 +26,11 @@ impl From<AllocError> for RunFault {
 }
 
 impl fmt::Display for RunFault {
+    ghost use Rattle.std.specs.Prelude.{Some};
+    ghost use Rattle.af_runs.specs.FaultTexts.{run_text};
+
+    ghost output = { λ fault. Some (run_text fault) };
+
     fn fmt<W: fmt::Write>(&self, f: &mut fmt::Formatter<W>) -> fmt::Result {
         f.write_str(match self {
             RunFault::RunExists => "the DAG has a run of that id",

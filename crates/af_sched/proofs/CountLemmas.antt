@@ -19,7 +19,8 @@ use Rattle.af_names.proofs.OrderLemmas.{order-take}
 use Rattle.af_pool.specs.Occupants.{OccupantRow, holds_slots, is_there_in, slots_in}
 use Rattle.af_pool.specs.Pools.{has_pool, name_of, pool_of}
 use Rattle.af_pool.specs.declared.pool.Pool.{Pool}
-use Rattle.af_runs.specs.Busy.{busy_of, is_busy, is_held}
+use Rattle.af_graph.specs.declared.task_spec.TaskSpec.{TaskSpec}
+use Rattle.af_runs.specs.Busy.{busy_of, holds_any, is_busy, is_held}
 use Rattle.af_runs.specs.declared.instance.Instance.{Instance}
 use Rattle.af_runs.specs.declared.run.Run.{Run}
 use Rattle.af_sched.specs.Counting.{CountsMore, count_of, counts_of, with_slots}
@@ -186,6 +187,24 @@ not_state task_state.Failed not = (refl, refl)
 not_state task_state.Skipped not = (refl, refl)
 not_state task_state.UpstreamFailed not = (refl, refl)
 not_state task_state.UpForRetry not = (refl, refl)
+
+-- a run of which no instance is queued or running
+pub nothing_held : (tasks : List TaskSpec) (run : Run) (pools : List Pool) (counts : List Held) → holds_any run ≡ false → CountsMore (placed_of tasks run) pools counts counts
+nothing_held tasks run pools counts none seen are = are ∙ sym (all pools)
+  where
+    apart : (x : Placed) → Contains (placed_of tasks run) x → is_held x.instance.state ≡ false
+    apart x has = none_placed (λ (instance : Instance). is_held instance.state) tasks run none x has
+
+    same : (state : TaskState) (name : List ℕ) → ((s : TaskState) → is_held s ≡ false → same_state s state ≡ false) → slots_in state name (map occupant_of (seen ++ placed_of tasks run)) ≡ slots_in state name (map occupant_of seen)
+    same state name other =
+        let both = slots_append state name seen (placed_of tasks run) in
+        let nothing = slots_none state name (placed_of tasks run) (λ x has. other x.instance.state (apart x has)) in
+        omega (arith, both, nothing)
+
+    all : (ps : List Pool) → counts_of (seen ++ placed_of tasks run) ps ≡ counts_of seen ps
+    all [] = refl
+    all (pool ∷ ps) =
+        λ i. told (same task_state.Queued pool.name (λ s not. (not_state s not).0) i) (same task_state.Running pool.name (λ s not. (not_state s not).1) i) ∷ all ps i
 
 module _ (dags : List DagRow) (name : List ℕ) where
   abbrev of_run : Run → List Placed

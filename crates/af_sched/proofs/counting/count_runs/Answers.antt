@@ -22,7 +22,7 @@ loop-run-preserved c =
     ∙ sym (flat_map-append (λ (r : Run). placed_of (tasks_of c.args.dags.now r.dag_id) r) so_far.0 (run ∷ [])) in (
       so_far.0 ++ run ∷ [],
       append_assoc so_far.0 (run ∷ []) c.next.new.self ∙ ap (λ (rest : List Run). so_far.0 ++ rest) (sym step) ∙ so_far.1,
-      rw c.tasks_of.ensures at c.count_run.ensures.counts (placed_in c.args.dags.now so_far.0) so_far.2 ∙ ap (λ (xs : List Placed). counts_of xs c.args.pools.now) lists,
+      c.count_busy.ensures.counts (placed_in c.args.dags.now so_far.0) so_far.2 ∙ ap (λ (xs : List Placed). counts_of xs c.args.pools.now) lists,
     )
 
 pub returns : goal.returns

@@ -26,6 +26,6 @@ pub returns-in_err-limits-clause-read : goal.returns-in_err-limits-clause-read
 returns-in_err-limits-clause-read c =
     let is_object : is_some (as_object (view c.args.value.now)) ≡ true = sym c.if-not-is_object.ensures in
     let parts : configuration_in (view c.args.value.now) ≡ (limits_in (view c.args.value.now) >>= of_parts c.in_ok-policy.policy c.in_ok-draft.draft) =
-        with_parts (view c.args.value.now) c.in_ok-policy.policy c.in_ok-draft.draft is_object c.in_ok-policy.ensures c.in_ok-draft.ensures in
+    with_parts (view c.args.value.now) c.in_ok-policy.policy c.in_ok-draft.draft is_object c.in_ok-policy.ensures c.in_ok-draft.ensures in
     let p = err_from_is_err_and c.from_residual-in_err-limits.result c.from_residual-in_err-limits.ensures.1 in
     rw (p.1, p.2) (inl (parts ∙ ap (λ (l : Result Limits Reason). l >>= of_parts c.in_ok-policy.policy c.in_ok-draft.draft) (sym c.in_err-limits.ensures)))
