@@ -1,8 +1,18 @@
 -- A list of versions with one more, and what a refused change is told as.
-use Rattle.std.proofs.Common.{◌≡◌, ◌⊎◌, ◌≤◌, length, cond, le-leb, List, [], ◌∷◌, ◌++◌, Result, Ok, Err, refl, sym, ap, subst, ⊎_elim}
+use Rattle.std.proofs.Common.{◌≡◌, ◌⊎◌, ◌≤◌, ℕ, length, true, cond, le-leb, List, [], ◌∷◌, ◌++◌, Option, Some, None, Result, Ok, Err, refl, sym, ap, subst, ⊎_elim}
 use Rattle.af_policy.specs.Rows.{PolicyRows}
-use Rattle.af_policy.specs.declared.submit_fault.SubmitFault.TheVariants.{Full}
-use Rattle.af_policy.specs.Versions.{Follows, IsHistory, VersionRows, first_of, within}
+use Rattle.af_policy.specs.declared.submit_fault.SubmitFault.TheVariants.{Full, OutOfMemory}
+use Rattle.af_policy.specs.declared.change.Change.{Change}
+use Rattle.af_policy.specs.declared.change.Change.TheVariants.{AddRole, SetRole, DropRole, AddUser, SetUser, DropUser, SyncDag}
+use Rattle.af_policy.specs.declared.change_fault.ChangeFault.{ChangeFault}
+use Rattle.af_policy.specs.declared.change_fault.ChangeFault.TheVariants as change
+use Rattle.af_policy.specs.declared.ask.Ask.{Ask}
+use Rattle.af_policy.specs.declared.ask.Ask.TheVariants.{Made, Bad}
+use Rattle.af_role.specs.declared.need.Need.{Need}
+use Rattle.af_policy.specs.Grants.{missing}
+use Rattle.af_policy.specs.Identity.{bearer_of}
+use Rattle.af_policy.specs.Changes.{changed, may_want_memory, needs_of, wants_memory}
+use Rattle.af_policy.specs.Versions.{Follows, IsHistory, VersionRows, asked_by, asked_kind, asked_wants, decided, decided_wants, first_of, made_or_refused, permitted, permitted_wants, refused_by, unlacked_wants, unless_lacked, within}
 
 first_of-behind : (policies : List PolicyRows) (latest next : PolicyRows) → first_of (policies ++ latest ∷ []) next ≡ first_of policies latest
 first_of-behind [] latest next = refl
@@ -23,3 +33,49 @@ ok_told comes later fault told = ⊎_elim (λ e. sym e) (λ e. cc) told
 
 pub full_when : (versions : VersionRows) (policy : PolicyRows) → versions.last ≤ length versions.earlier → within versions (Ok policy) ≡ Err Full
 full_when versions policy none_left = ap (λ b. cond b (Err Full) (Ok policy)) (le-leb versions.last (length versions.earlier) none_left)
+
+-- ---- want of memory
+
+-- it is told of a change alone that tells it
+pub refused_memory : (fault : ChangeFault) → refused_by fault ≡ OutOfMemory → fault ≡ change.OutOfMemory
+refused_memory (change.BadAction text) e = cc
+refused_memory (change.PairNotAllowed text) e = cc
+refused_memory (change.UnknownRole name) e = cc
+refused_memory change.NoSuchRole e = cc
+refused_memory change.NoSuchUser e = cc
+refused_memory change.DefaultRole e = cc
+refused_memory change.Exists e = cc
+refused_memory change.RoleInUse e = cc
+refused_memory change.LastAdmin e = cc
+refused_memory change.TooMany e = cc
+refused_memory change.OutOfMemory e = refl
+
+-- a change that makes a policy wants memory
+made_wants : (policy later : PolicyRows) (c : Change) → changed policy c ≡ Ok later → may_want_memory policy c ≡ true
+made_wants policy later (AddRole input) e = refl
+made_wants policy later (SetRole input) e = refl
+made_wants policy later (DropRole name) e = ap wants_memory e
+made_wants policy later (AddUser user) e = ap wants_memory e
+made_wants policy later (SetUser patch) e = ap wants_memory e
+made_wants policy later (DropUser name) e = ap wants_memory e
+made_wants policy later (SyncDag access) e = ap wants_memory e
+
+permitted_made : (policy later : PolicyRows) (ask : Ask) → permitted policy ask ≡ Ok later → permitted_wants policy ask ≡ true
+permitted_made policy later (Bad kind input) e = cc
+permitted_made policy later (Made c) e = made (changed policy c) refl e
+  where
+    made : (r : Result PolicyRows ChangeFault) → changed policy c ≡ r → made_or_refused r ≡ Ok later → may_want_memory policy c ≡ true
+    made (Ok p) is f = made_wants policy p c is
+    made (Err fault) is f = cc
+
+asked_made : (policy later : PolicyRows) (ask : Ask) (user : Option (List ℕ)) → asked_by policy ask user ≡ Ok later → asked_wants policy ask user ≡ true
+asked_made policy later ask None e = cc
+asked_made policy later ask (Some user) e = lacking (missing policy user (needs_of (asked_kind ask)) None []) e
+  where
+    lacking : (o : Option Need) → unless_lacked policy ask o ≡ Ok later → unlacked_wants policy ask o ≡ true
+    lacking (Some need) f = cc
+    lacking None f = permitted_made policy later ask f
+
+-- so does one that is asked for
+pub decided_made : (policy later : PolicyRows) (token : Option (List ℕ)) (ask : Ask) → (Ok later ≡ decided policy token ask) ⊎ (Ok later ≡ Err OutOfMemory) → decided_wants policy token ask ≡ true
+decided_made policy later token ask told = ⊎_elim (λ e. asked_made policy later ask (bearer_of policy token) (sym e)) (λ e. cc) told

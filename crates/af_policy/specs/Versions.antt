@@ -1,10 +1,10 @@
 -- The versions of a policy: who asks for a change, what comes of it, and what the list of versions keeps.
-use Rattle.std.specs.Prelude.{◌≡◌, ℕ, List, [], ◌∷◌, ◌++◌, length, nat_le, Option, Some, None, Result, Ok, Err, if◌then◌else◌}
+use Rattle.std.specs.Prelude.{◌≡◌, ℕ, Bool, false, List, [], ◌∷◌, ◌++◌, length, nat_le, Option, Some, None, Result, Ok, Err, if◌then◌else◌}
 use Rattle.af_role.specs.declared.need.Need.{Need}
 use Rattle.af_policy.specs.Rows.{PolicyRows}
 use Rattle.af_policy.specs.Grants.{missing}
 use Rattle.af_policy.specs.Identity.{bearer_of}
-use Rattle.af_policy.specs.Changes.{changed, kind_of, needs_of}
+use Rattle.af_policy.specs.Changes.{changed, kind_of, may_want_memory, needs_of}
 use Rattle.af_policy.specs.declared.change.Change.{Change}
 use Rattle.af_policy.specs.declared.change_kind.ChangeKind.{ChangeKind}
 use Rattle.af_policy.specs.declared.change_fault.ChangeFault.{ChangeFault}
@@ -52,6 +52,23 @@ asked_by policy ask (Some user) = unless_lacked policy ask (missing policy user 
 -- body that is none; the first fault of the change; or the next policy
 abbrev pub decided : PolicyRows → Option (List ℕ) → Ask → Result PolicyRows SubmitFault
 decided policy token ask = asked_by policy ask (bearer_of policy token)
+
+-- where want of memory may be told in the place of what follows: the author lacks nothing, the body is a change, and that
+-- change may want memory
+abbrev pub permitted_wants : PolicyRows → Ask → Bool
+permitted_wants policy (Bad kind input) = false
+permitted_wants policy (Made change) = may_want_memory policy change
+
+abbrev pub unlacked_wants : PolicyRows → Ask → Option Need → Bool
+unlacked_wants policy ask (Some need) = false
+unlacked_wants policy ask None = permitted_wants policy ask
+
+abbrev pub asked_wants : PolicyRows → Ask → Option (List ℕ) → Bool
+asked_wants policy ask None = false
+asked_wants policy ask (Some user) = unlacked_wants policy ask (missing policy user (needs_of (asked_kind ask)) None [])
+
+abbrev pub decided_wants : PolicyRows → Option (List ℕ) → Ask → Bool
+decided_wants policy token ask = asked_wants policy ask (bearer_of policy token)
 
 -- a later policy follows one: some author, who lacks nothing under it for a change, makes that change
 pub record Follows (policy later : PolicyRows) : Type 0 where

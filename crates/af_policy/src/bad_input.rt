@@ -1,3 +1,6 @@
+ghost use Rattle.std.specs.Prelude.{◌≡◌};
+ghost use Rattle.af_policy.specs.Inputs.{member_text, parameter_text};
+
 /// Why a request about policies is none, in the order in which the faults are told.
 #[derive(Clone, Copy, Debug, PartialEq, Eq)]
 pub enum BadInput {
@@ -29,7 +32,9 @@ pub enum Member {
 
 impl Parameter {
     /// The parameter's name in the query.
-    pub fn text(self) -> &'static str {
+    pub fn text(self) -> &'static str
+        ensures { result.now ≡ parameter_text self }
+    {
         match self {
             Parameter::Limit => "limit",
             Parameter::Offset => "offset",
@@ -39,7 +44,9 @@ impl Parameter {
 
 impl Member {
     /// The member's name in the body.
-    pub fn text(self) -> &'static str {
+    pub fn text(self) -> &'static str
+        ensures { result.now ≡ member_text self }
+    {
         match self {
             Member::Name => "name",
             Member::Actions => "actions",

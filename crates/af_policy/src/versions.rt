@@ -1,6 +1,6 @@
-ghost use Rattle.std.specs.Prelude.{◌≡◌, ◌⊎◌, ◌<◌, [], length, nat_le, slice_get, None, Some, Ok, Err, IfOk, OnOk, OnErr};
+ghost use Rattle.std.specs.Prelude.{◌≡◌, ◌⊎◌, ◌<◌, [], length, true, nat_le, slice_get, None, Some, Ok, Err, IfOk, OnOk, OnErr};
 ghost use Rattle.std.specs.Option.{option_copied};
-ghost use Rattle.af_policy.specs.Versions.{Follows, all_versions, asked_by, decided, permitted, submitted, told_as, with_version};
+ghost use Rattle.af_policy.specs.Versions.{Follows, all_versions, asked_by, asked_wants, decided, decided_wants, permitted, permitted_wants, submitted, told_as, with_version};
 ghost use Rattle.af_policy.specs.Reads.{MemoryLast, me_of, read_of};
 ghost use Rattle.af_policy.specs.Changes.{changed};
 ghost use Rattle.af_policy.specs.declared.change.Change.{Change};
@@ -69,7 +69,8 @@ impl Versions {
     }
 
     /// Makes a version of the latest by the change that the bearer of a token asks for, and gives its number. The faults
-    /// are told in the order of `SubmitFault`; after one there is no further version.
+    /// are told in the order of `SubmitFault`; after one there is no further version. Want of memory is told only where the
+    /// change is permitted and may want it, and then also in the place of `Full`, since the policy is made first.
     pub fn submit(
         &mut self,
         alloc: Global,
@@ -77,6 +78,7 @@ impl Versions {
         ask: &Ask,
     ) -> Result<u32, SubmitFault>
         ensures told { (told_as result self.new.latest ≡ submitted self.old (option_copied token.entry) ask.now) ⊎ (result ≡ Err SubmitFault.OutOfMemory) }
+        ensures memory { result ≡ Err SubmitFault.OutOfMemory → decided_wants self.old.latest (option_copied token.entry) ask.now ≡ true }
         ensures ok { IfOk result (λ version. (self.new ≡ with_version self.old self.new.latest) × (version ≡ length self.new.earlier)) }
         ensures err { OnErr result (self.new ≡ self.old) }
     {
@@ -90,6 +92,7 @@ impl Versions {
 
     /// Who brings a token, and what that user has, under the latest version.
     pub fn me(&self, alloc: Global, token: Option<&[u8]>) -> Told<Result<Me<'_>, MeFault>>
+        ensures version { result.version ≡ length self.now.earlier }
         ensures under { slice_get (all_versions self.now) result.version ≡ Some self.now.latest }
         ensures told { MemoryLast MeFault.OutOfMemory (me_of self.now.latest (option_copied token.entry)) result.answer }
     {
@@ -106,6 +109,7 @@ impl Versions {
         token: Option<&[u8]>,
         read: &PolicyRead,
     ) -> Told<Result<PolicyReply<'_>, ReadFault>>
+        ensures version { result.version ≡ length self.now.earlier }
         ensures under { slice_get (all_versions self.now) result.version ≡ Some self.now.latest }
         ensures told { MemoryLast ReadFault.OutOfMemory (read_of self.now.latest (option_copied token.entry) read.now) result.answer }
     {
@@ -146,6 +150,7 @@ impl Policy {
         ask: &Ask,
     ) -> Result<Policy, SubmitFault>
         ensures told { (result ≡ decided self.now (option_copied token.entry) ask.now) ⊎ (result ≡ Err SubmitFault.OutOfMemory) }
+        ensures memory { result ≡ Err SubmitFault.OutOfMemory → decided_wants self.now (option_copied token.entry) ask.now ≡ true }
         ensures follows { IfOk result (λ later. Follows self.now later) }
     {
         match self.bearer(token) {
@@ -157,6 +162,7 @@ impl Policy {
     /// What a change that a user asks for comes to.
     fn decide_for(&self, alloc: Global, user: &UserName, ask: &Ask) -> Result<Policy, SubmitFault>
         ensures told { (result ≡ asked_by self.now ask.now (Some user.now)) ⊎ (result ≡ Err SubmitFault.OutOfMemory) }
+        ensures memory { result ≡ Err SubmitFault.OutOfMemory → asked_wants self.now ask.now (Some user.now) ≡ true }
         ensures follows { IfOk result (λ later. Follows self.now later) }
     {
         let dags: &[DagId] = &[];
@@ -170,8 +176,10 @@ impl Policy {
     }
 
     /// What a change that is permitted comes to.
+    #[tactic(auto, using(crate::proofs::VersionLemmas::refused_memory))]
     fn permit(&self, alloc: Global, ask: &Ask) -> Result<Policy, SubmitFault>
         ensures told { (result ≡ permitted self.now ask.now) ⊎ (result ≡ Err SubmitFault.OutOfMemory) }
+        ensures memory { result ≡ Err SubmitFault.OutOfMemory → permitted_wants self.now ask.now ≡ true }
         ensures makes { IfOk result (λ later. (change : Change) × (ask.now ≡ Made change) × (changed self.now change ≡ Ok later)) }
     {
         match ask {
