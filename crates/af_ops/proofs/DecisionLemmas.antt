@@ -14,76 +14,76 @@ use Rattle.af_ops.specs.Decisions.{ChangesWhereDone, IsDecided, IsDoing, chooses
 use Rattle.af_ops.specs.Effects.{Effect}
 use Rattle.af_ops.specs.Prepared.{MemoryLast}
 use Rattle.af_ops.specs.Served.{IsServed}
-use Rattle.af_ops.specs.Standings.{StandingRows, history_limit}
+use Rattle.af_ops.specs.Standings.{StandingRows}
 use Rattle.af_ops.specs.Verdicts.{Verdict, Changes, Refuses, done, opened, recorded}
 
 -- what is said of an operation that is not refused, where memory is wanted for it, or that it is refused
-module _ (asked : Op) (under : Under) (state : StateRows) where
+module _ (asked : Op) (limit : ℕ) (under : Under) (state : StateRows) where
   -- its own fault, which is no want of memory
-  pub own_fault : (effect : Result Effect OpFault) (fault : OpFault) → (fault ≡ OutOfMemory → ⊥) → MemoryLast OutOfMemory effect (Err fault) → IsDecided asked state (done under effect) (Err (why.Op fault))
-  own_fault effect fault other (inl is) = inl (ap (done under) is)
+  pub own_fault : (effect : Result Effect OpFault) (fault : OpFault) → (fault ≡ OutOfMemory → ⊥) → MemoryLast OutOfMemory effect (Err fault) → IsDecided asked state (done limit under effect) (Err (why.Op fault))
+  own_fault effect fault other (inl is) = inl (ap (done limit under) is)
   own_fault effect fault other (inr wants) = absurd (other wants.1)
 
-  with_room : (reply : Option (List ℕ)) (next : Option StateRows) → nat_lt under.seq history_limit ≡ true → IsDoing asked (recorded under reply next)
+  with_room : (reply : Option (List ℕ)) (next : Option StateRows) → nat_lt under.seq limit ≡ true → IsDoing asked (recorded limit under reply next)
   with_room reply None room = tt
   with_room reply (Some next) room = rw room tt
 
-  room_doing : (effect : Result Effect OpFault) → IsOk effect → nat_lt under.seq history_limit ≡ true → IsDoing asked (done under effect)
+  room_doing : (effect : Result Effect OpFault) → IsOk effect → nat_lt under.seq limit ≡ true → IsDoing asked (done limit under effect)
   room_doing (Ok it) ok room = with_room it.reply it.next room
   room_doing (Err fault) ok room = cc
 
   -- there is room for one more entry
-  pub room_wanted : (effect : Result Effect OpFault) (fault : OpFault) → nat_lt under.seq history_limit ≡ true → MemoryLast OutOfMemory effect (Err fault) → IsDecided asked state (done under effect) (Err (why.Op fault))
-  room_wanted effect fault room (inl is) = inl (ap (done under) is)
+  pub room_wanted : (effect : Result Effect OpFault) (fault : OpFault) → nat_lt under.seq limit ≡ true → MemoryLast OutOfMemory effect (Err fault) → IsDecided asked state (done limit under effect) (Err (why.Op fault))
+  room_wanted effect fault room (inl is) = inl (ap (done limit under) is)
   room_wanted effect fault room (inr wants) = inr (room_doing effect wants.0 room, ap (λ (f : OpFault). why.Op f) wants.1)
 
-  kept_doing : (reply : Option (List ℕ)) (next : Option StateRows) → is_some next ≡ false → IsDoing asked (recorded under reply next)
+  kept_doing : (reply : Option (List ℕ)) (next : Option StateRows) → is_some next ≡ false → IsDoing asked (recorded limit under reply next)
   kept_doing reply None none = tt
   kept_doing reply (Some next) none = cc
 
-  reading_doing : (effect : Result Effect OpFault) → IsOk effect → ChangesWhereDone effect false → IsDoing asked (done under effect)
+  reading_doing : (effect : Result Effect OpFault) → IsOk effect → ChangesWhereDone effect false → IsDoing asked (done limit under effect)
   reading_doing (Ok it) ok keeps = kept_doing it.reply it.next keeps
   reading_doing (Err fault) ok keeps = cc
 
   -- it leaves the state
-  pub kept_wanted : (effect : Result Effect OpFault) (fault : OpFault) → ChangesWhereDone effect false → MemoryLast OutOfMemory effect (Err fault) → IsDecided asked state (done under effect) (Err (why.Op fault))
-  kept_wanted effect fault keeps (inl is) = inl (ap (done under) is)
+  pub kept_wanted : (effect : Result Effect OpFault) (fault : OpFault) → ChangesWhereDone effect false → MemoryLast OutOfMemory effect (Err fault) → IsDecided asked state (done limit under effect) (Err (why.Op fault))
+  kept_wanted effect fault keeps (inl is) = inl (ap (done limit under) is)
   kept_wanted effect fault keeps (inr wants) = inr (reading_doing effect wants.0 keeps, ap (λ (f : OpFault). why.Op f) wants.1)
 
   chosen_by : (b : Bool) (reply : Option (List ℕ)) (next : StateRows) → chooses asked ≡ true → IsDoing asked (if b then Changes reply next else Refuses HistoryFull)
   chosen_by true reply next is = tt
   chosen_by false reply next is = (refl, is)
 
-  chosen_next : (reply : Option (List ℕ)) (next : Option StateRows) → chooses asked ≡ true → IsDoing asked (recorded under reply next)
+  chosen_next : (reply : Option (List ℕ)) (next : Option StateRows) → chooses asked ≡ true → IsDoing asked (recorded limit under reply next)
   chosen_next reply None is = tt
-  chosen_next reply (Some next) is = chosen_by (nat_lt under.seq history_limit) reply next is
+  chosen_next reply (Some next) is = chosen_by (nat_lt under.seq limit) reply next is
 
-  chosen_doing : (effect : Result Effect OpFault) → IsOk effect → chooses asked ≡ true → IsDoing asked (done under effect)
+  chosen_doing : (effect : Result Effect OpFault) → IsOk effect → chooses asked ≡ true → IsDoing asked (done limit under effect)
   chosen_doing (Ok it) ok is = chosen_next it.reply it.next is
   chosen_doing (Err fault) ok is = cc
 
   -- it chooses instances
-  pub chosen_wanted : (effect : Result Effect OpFault) (fault : OpFault) → chooses asked ≡ true → MemoryLast OutOfMemory effect (Err fault) → IsDecided asked state (done under effect) (Err (why.Op fault))
-  chosen_wanted effect fault is (inl told) = inl (ap (done under) told)
+  pub chosen_wanted : (effect : Result Effect OpFault) (fault : OpFault) → chooses asked ≡ true → MemoryLast OutOfMemory effect (Err fault) → IsDecided asked state (done limit under effect) (Err (why.Op fault))
+  chosen_wanted effect fault is (inl told) = inl (ap (done limit under) told)
   chosen_wanted effect fault is (inr wants) = inr (chosen_doing effect wants.0 is, ap (λ (f : OpFault). why.Op f) wants.1)
 
-  full_next : (reply : Option (List ℕ)) (next : Option StateRows) → nat_lt under.seq history_limit ≡ false → is_some next ≡ true → recorded under reply next ≡ Refuses HistoryFull
+  full_next : (reply : Option (List ℕ)) (next : Option StateRows) → nat_lt under.seq limit ≡ false → is_some next ≡ true → recorded limit under reply next ≡ Refuses HistoryFull
   full_next reply None full changes = cc
   full_next reply (Some next) full changes = rw full refl
 
-  full_done : (effect : Result Effect OpFault) → nat_lt under.seq history_limit ≡ false → ChangesWhereDone effect true → IsOk effect → done under effect ≡ Refuses HistoryFull
+  full_done : (effect : Result Effect OpFault) → nat_lt under.seq limit ≡ false → ChangesWhereDone effect true → IsOk effect → done limit under effect ≡ Refuses HistoryFull
   full_done (Ok it) full changes ok = full_next it.reply it.next full changes
   full_done (Err fault) full changes ok = cc
 
   -- it changes the state, and there is no room for its entry
-  pub full_wanted : (effect : Result Effect OpFault) (fault : OpFault) → nat_lt under.seq history_limit ≡ false → fault ≡ OutOfMemory → ChangesWhereDone effect true → MemoryLast OutOfMemory effect (Err fault) → IsDecided asked state (done under effect) (Err (why.Op HistoryFull))
+  pub full_wanted : (effect : Result Effect OpFault) (fault : OpFault) → nat_lt under.seq limit ≡ false → fault ≡ OutOfMemory → ChangesWhereDone effect true → MemoryLast OutOfMemory effect (Err fault) → IsDecided asked state (done limit under effect) (Err (why.Op HistoryFull))
   full_wanted effect fault full want changes (inl is) =
       let unread : fault ≡ OutOfMemory → true ≡ false = subst (λ (e : Result Effect OpFault). ChangesWhereDone e true) is changes in
       cc (unread want)
   full_wanted effect fault full want changes (inr wants) = inl (full_done effect full changes wants.0)
 
   -- memory is wanted, and there is no room for one more entry
-  pub none_wanted : (changes : Bool) (effect : Result Effect OpFault) (fault : OpFault) → nat_lt under.seq history_limit ≡ false → fault ≡ OutOfMemory → ChangesWhereDone effect changes → MemoryLast OutOfMemory effect (Err fault) → IsDecided asked state (done under effect) (Err (why.Op (if changes then HistoryFull else fault)))
+  pub none_wanted : (changes : Bool) (effect : Result Effect OpFault) (fault : OpFault) → nat_lt under.seq limit ≡ false → fault ≡ OutOfMemory → ChangesWhereDone effect changes → MemoryLast OutOfMemory effect (Err fault) → IsDecided asked state (done limit under effect) (Err (why.Op (if changes then HistoryFull else fault)))
   none_wanted true effect fault full want changes told = full_wanted effect fault full want changes told
   none_wanted false effect fault full want changes told = kept_wanted effect fault changes told
 

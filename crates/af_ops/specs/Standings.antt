@@ -7,7 +7,7 @@ pub record StandingRows : Type 0 where
   pub under : Under
   pub state : StateRows
 
--- the most entries
+-- the most entries, where no other limit is set
 abbrev pub history_limit : ℕ
 history_limit = 1_000_000
 

@@ -15,7 +15,7 @@ use Rattle.af_ops.specs.declared.op.Op.{Op}
 use Rattle.af_ops.specs.Effects.{Effect, effect_of}
 use Rattle.af_ops.specs.Endpoints.{dag_of, endpoint_of}
 use Rattle.af_ops.specs.Required.{needs_for}
-use Rattle.af_ops.specs.Standings.{StandingRows, history_limit}
+use Rattle.af_ops.specs.Standings.{StandingRows}
 use Rattle.af_ops.specs.Table.{is_open}
 
 pub data Verdict : Type 0 where
@@ -36,37 +36,38 @@ pub data Verdict : Type 0 where
 abbrev pub dag_ids : StateRows → List (List ℕ)
 dag_ids state = map (λ row. row.dag.dag_id) state.dags
 
--- a change adds an entry, and is refused where there is no room for one
-abbrev pub recorded : Under → Option (List ℕ) → Option StateRows → Verdict
-recorded under reply None = Tells reply
-recorded under reply (Some next) = if nat_lt under.seq history_limit then Changes reply next else Refuses HistoryFull
+-- a change adds an entry, and is refused where there are as many as there may be
+abbrev pub recorded : ℕ → Under → Option (List ℕ) → Option StateRows → Verdict
+recorded limit under reply None = Tells reply
+recorded limit under reply (Some next) = if nat_lt under.seq limit then Changes reply next else Refuses HistoryFull
 
 -- the verdict by what a permitted operation does
-abbrev pub done : Under → Result Effect OpFault → Verdict
-done under (Ok effect) = recorded under effect.reply effect.next
-done under (Err why) = Refuses why
+abbrev pub done : ℕ → Under → Result Effect OpFault → Verdict
+done limit under (Ok effect) = recorded limit under effect.reply effect.next
+done limit under (Err why) = Refuses why
 
 -- the verdict on what a user asks who is granted this, where a requirement is lacked, or none
-abbrev pub permitted : (PairRow → Bool) → StandingRows → Op → ℕ → Option Need → Verdict
-permitted granted standing asked now (Some need) = Lacks need
-permitted granted standing asked now None = done standing.under (effect_of (reads_dag granted) standing.state asked now)
+abbrev pub permitted : ℕ → (PairRow → Bool) → StandingRows → Op → ℕ → Option Need → Verdict
+permitted limit granted standing asked now (Some need) = Lacks need
+permitted limit granted standing asked now None = done limit standing.under (effect_of (reads_dag granted) standing.state asked now)
 
-abbrev pub granted_verdict : (PairRow → Bool) → StandingRows → Op → ℕ → Verdict
-granted_verdict granted standing asked now =
-    permitted granted standing asked now
+abbrev pub granted_verdict : ℕ → (PairRow → Bool) → StandingRows → Op → ℕ → Verdict
+granted_verdict limit granted standing asked now =
+    permitted limit granted standing asked now
     (first_unmet granted (dag_of asked) (dag_ids standing.state) (needs_for asked))
 
 -- the verdict on what the user behind a token asks, if there is one
-abbrev pub judged : PolicyRows → StandingRows → Op → ℕ → Option (List ℕ) → Verdict
-judged policy standing asked now None = Stranger
-judged policy standing asked now (Some user) = granted_verdict (grants policy user) standing asked now
+abbrev pub judged : ℕ → PolicyRows → StandingRows → Op → ℕ → Option (List ℕ) → Verdict
+judged limit policy standing asked now None = Stranger
+judged limit policy standing asked now (Some user) = granted_verdict limit (grants policy user) standing asked now
 
 -- what an open operation tells
 abbrev pub opened : Result Effect OpFault → Verdict
 opened (Ok effect) = Open effect.reply
 opened (Err why) = Refuses why
 
-abbrev pub verdict : PolicyRows → StandingRows → Option (List ℕ) → Op → ℕ → Verdict
-verdict policy standing token asked now =
+-- where there may be so many entries
+abbrev pub verdict : ℕ → PolicyRows → StandingRows → Option (List ℕ) → Op → ℕ → Verdict
+verdict limit policy standing token asked now =
     if is_open (endpoint_of asked) then opened (effect_of (λ dag. false) standing.state asked now)
-    else judged policy standing asked now (bearer_of policy token)
+    else judged limit policy standing asked now (bearer_of policy token)

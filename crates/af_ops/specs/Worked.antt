@@ -25,7 +25,7 @@ use Rattle.af_ops.specs.Edits.{with_run}
 use Rattle.af_ops.specs.Effects.{new_run}
 use Rattle.af_ops.specs.Rows.{ClearedTold, InstanceTold, TaskTold}
 use Rattle.af_ops.specs.Served.{answer_of}
-use Rattle.af_ops.specs.Standings.{StandingRows}
+use Rattle.af_ops.specs.Standings.{StandingRows, history_limit}
 use Rattle.af_ops.specs.Verdicts.{Verdict, Changes, Tells, judged}
 
 abbrev pub users : List UserRow
@@ -87,7 +87,7 @@ opening = at_entries 0 false
 
 -- the verdict on what this user asks
 abbrev pub asks : StandingRows → List ℕ → Op → Verdict
-asks standing who asked = judged policy standing asked 0 (Some who)
+asks standing who asked = judged history_limit policy standing asked 0 (Some who)
 
 -- what is told as a text
 abbrev pub tells : List ℕ → Verdict
@@ -126,7 +126,7 @@ second = queued_run 2 (new_run (dag (codes "b") false) (codes "b") (codes "r2") 
 
 -- what this user is told at 2024-01-01T00:00:00.000001Z
 abbrev pub is_told_then : StandingRows → List ℕ → Op → Option Shown
-is_told_then standing who asked = answer_of asked standing.under (judged policy standing asked 1_704_067_200_000_001 (Some who))
+is_told_then standing who asked = answer_of asked standing.under (judged history_limit policy standing asked 1_704_067_200_000_001 (Some who))
 
 abbrev pub trigger : Option (List ℕ) → Option ℕ → Trigger
 trigger run_id date = record { dag_run_id = run_id; logical_date = date }

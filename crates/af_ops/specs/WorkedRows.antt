@@ -12,7 +12,7 @@ use Rattle.af_ops.specs.declared.pool_op.PoolOp.{PoolOp}
 use Rattle.af_ops.specs.declared.shown_answer.Shown.{Shown}
 use Rattle.af_ops.specs.declared.variable_op.VariableOp.{VariableOp}
 use Rattle.af_ops.specs.Served.{answer_of}
-use Rattle.af_ops.specs.Standings.{StandingRows}
+use Rattle.af_ops.specs.Standings.{StandingRows, history_limit}
 use Rattle.af_ops.specs.Verdicts.{Verdict, judged}
 use Rattle.af_ops.specs.Worked.{forked, half_run}
 
@@ -54,7 +54,7 @@ standing entries pools variables = record { under = record { version = 0; seq = 
 
 -- the verdict on what one of them asks, and what of it is told
 abbrev pub asks : StandingRows → List ℕ → Op → Verdict
-asks standing who asked = judged policy standing asked 0 (Some who)
+asks standing who asked = judged history_limit policy standing asked 0 (Some who)
 
 abbrev pub is_told : StandingRows → Op → Option Shown
 is_told standing asked = answer_of asked standing.under (asks standing (codes "olga") asked)

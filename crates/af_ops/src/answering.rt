@@ -30,6 +30,9 @@ use af_policy::Policy;
 use af_sched::State;
 use std::alloc::Global;
 
+/// The most entries that there are.
+const MOST_ENTRIES: u32 = 1_000_000;
+
 impl Standing {
     /// Answers an operation for who holds the token, under a policy, at a moment, and does what it changes. The text of the
     /// reply is made before a change is done, so no reply is lost here.
@@ -41,7 +44,7 @@ impl Standing {
         op: &Op,
         now: Instant,
     ) -> Served
-        ensures served { IsServed op.now (verdict policy.now self.old (option_copied token.entry) op.now now) self.old result self.new }
+        ensures served { IsServed op.now (verdict history_limit policy.now self.old (option_copied token.entry) op.now now) self.old result self.new }
         ensures kept { result ≢ ReplyLost }
     {
         if route_of(op.endpoint()).is_open {
@@ -59,10 +62,11 @@ impl Standing {
     }
 }
 
-/// Answers an operation that anybody may ask for.
-fn openly(alloc: Global, state: &mut State, under: Under, op: &Op, now: Instant) -> Served
+/// Answers an operation that anybody may ask for, which changes nothing.
+pub fn openly(alloc: Global, state: &mut State, under: Under, op: &Op, now: Instant) -> Served
     ensures served { IsServed op.now (opened (effect_of (λ dag. false) state.old.rows op.now now))
         (record { under = under; state = state.old.rows }) result (record { under = under; state = state.new.rows }) }
+    ensures rows { state.new.rows ≡ state.old.rows }
     ensures kept { result ≢ ReplyLost }
 {
     match prepare(alloc, state, op, &Nobody, now) {
@@ -81,18 +85,18 @@ fn judged(
     op: &Op,
     now: Instant,
 ) -> Served
-    ensures served { IsServed op.now (judged policy.now (record { under = under.old; state = state.old.rows }) op.now now (bearer_of policy.now (option_copied token.entry)))
+    ensures served { IsServed op.now (judged history_limit policy.now (record { under = under.old; state = state.old.rows }) op.now now (bearer_of policy.now (option_copied token.entry)))
         (record { under = under.old; state = state.old.rows }) result (record { under = under.new; state = state.new.rows }) }
     ensures kept { result ≢ ReplyLost }
 {
-    match decide(alloc, policy, state, *under, token, op, now) {
+    match decide(alloc, policy, state, *under, MOST_ENTRIES, token, op, now) {
         Ok(prepared) => done(state, under, prepared),
         Err(fault) => refused(alloc, op, fault, *under),
     }
 }
 
 /// Tells a fault, after which the server stands as before.
-fn refused(alloc: Global, op: &Op, fault: CallFault, under: Under) -> Served
+pub fn refused(alloc: Global, op: &Op, fault: CallFault, under: Under) -> Served
     ensures served { (state : StateRows) → IsServed op.now (fault_verdict fault) (record { under = under; state = state }) result (record { under = under; state = state }) }
     ensures kept { result ≢ ReplyLost }
 {
@@ -129,7 +133,7 @@ fn shown_openly(reply: Option<Body>) -> Shown
 }
 
 /// What is told of what is done, under a policy version.
-fn shown_reply(under: Under, reply: Option<Body>) -> Shown
+pub fn shown_reply(under: Under, reply: Option<Body>) -> Shown
     ensures { result ≡ reply_told under reply }
 {
     Shown {

@@ -7,7 +7,6 @@ ghost use Rattle.af_ops.specs.declared.answer.OpFault.TheVariants.{HistoryFull, 
 ghost use Rattle.af_ops.specs.Decisions.{ChangesWhereDone, IsDecided, chooses};
 ghost use Rattle.af_ops.specs.Edits.{is_edit};
 ghost use Rattle.af_ops.specs.Prepared.{CanDo, IsExact, MemoryLast};
-ghost use Rattle.af_ops.specs.Standings.{history_limit};
 ghost use Rattle.af_ops.specs.Verdicts.{done, granted_verdict, judged};
 ghost use Rattle.af_ops.specs.Effects.{effect_of, paused_dag, run_marked};
 
@@ -25,53 +24,53 @@ use af_runs::Mark;
 use af_sched::State;
 use std::alloc::Global;
 
-/// The most entries that there are.
-const MOST_ENTRIES: u32 = 1_000_000;
-
 /// Decides an operation that is not open, under a policy, and works out what it does, with all the memory for that. It changes
-/// nothing but that spare room may grow. Want of memory is told only of an operation that is permitted and not refused.
+/// nothing but that spare room may grow. A change is refused where there are as many entries as the limit. Want of memory is
+/// told only of an operation that is permitted and not refused.
 pub fn decide(
     alloc: Global,
     policy: &Policy,
     state: &mut State,
     under: Under,
+    limit: u32,
     token: Option<&[u8]>,
     op: &Op,
     now: Instant,
 ) -> Result<Prepared, CallFault>
-    ensures verdict { IsDecided op.now state.old.rows (judged policy.now (record { under = under; state = state.old.rows }) op.now now (bearer_of policy.now (option_copied token.entry))) result }
+    ensures verdict { IsDecided op.now state.old.rows (judged limit policy.now (record { under = under; state = state.old.rows }) op.now now (bearer_of policy.now (option_copied token.entry))) result }
     ensures room { IfOk result (λ prepared. CanDo state.new prepared.edit) }
     ensures exact { IfOk result (λ prepared. IsExact state.old.rows prepared.edit) }
-    ensures entries { IfOk result (λ prepared. is_edit prepared.edit ≡ true → under.seq < history_limit) }
+    ensures entries { IfOk result (λ prepared. is_edit prepared.edit ≡ true → under.seq < limit) }
     ensures rows { state.new.rows ≡ state.old.rows }
 {
     match policy.bearer(token) {
         Some(user) => {
             let view = policy.view(user);
-            decide_for(alloc, &view, state, under, op, now)
+            decide_for(alloc, &view, state, under, limit, op, now)
         }
         None => Err(CallFault::Unauthenticated),
     }
 }
 
-/// Decides what a user asks whom a policy grants this.
-fn decide_for(
+/// Decides what a user asks whom a policy grants this, as `decide` does.
+pub fn decide_for(
     alloc: Global,
     view: &PolicyView<'_>,
     state: &mut State,
     under: Under,
+    limit: u32,
     op: &Op,
     now: Instant,
 ) -> Result<Prepared, CallFault>
-    ensures verdict { IsDecided op.now state.old.rows (granted_verdict (held view.now) (record { under = under; state = state.old.rows }) op.now now) result }
+    ensures verdict { IsDecided op.now state.old.rows (granted_verdict limit (held view.now) (record { under = under; state = state.old.rows }) op.now now) result }
     ensures room { IfOk result (λ prepared. CanDo state.new prepared.edit) }
     ensures exact { IfOk result (λ prepared. IsExact state.old.rows prepared.edit) }
-    ensures entries { IfOk result (λ prepared. is_edit prepared.edit ≡ true → under.seq < history_limit) }
+    ensures entries { IfOk result (λ prepared. is_edit prepared.edit ≡ true → under.seq < limit) }
     ensures rows { state.new.rows ≡ state.old.rows }
 {
     match view.missing(needs_for(op), op.dag(), state.dags()) {
         Some(need) => Err(CallFault::Denied(need)),
-        None => permitted(alloc, view, state, under, op, now),
+        None => permitted(alloc, view, state, under, limit, op, now),
     }
 }
 
@@ -81,24 +80,25 @@ fn permitted<R: Reader>(
     reader: &R,
     state: &mut State,
     under: Under,
+    limit: u32,
     op: &Op,
     now: Instant,
 ) -> Result<Prepared, CallFault>
-    ensures verdict { IsDecided op.now state.old.rows (done under (effect_of (R.reads reader.now) state.old.rows op.now now)) result }
+    ensures verdict { IsDecided op.now state.old.rows (done limit under (effect_of (R.reads reader.now) state.old.rows op.now now)) result }
     ensures room { IfOk result (λ prepared. CanDo state.new prepared.edit) }
     ensures exact { IfOk result (λ prepared. IsExact state.old.rows prepared.edit) }
-    ensures entries { IfOk result (λ prepared. is_edit prepared.edit ≡ true → under.seq < history_limit) }
+    ensures entries { IfOk result (λ prepared. is_edit prepared.edit ≡ true → under.seq < limit) }
     ensures rows { state.new.rows ≡ state.old.rows }
 {
     match prepare(alloc, state, op, reader, now) {
         Ok(prepared) => {
-            if prepared.changes() && under.seq >= MOST_ENTRIES {
+            if prepared.changes() && under.seq >= limit {
                 return Err(CallFault::Op(OpFault::HistoryFull));
             }
             Ok(prepared)
         }
         Err(fault) => {
-            if is_full(state, under, op, &fault) {
+            if is_full(state, under, limit, op, &fault) {
                 return Err(CallFault::Op(OpFault::HistoryFull));
             }
             Err(CallFault::Op(fault))
@@ -108,14 +108,14 @@ fn permitted<R: Reader>(
 
 /// Whether a fault is told as a full history: it is want of memory for a change, for whose entry there is no room, memory or not;
 /// but of one that chooses instances the want is told.
-fn is_full(state: &State, under: Under, op: &Op, fault: &OpFault) -> bool
+fn is_full(state: &State, under: Under, limit: u32, op: &Op, fault: &OpFault) -> bool
     ensures { (reads : List ℕ → Bool) (now : ℕ) → MemoryLast OutOfMemory (effect_of reads state.now.rows op.now now) (Err fault.now)
-        → IsDecided op.now state.now.rows (done under (effect_of reads state.now.rows op.now now)) (Err (CallFault.Op (if result then HistoryFull else fault.now))) }
+        → IsDecided op.now state.now.rows (done limit under (effect_of reads state.now.rows op.now now)) (Err (CallFault.Op (if result then HistoryFull else fault.now))) }
 {
     if !is_want(fault) {
         return false;
     }
-    if under.seq < MOST_ENTRIES {
+    if under.seq < limit {
         return false;
     }
     if chooses(op) {

@@ -57,11 +57,12 @@ mod worked;
 mod worked_rows;
 
 pub use answer::{CallFault, OpFault, Under};
+pub use answering::{openly, refused, shown_reply};
 pub use bodies::{read_clear, read_clear_run, read_mark, read_pause, read_trigger};
 pub use body::Body;
 pub use body_fault::{BodyFault, Member};
 pub use clear::Clear;
-pub use deciding::decide;
+pub use deciding::{decide, decide_for};
 pub use edit::Edit;
 pub use endpoint::Endpoint;
 pub use member_name::name_of;

@@ -21,6 +21,7 @@ ghost use Rattle.af_ops.specs.Replies.{cleared_data, dag_data, fault_data, insta
 ghost use Rattle.af_ops.specs.Served.{answer_of, fault_told, left_by};
 ghost use Rattle.af_ops.specs.Statuses.{code_of, is_fault_status};
 ghost use Rattle.af_ops.specs.Table.{at_dag, at_some_dag, endpoint_at, methods_at, on_all, segments_of, spelled};
+ghost use Rattle.af_ops.specs.Standings.{history_limit};
 ghost use Rattle.af_ops.specs.Verdicts.{Changes, Open, Stranger, Lacks, Refuses, judged, verdict};
 ghost use Rattle.af_ops.specs.Worked.{asks, at_entries, at_work, changes, clear, cleared_half, cleared_later, dag, ended, ended_later, first_cleared, first_told, full_at_work, full_later, is_told, is_told_then, later, no_numbers, opening, policy, second, second_cleared, second_told, state_with, tells, trigger, waited_told, waiting_told, with_cleared, with_ended, without_second};
 
@@ -31,12 +32,12 @@ pub fn readings_by_the_rule()
     ensures one { asks opening (codes "bob") op.ListDags ≡ tells (compact_text (listing_of (codes "dags") (dag_data (dag (codes "b") false) ∷ []) 1)) }
     ensures denied { asks opening (codes "pat") op.ListDags ≡ Lacks (at_some_dag Read) }
     ensures unknown { asks opening (codes "nobody") op.ListDags ≡ Lacks (at_some_dag Read) }
-    ensures nobody { judged policy opening op.ListDags 0 None ≡ Stranger }
+    ensures nobody { judged history_limit policy opening op.ListDags 0 None ≡ Stranger }
     ensures shown { asks opening (codes "bob") (op.GetDag (codes "b")) ≡ tells (compact_text (dag_data (dag (codes "b") false))) }
     ensures hidden { asks opening (codes "bob") (op.GetDag (codes "a")) ≡ Lacks (at_dag Read) }
     ensures hidden_absent { asks opening (codes "bob") (op.GetDag (codes "nosuch")) ≡ Lacks (at_dag Read) }
     ensures absent { asks opening (codes "vera") (op.GetDag (codes "nosuch")) ≡ Refuses fault.NoSuchDag }
-    ensures open { verdict policy opening None op.Version 0 ≡ Open (Some (compact_text version_data)) }
+    ensures open { verdict history_limit policy opening None op.Version 0 ≡ Open (Some (compact_text version_data)) }
 {}
 
 /// A DAG is paused, and paused again: the first is a change. A denial comes before a bad body, that before an absent DAG, and
@@ -64,7 +65,7 @@ pub fn messages_by_the_rule()
     ensures absent { is_told opening (codes "vera") (op.GetDag (codes "nosuch")) ≡ Some (record { status = status.NotFound; version = Some 0; seq = Some 0; body = Some (codes "{\"detail\":\"no such dag: nosuch\",\"status\":404,\"title\":\"Not Found\",\"type\":\"about:blank\"}") }) }
     ensures bad_member { is_told opening (codes "uma") (op.PauseDag (codes "b") (Err (BadMember IsPaused))) ≡ Some (record { status = status.BadRequest; version = Some 0; seq = Some 0; body = Some (codes "{\"detail\":\"bad member: is_paused\",\"status\":400,\"title\":\"Bad Request\",\"type\":\"about:blank\"}") }) }
     ensures nobody { answer_of op.ListDags opening.under Stranger ≡ Some (record { status = status.Unauthorized; version = Some 0; seq = Some 0; body = Some (codes "{\"detail\":\"authentication required\",\"status\":401,\"title\":\"Unauthorized\",\"type\":\"about:blank\"}") }) }
-    ensures version { answer_of op.Version opening.under (verdict policy opening None op.Version 0) ≡ Some (record { status = status.Ok; version = None; seq = None; body = Some (codes "{\"git_version\":null,\"version\":\"afplane 1\"}") }) }
+    ensures version { answer_of op.Version opening.under (verdict history_limit policy opening None op.Version 0) ≡ Some (record { status = status.Ok; version = None; seq = None; body = Some (codes "{\"git_version\":null,\"version\":\"afplane 1\"}") }) }
     ensures memory { fault_told op.ListDags opening.under (why.Op fault.OutOfMemory) ≡ None }
 {}
 

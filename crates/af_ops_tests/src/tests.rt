@@ -544,7 +544,16 @@ fn permitted(
     op: &Op,
     now: Instant,
 ) -> Option<bool> {
-    match decide(alloc, policy, state, under, Some(b"uma"), op, now) {
+    match decide(
+        alloc,
+        policy,
+        state,
+        under,
+        1_000_000,
+        Some(b"uma"),
+        op,
+        now,
+    ) {
         Ok(_) => Some(true),
         Err(CallFault::Op(OpFault::HistoryFull)) => Some(false),
         Err(_) => None,

@@ -2,7 +2,7 @@
 use Rattle.std.specs.Prelude.{◌≡◌, ◌≢◌, ℕ, List, Option}
 use Rattle.af_policy.specs.Rows.{PolicyRows}
 use Rattle.af_ops.specs.Served.{IsServed}
-use Rattle.af_ops.specs.Standings.{StandingRows}
+use Rattle.af_ops.specs.Standings.{StandingRows, history_limit}
 use Rattle.af_ops.specs.Verdicts.{verdict}
 use Rattle.af_ops.specs.declared.op.Op.{Op}
 use Rattle.af_ops.specs.declared.served.Served.{Served}
@@ -27,5 +27,5 @@ opened configuration now = record {
 -- as the desk stands, at its moment. No reply of a change is lost.
 abbrev pub Decides : DeskRows → Option (List ℕ) → Op → Served → DeskRows → Type 0
 Decides old token asked served new =
-    IsServed asked (verdict old.policy old.standing token asked old.now) old.standing served new.standing
+    IsServed asked (verdict history_limit old.policy old.standing token asked old.now) old.standing served new.standing
     × (served ≢ ReplyLost) × (new.policy ≡ old.policy) × (new.now ≡ old.now)

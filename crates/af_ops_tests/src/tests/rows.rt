@@ -452,7 +452,16 @@ fn where_full(alloc: Global, op: &Op) -> Result<Option<bool>, Fail> {
     let policy = policy(alloc)?;
     let mut state = State::new(alloc)?;
     let now = Instant::read("2024-01-01T00:00:00Z")?;
-    match decide(alloc, &policy, &mut state, under, Some(b"adam"), op, now) {
+    match decide(
+        alloc,
+        &policy,
+        &mut state,
+        under,
+        1_000_000,
+        Some(b"adam"),
+        op,
+        now,
+    ) {
         Ok(_) => Ok(Some(true)),
         Err(CallFault::Op(OpFault::HistoryFull)) => Ok(Some(false)),
         Err(_) => Ok(None),

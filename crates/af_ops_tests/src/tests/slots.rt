@@ -47,7 +47,16 @@ fn trigger(alloc: Global, state: &mut State) -> Result<(), Fail> {
     let policy = policy(alloc)?;
     let op = asked(alloc, Endpoint::TriggerRun, "f", b"{}")?;
     let under = Under { version: 0, seq: 0 };
-    match decide(alloc, &policy, state, under, Some(b"adam"), &op, now()?) {
+    match decide(
+        alloc,
+        &policy,
+        state,
+        under,
+        1_000_000,
+        Some(b"adam"),
+        &op,
+        now()?,
+    ) {
         Ok(prepared) => {
             let _reply = commit(state, prepared);
             Ok(())
@@ -87,7 +96,16 @@ fn refusal(alloc: Global, state: &mut State) -> Result<Option<OpFault>, Fail> {
     let policy = policy(alloc)?;
     let op = asked(alloc, Endpoint::AddPool, "", POOL_P)?;
     let under = Under { version: 0, seq: 0 };
-    match decide(alloc, &policy, state, under, Some(b"adam"), &op, now()?) {
+    match decide(
+        alloc,
+        &policy,
+        state,
+        under,
+        1_000_000,
+        Some(b"adam"),
+        &op,
+        now()?,
+    ) {
         Ok(_) => Ok(None),
         Err(CallFault::Op(fault)) => Ok(Some(fault)),
         Err(_) => Err(Fail::new("adam may not add pools")),
