@@ -2,13 +2,13 @@
 """afplane once more, plain and slow, to compare its answers with.
 
   python3 bench/oracle.py CONFIG NOW < requests > answers
-  python3 bench/oracle.py --has landed,pages CONFIG NOW < requests > answers
+  python3 bench/oracle.py --has landed,audit CONFIG NOW < requests > answers
 
 It is written from the words that say what afplane does, not from its code: it reads the configuration
 (oracle_config.py), then the HTTP/1.1 requests of standard input, and answers them one after another (oracle_table.py has
 the operations, oracle_state.py and oracle_policy.py what they do). Its exit status and its words on standard error are
 the program's own. `--has` names the operations that there are: `landed` (where nothing is said), which is `dags`, `pools`,
-`variables` and `limits`; `pages`, `policy`, `all`, or single ones.
+`variables`, `limits` and `pages`; `audit`, `policy`, `all`, or single ones.
 """
 import re
 import sys

@@ -106,10 +106,11 @@ GROUPS = {
     "pools": required_on(POOLS),
     "variables": required_on(VARIABLES) | {"variables"},
     "limits": {"history_limit", "version_limit"},
-    "pages": {"pages", "list_entries", "full_history"},
+    "pages": {"pages"},
+    "audit": {"list_entries", "full_history"},
     "policy": {it.name for it in OPERATIONS if it.on_policy} | {"access_control", "full_versions"},
 }
-LANDED = GROUPS["dags"] | GROUPS["pools"] | GROUPS["variables"] | GROUPS["limits"]
+LANDED = GROUPS["dags"] | GROUPS["pools"] | GROUPS["variables"] | GROUPS["limits"] | GROUPS["pages"]
 GROUPS["landed"] = LANDED
 GROUPS["all"] = set().union(*GROUPS.values())
 

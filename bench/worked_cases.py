@@ -90,10 +90,10 @@ CONNECTIONS = [
         ("uma", "POST /dags/a/dagRuns", '{"conf":{"x":1}}', 400, "bad member: conf", 2),
         ("uma", "POST /dags/~/dagRuns", "{}", 404, "no such path", None, None),
     ]),
-    ("runs of a reader of one DAG, not cut yet", "landed", NOW, {}, [
+    ("runs of a reader of one DAG", "landed", NOW, {}, [
         *FIVE_RUNS,
         ("ron", "GET /dags/~/dagRuns", "", 200, listed("dag_runs", 3, on_day("b", 2), on_day("b", 3), on_day("b", 5)), 5),
-        ("ron", "GET /dags/%7e/dagRuns?limit=2&offset=1", "", 200, listed("dag_runs", 3, on_day("b", 2), on_day("b", 3), on_day("b", 5)), 5),
+        ("ron", "GET /dags/%7e/dagRuns?limit=2&offset=1", "", 200, listed("dag_runs", 3, on_day("b", 3), on_day("b", 5)), 5),
         ("bob", "GET /dags/~/dagRuns", "", 403, "missing permission DAG Runs.can_read", 5),
         ("pat", "GET /dags/~/dagRuns", "", 403, "missing permission DAGs.can_read", 5),
         ("ron", "GET /dags/a/dagRuns", "", 403, "missing permission DAG:a.can_read", 5),
@@ -109,7 +109,7 @@ CONNECTIONS = [
         ("vera", "GET /dags/b/tasks", "", 200, listed("tasks", 1, TASK), 5),
         ("vera", f"GET {R2}/taskInstances/u", "", 404, "no such task: u", 5),
     ]),
-    ("pages of the runs of a reader of one DAG", "landed,pages", NOW, {}, [
+    ("pages of the runs of a reader of one DAG", "landed", NOW, {}, [
         *FIVE_RUNS,
         ("ron", "GET /dags/~/dagRuns?limit=2&offset=1", "", 200, listed("dag_runs", 3, on_day("b", 3), on_day("b", 5)), 5),
         ("ron", "GET /dags/~/dagRuns?offset=9", "", 200, listed("dag_runs", 3), 5),
@@ -117,7 +117,17 @@ CONNECTIONS = [
         ("ron", "GET /dags/~/dagRuns?limit=1000", "", 200, listed("dag_runs", 3, on_day("b", 2), on_day("b", 3), on_day("b", 5)), 5),
         ("ron", "GET /dags/~/dagRuns?limit=-1", "", 400, "bad parameter: limit", 5),
         ("bob", "GET /dags/~/dagRuns?limit=-1", "", 403, "missing permission DAG Runs.can_read", 5),
+        ("ron", "GET /dags/~/dagRuns?limit=1&limit=x&offset=2", "", 200, listed("dag_runs", 3, on_day("b", 5)), 5),
+        ("ron", "GET /dags/~/dagRuns?offset=x&limit=", "", 400, "bad parameter: limit", 5),
+        ("ron", "GET /dags/~/dagRuns?%6cimit=1&OFFSET=9", "", 200, listed("dag_runs", 3, on_day("b", 2)), 5),
+        ("ron", f"GET /dags/~/dagRuns?limit={'9' * 30}", "", 200, listed("dag_runs", 3, on_day("b", 2), on_day("b", 3), on_day("b", 5)), 5),
+        ("ron", f"GET /dags/~/dagRuns?offset={'9' * 30}", "", 200, listed("dag_runs", 3), 5),
+        ("ron", "GET /dags/b/dagRuns?limit=1&offset=1", "", 200, listed("dag_runs", 3, on_day("b", 3)), 5),
+        ("vera", "GET /dags/nosuch/dagRuns?offset=+1", "", 400, "bad parameter: offset", 5),
+        ("vera", f"GET {R2}/taskInstances?limit=1", "", 200, listed("task_instances", 1, instance_row()), 5),
+        ("vera", f"GET {R2}/taskInstances?offset=1", "", 200, listed("task_instances", 1), 5),
         ("vera", "GET /dags/b/tasks?limit=x", "", 200, listed("tasks", 1, TASK), 5),
+        ("vera", f"GET {R2}?limit=x", "", 200, on_day("b", 2), 5),
     ]),
     ("marks and clears", "landed", NOW, {}, [
         *FIVE_RUNS[:3],
@@ -210,13 +220,13 @@ CONNECTIONS = [
         ("adam", "POST /pools", '{"name":"p","slots":2}', 200, pool_row("p", 2), 1),
         ("adam", "DELETE /pools/p", "", 204, "", 2),
     ]),
-    ("the audit", "landed,pages", NOW, {}, [
+    ("the audit", "landed,audit", NOW, {}, [
         ("uma", "PATCH /dags/b", ON, 200, None, 1),
         ("uma", "PATCH /dags/b", ON, 200, None, 1),
         ("adam", "GET /eventLogs", "", 200, listed("event_logs", 1, ENTRY), 1),
         ("uma", "GET /eventLogs", "", 403, "missing permission Audit Logs.can_read", 1),
     ]),
-    ("the limit of the history, of pools and variables", "landed,pages", NOW, {"history_limit": 1}, [
+    ("the limit of the history, of pools and variables", "landed,audit", NOW, {"history_limit": 1}, [
         ("adam", "POST /variables", '{"key":"k","value":"v"}', 200, variable_row("k", "v"), 1),
         ("adam", "POST /variables", '{"key":"k","value":"v"}', 409, "exists: k", 1),
         ("adam", "POST /variables", '{"key":"l","value":"v"}', 507, "history full", 1),
@@ -226,7 +236,7 @@ CONNECTIONS = [
         ("adam", "DELETE /pools/default_pool", "", 409, "default pool", 1),
         ("adam", "GET /eventLogs", "", 200, listed("event_logs", 1, ADDED), 1),
     ]),
-    ("the limit of the history", "landed,pages", NOW, {"history_limit": 3}, [
+    ("the limit of the history", "landed,audit", NOW, {"history_limit": 3}, [
         ("uma", "PATCH /dags/b", ON, 200, None, 1),
         ("uma", "PATCH /dags/b", OFF, 200, None, 2),
         ("uma", "PATCH /dags/b", ON, 200, None, 3),
@@ -259,7 +269,7 @@ CONNECTIONS = [
         ("adam", "GET /roles/Viewer", "", 200, None, None, 4),
         ("uma", SYNC, "{", 403, "missing permission Roles.can_edit", None, 4),
     ]),
-    ("roles and users", "landed,policy,pages", NOW, {}, [
+    ("roles and users", "landed,policy", NOW, {}, [
         ("adam", "GET /roles/OnlyB", "", 200, ROLE, None),
         ("adam", "GET /users?limit=1", "", 200, '{"total_entries":8,"users":[{"roles":[{"name":"Admin"}],"username":"adam"}]}', None),
         ("adam", "DELETE /roles/OnlyB", "", 409, "role in use: OnlyB", None),

@@ -9,6 +9,7 @@ use Rattle.std.proofs.lemmas.Bool.{lt-ltb}
 use Rattle.std.proofs.lemmas.Str.{IsUtf8-from_is_utf8, is_utf8-from_IsUtf8}
 use Rattle.percent_encoding.specs.Percent.{percent_decode}
 use Rattle.percent_encoding.proofs.PercentLemmas.{percent_decode-nil, percent_decode_not_percent}
+use Rattle.af_listing.specs.Windows.{window_of}
 use Rattle.af_names.specs.Names.{Grammar, id_grammar, is_spelled, is_tilde, named as name_in, row_name_grammar, run_id_grammar}
 use Rattle.af_names.specs.declared.name_error.NameError.TheVariants.{BadName, TooLong}
 use Rattle.af_ops.specs.declared.endpoint.Endpoint.{Endpoint}
@@ -244,12 +245,12 @@ no_names method place.Variables texts few long = absurd (no_part texts few long)
 no_names method place.Variable texts few long = no_row texts few long
 
 -- so there is no such path
-pub unfit_path : (method body : List ℕ) (p : Place) (path : List ℕ) → IsUnfit (parts_in (segments_of p) path) → with_parts method body p (parts_in (segments_of p) path) ≡ Err fault.NoPath
-unfit_path method body p path unfit = by (parts_in (segments_of p) path) (parts_few (segments_of p) path) unfit
+pub unfit_path : (method query body : List ℕ) (p : Place) (path : List ℕ) → IsUnfit (parts_in (segments_of p) path) → with_parts method query body p (parts_in (segments_of p) path) ≡ Err fault.NoPath
+unfit_path method query body p path unfit = by (parts_in (segments_of p) path) (parts_few (segments_of p) path) unfit
   where
-    by : (parts : Option (List (List ℕ))) → IfSome parts (λ texts. length texts ≤ part_count (segments_of p)) → IsUnfit parts → with_parts method body p parts ≡ Err fault.NoPath
+    by : (parts : Option (List (List ℕ))) → IfSome parts (λ texts. length texts ≤ part_count (segments_of p)) → IsUnfit parts → with_parts method query body p parts ≡ Err fault.NoPath
     by None few unfit = refl
-    by (Some texts) few unfit = ap (λ (b : Bool). if b then by_method method p texts body else Err fault.NoPath) (no_names (method_of method) p texts few unfit)
+    by (Some texts) few unfit = ap (λ (b : Bool). if b then by_method method p texts query body else Err fault.NoPath) (no_names (method_of method) p texts few unfit)
 
 -- ---- what an operation reads are names exactly where the parts are
 
@@ -278,67 +279,67 @@ some_if f None false y = refl
 some_if f (Some x) true y = refl
 some_if f (Some x) false y = refl
 
-abbrev Agrees : Method → Place → List (List ℕ) → List ℕ → Option Endpoint → Type 0
-Agrees method p parts body None = ⊤
-Agrees method p parts body (Some endpoint) = are_names (Some method) p parts ≡ is_some (op_of_row endpoint parts body)
+abbrev Agrees : Method → Place → List (List ℕ) → List ℕ → List ℕ → Option Endpoint → Type 0
+Agrees method p parts query body None = ⊤
+Agrees method p parts query body (Some endpoint) = are_names (Some method) p parts ≡ is_some (op_of_row endpoint parts query body)
 
-agrees : (method : Method) (p : Place) (parts : List (List ℕ)) (body : List ℕ) → Agrees method p parts body (endpoint_at method p)
-agrees Get place.Version parts body = refl
-agrees Post place.Version parts body = tt
-agrees Patch place.Version parts body = tt
-agrees Delete place.Version parts body = tt
-agrees Get place.Dags parts body = refl
-agrees Post place.Dags parts body = tt
-agrees Patch place.Dags parts body = tt
-agrees Delete place.Dags parts body = tt
-agrees Get place.Dag parts body = some_map (λ dag_id. op.GetDag dag_id) (dag_id_in parts)
-agrees Post place.Dag parts body = tt
-agrees Patch place.Dag parts body = some_map (λ dag_id. op.PauseDag dag_id (pause_in body)) (dag_id_in parts)
-agrees Delete place.Dag parts body = tt
-agrees Get place.Tasks parts body = some_map (λ dag_id. op.ListTasks dag_id) (dag_id_in parts)
-agrees Post place.Tasks parts body = tt
-agrees Patch place.Tasks parts body = tt
-agrees Delete place.Tasks parts body = tt
-agrees Get place.Runs parts body = some_if (λ dag_id. op.ListRuns (Some dag_id)) (dag_id_in parts) (is_all parts) (op.ListRuns None)
-agrees Post place.Runs parts body = some_or_false (λ dag_id. op.TriggerRun dag_id (trigger_in body)) (dag_id_in parts)
-agrees Patch place.Runs parts body = tt
-agrees Delete place.Runs parts body = tt
-agrees Get place.Run parts body = some_both (λ ids. op.GetRun ids.0 ids.1) (dag_id_in parts) (run_id_in parts)
-agrees Post place.Run parts body = tt
-agrees Patch place.Run parts body = some_both (λ ids. op.MarkRun ids.0 ids.1 (mark_in body)) (dag_id_in parts) (run_id_in parts)
-agrees Delete place.Run parts body = some_both (λ ids. op.DeleteRun ids.0 ids.1) (dag_id_in parts) (run_id_in parts)
-agrees Get place.RunClear parts body = tt
-agrees Post place.RunClear parts body = some_both (λ ids. op.ClearRun ids.0 ids.1 (clear_run_in body)) (dag_id_in parts) (run_id_in parts)
-agrees Patch place.RunClear parts body = tt
-agrees Delete place.RunClear parts body = tt
-agrees Get place.Instances parts body = some_both (λ ids. op.ListInstances ids.0 ids.1) (dag_id_in parts) (run_id_in parts)
-agrees Post place.Instances parts body = tt
-agrees Patch place.Instances parts body = tt
-agrees Delete place.Instances parts body = tt
-agrees Get place.Instance parts body = some_three (λ ids. op.GetInstance ids.0.0 ids.0.1 ids.1) (dag_id_in parts) (run_id_in parts) (task_id_in parts)
-agrees Post place.Instance parts body = tt
-agrees Patch place.Instance parts body = tt
-agrees Delete place.Instance parts body = tt
-agrees Get place.Clear parts body = tt
-agrees Post place.Clear parts body = some_map (λ dag_id. op.ClearInstances dag_id (clear_in body)) (dag_id_in parts)
-agrees Patch place.Clear parts body = tt
-agrees Delete place.Clear parts body = tt
-agrees Get place.Pools parts body = refl
-agrees Post place.Pools parts body = refl
-agrees Patch place.Pools parts body = tt
-agrees Delete place.Pools parts body = tt
-agrees Get place.Pool parts body = some_map (λ name. op.Pool (pool.Get name)) (row_name_in parts)
-agrees Post place.Pool parts body = tt
-agrees Patch place.Pool parts body = some_map (λ name. op.Pool (pool.Change name (slots_in body))) (row_name_in parts)
-agrees Delete place.Pool parts body = some_map (λ name. op.Pool (pool.Delete name)) (row_name_in parts)
-agrees Get place.Variables parts body = refl
-agrees Post place.Variables parts body = refl
-agrees Patch place.Variables parts body = tt
-agrees Delete place.Variables parts body = tt
-agrees Get place.Variable parts body = some_map (λ key. op.Variable (variable.Get key)) (row_name_in parts)
-agrees Post place.Variable parts body = tt
-agrees Patch place.Variable parts body = some_map (λ key. op.Variable (variable.Change key (value_in body))) (row_name_in parts)
-agrees Delete place.Variable parts body = some_map (λ key. op.Variable (variable.Delete key)) (row_name_in parts)
+agrees : (method : Method) (p : Place) (parts : List (List ℕ)) (query body : List ℕ) → Agrees method p parts query body (endpoint_at method p)
+agrees Get place.Version parts query body = refl
+agrees Post place.Version parts query body = tt
+agrees Patch place.Version parts query body = tt
+agrees Delete place.Version parts query body = tt
+agrees Get place.Dags parts query body = refl
+agrees Post place.Dags parts query body = tt
+agrees Patch place.Dags parts query body = tt
+agrees Delete place.Dags parts query body = tt
+agrees Get place.Dag parts query body = some_map (λ dag_id. op.GetDag dag_id) (dag_id_in parts)
+agrees Post place.Dag parts query body = tt
+agrees Patch place.Dag parts query body = some_map (λ dag_id. op.PauseDag dag_id (pause_in body)) (dag_id_in parts)
+agrees Delete place.Dag parts query body = tt
+agrees Get place.Tasks parts query body = some_map (λ dag_id. op.ListTasks dag_id) (dag_id_in parts)
+agrees Post place.Tasks parts query body = tt
+agrees Patch place.Tasks parts query body = tt
+agrees Delete place.Tasks parts query body = tt
+agrees Get place.Runs parts query body = some_if (λ dag_id. op.ListRuns (Some dag_id) (window_of query)) (dag_id_in parts) (is_all parts) (op.ListRuns None (window_of query))
+agrees Post place.Runs parts query body = some_or_false (λ dag_id. op.TriggerRun dag_id (trigger_in body)) (dag_id_in parts)
+agrees Patch place.Runs parts query body = tt
+agrees Delete place.Runs parts query body = tt
+agrees Get place.Run parts query body = some_both (λ ids. op.GetRun ids.0 ids.1) (dag_id_in parts) (run_id_in parts)
+agrees Post place.Run parts query body = tt
+agrees Patch place.Run parts query body = some_both (λ ids. op.MarkRun ids.0 ids.1 (mark_in body)) (dag_id_in parts) (run_id_in parts)
+agrees Delete place.Run parts query body = some_both (λ ids. op.DeleteRun ids.0 ids.1) (dag_id_in parts) (run_id_in parts)
+agrees Get place.RunClear parts query body = tt
+agrees Post place.RunClear parts query body = some_both (λ ids. op.ClearRun ids.0 ids.1 (clear_run_in body)) (dag_id_in parts) (run_id_in parts)
+agrees Patch place.RunClear parts query body = tt
+agrees Delete place.RunClear parts query body = tt
+agrees Get place.Instances parts query body = some_both (λ ids. op.ListInstances ids.0 ids.1 (window_of query)) (dag_id_in parts) (run_id_in parts)
+agrees Post place.Instances parts query body = tt
+agrees Patch place.Instances parts query body = tt
+agrees Delete place.Instances parts query body = tt
+agrees Get place.Instance parts query body = some_three (λ ids. op.GetInstance ids.0.0 ids.0.1 ids.1) (dag_id_in parts) (run_id_in parts) (task_id_in parts)
+agrees Post place.Instance parts query body = tt
+agrees Patch place.Instance parts query body = tt
+agrees Delete place.Instance parts query body = tt
+agrees Get place.Clear parts query body = tt
+agrees Post place.Clear parts query body = some_map (λ dag_id. op.ClearInstances dag_id (clear_in body)) (dag_id_in parts)
+agrees Patch place.Clear parts query body = tt
+agrees Delete place.Clear parts query body = tt
+agrees Get place.Pools parts query body = refl
+agrees Post place.Pools parts query body = refl
+agrees Patch place.Pools parts query body = tt
+agrees Delete place.Pools parts query body = tt
+agrees Get place.Pool parts query body = some_map (λ name. op.Pool (pool.Get name)) (row_name_in parts)
+agrees Post place.Pool parts query body = tt
+agrees Patch place.Pool parts query body = some_map (λ name. op.Pool (pool.Change name (slots_in body))) (row_name_in parts)
+agrees Delete place.Pool parts query body = some_map (λ name. op.Pool (pool.Delete name)) (row_name_in parts)
+agrees Get place.Variables parts query body = refl
+agrees Post place.Variables parts query body = refl
+agrees Patch place.Variables parts query body = tt
+agrees Delete place.Variables parts query body = tt
+agrees Get place.Variable parts query body = some_map (λ key. op.Variable (variable.Get key)) (row_name_in parts)
+agrees Post place.Variable parts query body = tt
+agrees Patch place.Variable parts query body = some_map (λ key. op.Variable (variable.Change key (value_in body))) (row_name_in parts)
+agrees Delete place.Variable parts query body = some_map (λ key. op.Variable (variable.Delete key)) (row_name_in parts)
 
 reads_if_named : (o : Option Op) (b : Bool) → b ≡ is_some o → (if b then ok_or o fault.NoPath else Err fault.NoPath) ≡ ok_or o fault.NoPath
 reads_if_named None true is = refl
@@ -347,20 +348,20 @@ reads_if_named (Some x) true is = refl
 reads_if_named (Some x) false is = cc
 
 -- where the path has the method, what its operation reads is all
-pub named_read : (method body : List ℕ) (p : Place) (parts : List (List ℕ)) (endpoint : Endpoint) → endpoint_of method p ≡ Some endpoint → named method body p parts ≡ read endpoint parts body
-named_read method body p parts endpoint is = by (method_of method) is
+pub named_read : (method query body : List ℕ) (p : Place) (parts : List (List ℕ)) (endpoint : Endpoint) → endpoint_of method p ≡ Some endpoint → named method query body p parts ≡ read endpoint parts query body
+named_read method query body p parts endpoint is = by (method_of method) is
   where
     by : (m : Option Method) → option_and_then (λ it. endpoint_at it p) m ≡ Some endpoint
-        → (if are_names m p parts then by_endpoint p parts body (option_and_then (λ it. endpoint_at it p) m) else Err fault.NoPath) ≡ read endpoint parts body
+        → (if are_names m p parts then by_endpoint p parts query body (option_and_then (λ it. endpoint_at it p) m) else Err fault.NoPath) ≡ read endpoint parts query body
     by None is = cc
     by (Some m) is =
-        let P : Option Endpoint → Type 0 = λ o. Agrees m p parts body o in
-        ap (λ (o : Option Endpoint). if are_names (Some m) p parts then by_endpoint p parts body o else Err fault.NoPath) is
-        ∙ reads_if_named (op_of_row endpoint parts body) (are_names (Some m) p parts) (subst P is (agrees m p parts body))
+        let P : Option Endpoint → Type 0 = λ o. Agrees m p parts query body o in
+        ap (λ (o : Option Endpoint). if are_names (Some m) p parts then by_endpoint p parts query body o else Err fault.NoPath) is
+        ∙ reads_if_named (op_of_row endpoint parts query body) (are_names (Some m) p parts) (subst P is (agrees m p parts query body))
 
 -- and where it has not, the parts alone decide
-pub named_fault : (method body : List ℕ) (p : Place) (parts : List (List ℕ)) (b : Bool) → endpoint_of method p ≡ None → are_names (method_of method) p parts ≡ b
-    → named method body p parts ≡ (if b then Err (fault.BadMethod (methods_at p)) else Err fault.NoPath)
-named_fault method body p parts b none is =
-    ap (λ (o : Option Endpoint). if are_names (method_of method) p parts then by_endpoint p parts body o else Err fault.NoPath) none
+pub named_fault : (method query body : List ℕ) (p : Place) (parts : List (List ℕ)) (b : Bool) → endpoint_of method p ≡ None → are_names (method_of method) p parts ≡ b
+    → named method query body p parts ≡ (if b then Err (fault.BadMethod (methods_at p)) else Err fault.NoPath)
+named_fault method query body p parts b none is =
+    ap (λ (o : Option Endpoint). if are_names (method_of method) p parts then by_endpoint p parts query body o else Err fault.NoPath) none
     ∙ ap (λ (c : Bool). if c then Err (fault.BadMethod (methods_at p)) else Err fault.NoPath) is

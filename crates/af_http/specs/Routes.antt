@@ -1,6 +1,6 @@
 -- Which operation a request names (Airflow 2, "Stable REST API"): its path is one of the table's, its parts are names of their
 -- kinds, and its method is one that the path has.
-use Rattle.std.specs.Prelude.{ℕ, ◌≡◌, ◌==◌, ◌&&◌, Bool, true, false, not, List, [], ◌∷◌, Option, Some, None, option_map, option_and_then, ok_or, Result, Ok, Err, cond, if◌then◌else◌, bytes_eq, IsOk}
+use Rattle.std.specs.Prelude.{ℕ, ◌≡◌, ◌==◌, ◌&&◌, Bool, true, false, not, List, [], ◌∷◌, Option, Some, None, option_map, option_and_then, ok_or, Result, Ok, Err, cond, drop, if◌then◌else◌, bytes_eq, IsOk}
 use Rattle.std.specs.List.{find}
 use Rattle.std.specs.Str.{is_utf8}
 use Rattle.percent_encoding.specs.Percent.{percent_decode}
@@ -22,9 +22,13 @@ abbrev pub onward : ℕ → List ℕ → List ℕ
 onward byte [] = []
 onward byte (b ∷ text) = cond (b == byte) (b ∷ text) (onward byte text)
 
--- the path of a target: what stands before its first `?` (RFC 9112, section 3.2.1); the query is not read yet
+-- the path of a target: what stands before its first `?` (RFC 9112, section 3.2.1)
 abbrev pub path_of : List ℕ → List ℕ
 path_of target = before 63 target
+
+-- its query: what stands behind that `?`, or nothing where there is none; `#` is a byte as any other
+abbrev pub query_of : List ℕ → List ℕ
+query_of target = drop 1 (onward 63 target)
 
 -- ---- paths
 
@@ -72,32 +76,32 @@ abbrev pub endpoint_of : List ℕ → Place → Option Endpoint
 endpoint_of method place = option_and_then (λ it. endpoint_at it place) (method_of method)
 
 -- what an operation reads
-abbrev pub read : Endpoint → List (List ℕ) → List ℕ → Result Op RouteFault
-read endpoint parts body = ok_or (op_of_row endpoint parts body) NoPath
+abbrev pub read : Endpoint → List (List ℕ) → List ℕ → List ℕ → Result Op RouteFault
+read endpoint parts query body = ok_or (op_of_row endpoint parts query body) NoPath
 
 -- at a path: what the operation of the method reads, if the path has that method
-abbrev pub by_endpoint : Place → List (List ℕ) → List ℕ → Option Endpoint → Result Op RouteFault
-by_endpoint place parts body None = Err (BadMethod (methods_at place))
-by_endpoint place parts body (Some endpoint) = read endpoint parts body
+abbrev pub by_endpoint : Place → List (List ℕ) → List ℕ → List ℕ → Option Endpoint → Result Op RouteFault
+by_endpoint place parts query body None = Err (BadMethod (methods_at place))
+by_endpoint place parts query body (Some endpoint) = read endpoint parts query body
 
-abbrev pub by_method : List ℕ → Place → List (List ℕ) → List ℕ → Result Op RouteFault
-by_method method place parts body = by_endpoint place parts body (endpoint_of method place)
+abbrev pub by_method : List ℕ → Place → List (List ℕ) → List ℕ → List ℕ → Result Op RouteFault
+by_method method place parts query body = by_endpoint place parts query body (endpoint_of method place)
 
-abbrev pub named : List ℕ → List ℕ → Place → List (List ℕ) → Result Op RouteFault
-named method body place parts = if are_names (method_of method) place parts then by_method method place parts body else Err NoPath
+abbrev pub named : List ℕ → List ℕ → List ℕ → Place → List (List ℕ) → Result Op RouteFault
+named method query body place parts = if are_names (method_of method) place parts then by_method method place parts query body else Err NoPath
 
-abbrev pub with_parts : List ℕ → List ℕ → Place → Option (List (List ℕ)) → Result Op RouteFault
-with_parts method body place None = Err NoPath
-with_parts method body place (Some parts) = named method body place parts
+abbrev pub with_parts : List ℕ → List ℕ → List ℕ → Place → Option (List (List ℕ)) → Result Op RouteFault
+with_parts method query body place None = Err NoPath
+with_parts method query body place (Some parts) = named method query body place parts
 
-abbrev pub at_place : List ℕ → List ℕ → List ℕ → Option Place → Result Op RouteFault
-at_place method path body None = Err NoPath
-at_place method path body (Some place) = with_parts method body place (parts_in (segments_of place) path)
+abbrev pub at_place : List ℕ → List ℕ → List ℕ → List ℕ → Option Place → Result Op RouteFault
+at_place method path query body None = Err NoPath
+at_place method path query body (Some place) = with_parts method query body place (parts_in (segments_of place) path)
 
 -- The operation that a method, a target and a body name, or why they name none: no such path, also where a part is no text or
 -- no name of its kind; then no such method.
 abbrev pub op_of : List ℕ → List ℕ → List ℕ → Result Op RouteFault
-op_of method target body = at_place method (path_of target) body (place_of (path_of target))
+op_of method target body = at_place method (path_of target) (query_of target) body (place_of (path_of target))
 
 abbrev pub IsAsked : Result Op RouteFault → Op → Type 0
 IsAsked (Ok wanted) op = IsRead (Some wanted) (Some op)

@@ -2,7 +2,7 @@ ghost use Rattle.std.specs.Prelude.{◌≡◌, ◌+◌, ◌≤◌, Some, false, 
 ghost use Rattle.af_ops.specs.Segments.{seen};
 ghost use Rattle.af_http.specs.Limits.{part_limit};
 ghost use Rattle.af_http.specs.Parts.{IsUnfit, part_count, with_all};
-ghost use Rattle.af_http.specs.Routes.{IsRouted, before, endpoint_of, has_form, named, onward, op_of, parts_in, path_of, place_of, read, stands_for};
+ghost use Rattle.af_http.specs.Routes.{IsRouted, before, endpoint_of, has_form, named, onward, op_of, parts_in, path_of, place_of, query_of, read, stands_for};
 
 use crate::parts::Parts;
 use crate::route_fault::RouteFault;
@@ -91,29 +91,36 @@ fn endpoint_of(method: &[u8], place: Place) -> Option<Endpoint>
 }
 
 /// What an operation reads.
-fn read(alloc: Global, endpoint: Endpoint, parts: &[String], body: &[u8]) -> Result<Op, RouteFault>
-    ensures { IsRouted (read endpoint (map (λ part. string_bytes part) parts.now) body.now) result }
+fn read(
+    alloc: Global,
+    endpoint: Endpoint,
+    parts: &[String],
+    query: &[u8],
+    body: &[u8],
+) -> Result<Op, RouteFault>
+    ensures { IsRouted (read endpoint (map (λ part. string_bytes part) parts.now) query.now body.now) result }
 {
-    match read_row(alloc, endpoint, parts, body) {
+    match read_row(alloc, endpoint, parts, query, body) {
         Ok(Some(op)) => Ok(op),
         Ok(None) => Err(RouteFault::NoPath),
         Err(_) => Err(RouteFault::OutOfMemory),
     }
 }
 
-/// What a method and a body ask for at a path of this form, whose parts have these texts. Each is read as a name once: by its
+/// What a method, a query and a body ask for at a path of this form, whose parts have these texts. Each is read as a name once: by its
 /// operation, or where the path has no such method.
 fn named(
     alloc: Global,
     method: &[u8],
     place: Place,
     parts: &[String],
+    query: &[u8],
     body: &[u8],
 ) -> Result<Op, RouteFault>
-    ensures { IsRouted (named method.now body.now place (map (λ part. string_bytes part) parts.now)) result }
+    ensures { IsRouted (named method.now query.now body.now place (map (λ part. string_bytes part) parts.now)) result }
 {
     match endpoint_of(method, place) {
-        Some(endpoint) => read(alloc, endpoint, parts, body),
+        Some(endpoint) => read(alloc, endpoint, parts, query, body),
         None if are_names(alloc, Method::named(method), place, parts) => Err(RouteFault::BadMethod(
             methods_at(place),
         )),
@@ -128,6 +135,16 @@ fn path_of(target: &[u8]) -> &[u8]
     match memchr(b'?', target) {
         Some(at) => target.split_at(at).0,
         None => target,
+    }
+}
+
+/// The query of a target: what stands behind its first `?`.
+fn query_of(target: &[u8]) -> &[u8]
+    ensures { result.now ≡ query_of target.now }
+{
+    match memchr(b'?', target) {
+        Some(at) => target.split_at(at + 1).1,
+        None => &[],
     }
 }
 
@@ -168,7 +185,7 @@ impl Routes {
     }
 
     /// The operation that a method, a target and a body name, or why they name none. Want of memory is told only where they
-    /// name one. The query is not read yet.
+    /// name one.
     pub fn read_op(&mut self, method: &[u8], target: &[u8], body: &[u8]) -> Result<Op, RouteFault>
         ensures { IsRouted (op_of method.now target.now body.now) result }
     {
@@ -180,6 +197,14 @@ impl Routes {
         if !read_parts(place.segments(), path, &mut self.parts) {
             return Err(RouteFault::NoPath);
         }
-        named(self.alloc, method, place, self.parts.as_slice(), body)
+        let query = query_of(target);
+        named(
+            self.alloc,
+            method,
+            place,
+            self.parts.as_slice(),
+            query,
+            body,
+        )
     }
 }

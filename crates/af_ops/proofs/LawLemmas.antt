@@ -7,7 +7,9 @@ use Rattle.af_graph.specs.declared.task_spec.TaskSpec.{TaskSpec}
 use Rattle.std.specs.Cmp.Lexicographic.{bytes_decides, nat_list_cmp_total}
 use Rattle.serde_json.specs.Data.{Data}
 use Rattle.af_base.specs.Readings.{◌>>=◌}
-use Rattle.af_names.proofs.OrderLemmas.{order-filter, order-take}
+use Rattle.af_listing.specs.Windows.{Cut}
+use Rattle.af_names.proofs.OrderLemmas.{order-filter}
+use Rattle.af_policy.specs.declared.bad_input.Parameter.{Parameter}
 use Rattle.af_runs.specs.Clears.{are_left_by}
 use Rattle.af_runs.specs.Marks.{is_marked, marked_run}
 use Rattle.af_runs.specs.Runs.{add_fault, is_of, is_run, queued_run, run_of, runs_of}
@@ -27,12 +29,13 @@ use Rattle.af_ops.specs.declared.clear.Clear.{Clear}
 use Rattle.af_ops.specs.declared.op.Op.TheVariants as op
 use Rattle.af_ops.specs.declared.trigger.Trigger.{Trigger}
 use Rattle.af_ops.specs.Edits.{with_clear, with_run}
-use Rattle.af_ops.specs.Effects.{Effect, added_run, all_tasks, clearing, deleting, differs, filter_of, free_by, free_id, id_or, input_or, instance_of, instances_cleared, instances_data, kept, known_run, known_tasks, listed_runs, marking, new_run, one_run, paused_dag, pausing, run_cleared, run_deleted, run_marked, runs_data, selection_of, tasks_data, triggered_run, with_marked_run, without_run_of}
+use Rattle.af_ops.specs.Effects.{Effect, added_run, all_tasks, clearing, dags_data, deleting, differs, filter_of, free_by, free_id, id_or, input_or, instance_of, instances_cleared, instances_data, kept, known_run, known_tasks, listed_runs, marking, new_run, one_run, paused_dag, pausing, run_cleared, run_deleted, run_marked, runs_data, selection_of, tasks_data, triggered_run, window_or, with_marked_run, without_run_of}
 use Rattle.af_runs.proofs.MarkLemmas.{chosen_alone}
 use Rattle.af_ops.specs.Laws.{ClearsTouchChosenAlone, DryRunsLeaveTheState, ListingsGoById, ReadingsLeaveTheState, ChangesLeaveAnotherState, ChangesStayAtTheirDag, LeavesOthers}
 use Rattle.af_ops.specs.Listings.{read_rows}
 use Rattle.af_ops.specs.Replies.{dag_data, instance_data, run_data}
 use Rattle.af_ops.specs.Rows.{InstanceTold}
+use Rattle.af_ops.proofs.ListingLemmas.{kept_next, next_in, order_cut, window_kept}
 use Rattle.af_ops.proofs.EditLemmas.{paused_apart, run_apart}
 use Rattle.af_ops.proofs.DeletingLemmas.{deleted_apart, deletes_stay}
 use Rattle.af_ops.proofs.ClearingLemmas.{cleared_apart, clears_stay}
@@ -51,20 +54,11 @@ id_of row = row.dag.dag_id
 
 pub listings_in_order : ListingsGoById
 unfolding id_of
-listings_in_order reads state are =
-    order-take id_of nat_list_cmp_total 100 (read_rows reads (λ (row : DagRow). row.dag.dag_id) state.dags)
+listings_in_order reads window state are =
+    order_cut id_of nat_list_cmp_total window (read_rows reads (λ (row : DagRow). row.dag.dag_id) state.dags)
     (order-filter id_of nat_list_cmp_total (λ (row : DagRow). reads row.dag.dag_id) state.dags are)
 
 -- ---- operations at one DAG
-
-next_in : Result Effect OpFault → Option StateRows
-next_in (Ok e) = e.next
-next_in (Err fault) = None
-
--- a reply alone
-kept_next : (reply : Data) (effect : Effect) → ◌≡◌ {A = Result Effect OpFault} (Ok (kept reply)) (Ok effect) → effect.next ≡ None
-unfolding next_in
-kept_next reply effect is = ap (λ (r : Result Effect OpFault). next_in r) (sym is)
 
 -- one DAG: found or not, the state stays
 got_kept : (found : Option DagRow) (effect : Effect) → (ok_or found NoSuchDag >>= (λ row. Ok (kept (dag_data row)))) ≡ Ok effect → effect.next ≡ None
@@ -78,10 +72,11 @@ run_kept (Some row) None effect is = cc
 run_kept (Some row) (Some run) effect is = kept_next (run_data run) effect is
 
 -- instances
-instances_kept : (dag : Option DagRow) (run : Option Run) (effect : Effect) → (ok_or dag NoSuchDag >>= (λ row. ok_or run NoSuchRun >>= (λ it. Ok (kept (instances_data row.dag.tasks it))))) ≡ Ok effect → effect.next ≡ None
-instances_kept None run effect is = cc
-instances_kept (Some row) None effect is = cc
-instances_kept (Some row) (Some run) effect is = kept_next (instances_data row.dag.tasks run) effect is
+instances_kept : (asked : Result Cut Parameter) (dag : Option DagRow) (run : Option Run) (effect : Effect) → (window_or asked >>= (λ window. ok_or dag NoSuchDag >>= (λ row. ok_or run NoSuchRun >>= (λ it. Ok (kept (instances_data window row.dag.tasks it)))))) ≡ Ok effect → effect.next ≡ None
+instances_kept (Err parameter) dag run effect is = cc
+instances_kept (Ok window) None run effect is = cc
+instances_kept (Ok window) (Some row) None effect is = cc
+instances_kept (Ok window) (Some row) (Some run) effect is = kept_next (instances_data window row.dag.tasks run) effect is
 
 told_kept : (told : Option InstanceTold) (effect : Effect) → (ok_or told NoSuchTask >>= (λ it. Ok (kept (instance_data it)))) ≡ Ok effect → effect.next ≡ None
 told_kept None effect is = cc
@@ -98,28 +93,29 @@ tasks_kept None effect is = cc
 tasks_kept (Some row) effect is = kept_next (tasks_data row.dag.tasks) effect is
 
 -- runs
-runs_kept : (dag : Option DagRow) (reply : Data) (effect : Effect) → (ok_or dag NoSuchDag >>= (λ row. Ok (kept reply))) ≡ Ok effect → effect.next ≡ None
-runs_kept None reply effect is = cc
-runs_kept (Some row) reply effect is = kept_next reply effect is
+runs_kept : (asked : Result Cut Parameter) (dag : Option DagRow) (reply : Cut → Data) (effect : Effect) → (window_or asked >>= (λ window. ok_or dag NoSuchDag >>= (λ row. Ok (kept (reply window))))) ≡ Ok effect → effect.next ≡ None
+runs_kept (Err parameter) dag reply effect is = cc
+runs_kept (Ok window) None reply effect is = cc
+runs_kept (Ok window) (Some row) reply effect is = kept_next (reply window) effect is
 
-listed_kept : (reads : List ℕ → Bool) (state : StateRows) (dag : Option (List ℕ)) (effect : Effect) → listed_runs reads state dag ≡ Ok effect → effect.next ≡ None
-listed_kept reads state None effect is = kept_next (runs_data (read_rows reads (λ (run : Run). run.dag_id) state.runs)) effect is
-listed_kept reads state (Some dag_id) effect is = runs_kept (sched.dag_of state.dags dag_id) (runs_data (runs_of state.runs dag_id)) effect is
+listed_kept : (reads : List ℕ → Bool) (state : StateRows) (dag : Option (List ℕ)) (asked : Result Cut Parameter) (effect : Effect) → listed_runs reads state dag asked ≡ Ok effect → effect.next ≡ None
+listed_kept reads state None asked effect is = window_kept asked (λ window. runs_data window (read_rows reads (λ (run : Run). run.dag_id) state.runs)) effect is
+listed_kept reads state (Some dag_id) asked effect is = runs_kept asked (sched.dag_of state.dags dag_id) (λ window. runs_data window (runs_of state.runs dag_id)) effect is
 
 pub readings_keep : ReadingsLeaveTheState
 readings_keep reads state op.Version now effect get is = cc
-readings_keep reads state op.ListDags now effect get is = cc
+readings_keep reads state (op.ListDags asked) now effect get is = window_kept asked (λ window. dags_data reads window state.dags) effect is
 readings_keep reads state (op.GetDag dag_id) now effect get is = got_kept (sched.dag_of state.dags dag_id) effect is
 readings_keep reads state (op.PauseDag dag_id input) now effect get is = cc
 readings_keep reads state (op.ListTasks dag_id) now effect get is = tasks_kept (sched.dag_of state.dags dag_id) effect is
-readings_keep reads state (op.ListRuns dag) now effect get is = listed_kept reads state dag effect is
+readings_keep reads state (op.ListRuns dag asked) now effect get is = listed_kept reads state dag asked effect is
 readings_keep reads state (op.TriggerRun dag_id input) now effect get is = cc
 readings_keep reads state (op.GetRun dag_id run_id) now effect get is = run_kept (sched.dag_of state.dags dag_id) (run_of state.runs dag_id run_id) effect is
 readings_keep reads state (op.MarkRun dag_id run_id input) now effect get is = cc
 readings_keep reads state (op.DeleteRun dag_id run_id) now effect get is = cc
 readings_keep reads state (op.ClearRun dag_id run_id input) now effect get is = cc
 readings_keep reads state (op.ClearInstances dag_id input) now effect get is = cc
-readings_keep reads state (op.ListInstances dag_id run_id) now effect get is = instances_kept (sched.dag_of state.dags dag_id) (run_of state.runs dag_id run_id) effect is
+readings_keep reads state (op.ListInstances dag_id run_id asked) now effect get is = instances_kept asked (sched.dag_of state.dags dag_id) (run_of state.runs dag_id run_id) effect is
 readings_keep reads state (op.GetInstance dag_id run_id task_id) now effect get is = instance_kept (sched.dag_of state.dags dag_id) (run_of state.runs dag_id run_id) task_id effect is
 readings_keep reads state (op.Pool it) now effect get is = pools_keep state it effect get is
 readings_keep reads state (op.Variable it) now effect get is = variables_keep state it effect get is
@@ -358,13 +354,13 @@ unchanged effect next none changes = absurd (none_some (sym none ∙ changes))
 
 pub changes_differ : ChangesLeaveAnotherState
 changes_differ reads state op.Version now effect next is changes same = unchanged effect next (readings_keep reads state op.Version now effect refl is) changes
-changes_differ reads state op.ListDags now effect next is changes same = unchanged effect next (readings_keep reads state op.ListDags now effect refl is) changes
+changes_differ reads state (op.ListDags asked) now effect next is changes same = unchanged effect next (readings_keep reads state (op.ListDags asked) now effect refl is) changes
 changes_differ reads state (op.GetDag dag_id) now effect next is changes same = unchanged effect next (readings_keep reads state (op.GetDag dag_id) now effect refl is) changes
 changes_differ reads state (op.PauseDag dag_id input) now effect next is changes same =
     let it = pauses state dag_id input effect next is changes in
     paused_apart dag_id it.is_paused state.dags it.row it.found it.differ (ap (λ (s : StateRows). s.dags) (sym it.next_is ∙ same))
 changes_differ reads state (op.ListTasks dag_id) now effect next is changes same = unchanged effect next (readings_keep reads state (op.ListTasks dag_id) now effect refl is) changes
-changes_differ reads state (op.ListRuns dag) now effect next is changes same = unchanged effect next (readings_keep reads state (op.ListRuns dag) now effect refl is) changes
+changes_differ reads state (op.ListRuns dag asked) now effect next is changes same = unchanged effect next (readings_keep reads state (op.ListRuns dag asked) now effect refl is) changes
 changes_differ reads state (op.TriggerRun dag_id input) now effect next is changes same =
     let it = triggers state dag_id input now effect is in
     run_apart state (new_run it.row dag_id it.run_id it.date) (some_same (sym it.next_is ∙ changes) ∙ same)
@@ -381,7 +377,7 @@ changes_differ reads state (op.ClearRun dag_id run_id input) now effect next is 
 changes_differ reads state (op.ClearInstances dag_id input) now effect next is changes same =
     let it = clears_instances state dag_id input effect next is changes in
     cleared_apart state it.asked it.selection it.differ (sym it.next_is ∙ same)
-changes_differ reads state (op.ListInstances dag_id run_id) now effect next is changes same = unchanged effect next (readings_keep reads state (op.ListInstances dag_id run_id) now effect refl is) changes
+changes_differ reads state (op.ListInstances dag_id run_id asked) now effect next is changes same = unchanged effect next (readings_keep reads state (op.ListInstances dag_id run_id asked) now effect refl is) changes
 changes_differ reads state (op.GetInstance dag_id run_id task_id) now effect next is changes same = unchanged effect next (readings_keep reads state (op.GetInstance dag_id run_id task_id) now effect refl is) changes
 changes_differ reads state (op.Pool it) now effect next is changes same = pools_differ it state next effect is changes same
 changes_differ reads state (op.Variable it) now effect next is changes same = variables_differ it state next effect is changes same
@@ -447,12 +443,12 @@ triggers_stay state dag_id input now effect next it changes =
 
 pub changes_stay : ChangesStayAtTheirDag
 changes_stay reads state op.Version now effect next at is changes names = unchanged effect next (readings_keep reads state op.Version now effect refl is) changes
-changes_stay reads state op.ListDags now effect next at is changes names = unchanged effect next (readings_keep reads state op.ListDags now effect refl is) changes
+changes_stay reads state (op.ListDags asked) now effect next at is changes names = unchanged effect next (readings_keep reads state (op.ListDags asked) now effect refl is) changes
 changes_stay reads state (op.GetDag dag_id) now effect next at is changes names = unchanged effect next (readings_keep reads state (op.GetDag dag_id) now effect refl is) changes
 changes_stay reads state (op.PauseDag dag_id input) now effect next at is changes names =
     subst (λ (id : List ℕ). LeavesOthers id state next) (some_same names) (pauses_stay state dag_id next (pauses state dag_id input effect next is changes))
 changes_stay reads state (op.ListTasks dag_id) now effect next at is changes names = unchanged effect next (readings_keep reads state (op.ListTasks dag_id) now effect refl is) changes
-changes_stay reads state (op.ListRuns dag) now effect next at is changes names = unchanged effect next (readings_keep reads state (op.ListRuns dag) now effect refl is) changes
+changes_stay reads state (op.ListRuns dag asked) now effect next at is changes names = unchanged effect next (readings_keep reads state (op.ListRuns dag asked) now effect refl is) changes
 changes_stay reads state (op.TriggerRun dag_id input) now effect next at is changes names =
     subst (λ (id : List ℕ). LeavesOthers id state next) (some_same names) (triggers_stay state dag_id input now effect next (triggers state dag_id input now effect is) changes)
 changes_stay reads state (op.GetRun dag_id run_id) now effect next at is changes names = unchanged effect next (readings_keep reads state (op.GetRun dag_id run_id) now effect refl is) changes
@@ -465,7 +461,7 @@ changes_stay reads state (op.ClearRun dag_id run_id input) now effect next at is
     subst (λ (id : List ℕ). LeavesOthers id state next) (some_same names) (cleared_stay state dag_id next (clears_run state dag_id run_id input effect next is changes))
 changes_stay reads state (op.ClearInstances dag_id input) now effect next at is changes names =
     subst (λ (id : List ℕ). LeavesOthers id state next) (some_same names) (cleared_stay state dag_id next (clears_instances state dag_id input effect next is changes))
-changes_stay reads state (op.ListInstances dag_id run_id) now effect next at is changes names = unchanged effect next (readings_keep reads state (op.ListInstances dag_id run_id) now effect refl is) changes
+changes_stay reads state (op.ListInstances dag_id run_id asked) now effect next at is changes names = unchanged effect next (readings_keep reads state (op.ListInstances dag_id run_id asked) now effect refl is) changes
 changes_stay reads state (op.GetInstance dag_id run_id task_id) now effect next at is changes names = unchanged effect next (readings_keep reads state (op.GetInstance dag_id run_id task_id) now effect refl is) changes
 changes_stay reads state (op.Pool it) now effect next at is changes names = absurd (none_some names)
 changes_stay reads state (op.Variable it) now effect next at is changes names = absurd (none_some names)

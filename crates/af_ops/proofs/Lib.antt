@@ -6,6 +6,7 @@ mod EditLemmas
 mod InstantLemmas
 mod KeyLemmas
 mod LawLemmas
+mod ListingLemmas
 mod MarkingLemmas
 mod PageLemmas
 mod PoolLemmas

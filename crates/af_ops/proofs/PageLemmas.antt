@@ -3,6 +3,8 @@ use Rattle.std.proofs.Common.{◌≡◌, ℕ, zero, suc, List, [], ◌∷◌, re
 use Rattle.std.proofs.lemmas.List.{length-map}
 use Rattle.serde_json.specs.Data.{Data}
 use Rattle.serde_json.specs.Written.{compact_text}
+use Rattle.af_listing.specs.Pages.{cut}
+use Rattle.af_listing.specs.Windows.{Cut}
 use Rattle.af_ops.specs.Fields.{Field, late_listing_of, list_of, listing_of, object_of}
 
 pub map_now : {X Y Z : Type 0} (now : X → Y) (f : Y → Z) (xs : List X) → map (λ x. f (now x)) xs ≡ map f (map now xs)
@@ -20,17 +22,17 @@ map_drop f (suc n) [] = refl
 map_drop f (suc n) (x ∷ xs) = map_drop f n xs
 
 -- a page of lent rows
-pub page_now : {X Y Z : Type 0} (now : X → Y) (f : Y → Z) (limit offset : ℕ) (xs : List X) (ys : List Y) → map now xs ≡ ys → map (λ x. f (now x)) (take limit (drop offset xs)) ≡ map f (take limit (drop offset ys))
-page_now now f limit offset xs ys is =
-    map_now now f (take limit (drop offset xs))
-    ∙ ap (map f) (map_take now limit (drop offset xs) ∙ ap (take limit) (map_drop now offset xs ∙ ap (drop offset) is))
+pub page_now : {X Y Z : Type 0} (now : X → Y) (f : Y → Z) (window : Cut) (xs : List X) (ys : List Y) → map now xs ≡ ys → map (λ x. f (now x)) (cut window xs) ≡ map f (cut window ys)
+page_now now f window xs ys is =
+    map_now now f (cut window xs)
+    ∙ ap (map f) (map_take now window.limit (drop window.offset xs) ∙ ap (take window.limit) (map_drop now window.offset xs ∙ ap (drop window.offset) is))
 
 -- a listing of a page of lent rows
-pub listing_now : {X Y : Type 0} (name : List ℕ) (now : X → Y) (f : Y → List Field) (limit offset : ℕ) (shown xs : List X) (ys : List Y) (total : ℕ) → shown ≡ take limit (drop offset xs) → map now xs ≡ ys → total ≡ length xs
-    → compact_text (listing_of name (map (λ x. object_of (f (now x))) shown) total) ≡ compact_text (listing_of name (map (λ y. object_of (f y)) (take limit (drop offset ys))) (length ys))
-listing_now name now f limit offset shown xs ys total page is count =
+pub listing_now : {X Y : Type 0} (name : List ℕ) (now : X → Y) (f : Y → List Field) (window : Cut) (shown xs : List X) (ys : List Y) (total : ℕ) → shown ≡ cut window xs → map now xs ≡ ys → total ≡ length xs
+    → compact_text (listing_of name (map (λ x. object_of (f (now x))) shown) total) ≡ compact_text (listing_of name (map (λ y. object_of (f y)) (cut window ys)) (length ys))
+listing_now name now f window shown xs ys total page is count =
     ap₂ (λ (rows : List Data) (n : ℕ). compact_text (listing_of name rows n))
-    (ap (map (λ x. object_of (f (now x)))) page ∙ page_now now (λ y. object_of (f y)) limit offset xs ys is)
+    (ap (map (λ x. object_of (f (now x)))) page ∙ page_now now (λ y. object_of (f y)) window xs ys is)
     (count ∙ sym (length-map xs now) ∙ ap length is)
 
 -- a listing of all of some lent rows

@@ -3,7 +3,6 @@ use Rattle.std.proofs.Common.{◌≡◌, ◌≢◌, ◌∙◌, ◌==◌, ℕ, Bo
 use Rattle.std.specs.Prelude.{Option, Some, None, option_map, ok_or, Result, Ok, Err, if◌then◌else◌}
 use Rattle.std.proofs.lemmas.Bool.{eqb-false}
 use Rattle.std.specs.Cmp.Lexicographic.{pointwise}
-use Rattle.serde_json.specs.Data.{Data}
 use Rattle.af_base.specs.Readings.{◌>>=◌}
 use Rattle.af_graph.specs.Limits.{most_slots}
 use Rattle.af_pool.specs.Pools.{add_fault, default_name, has_pool, is_in_use, most_pools, name_of, pool_of, remove_fault, set_fault, with_pool, with_slots, without_pool}
@@ -29,16 +28,13 @@ use Rattle.af_ops.specs.RowLaws.{TouchesOnePool}
 use Rattle.af_ops.specs.Rows.{PoolTold}
 use Rattle.af_ops.specs.Table.{route_of}
 use Rattle.af_ops.proofs.KeyLemmas.{added_apart, added_found, changed_apart, changed_found, none_there, removed_apart, removed_found, some_there}
+use Rattle.af_ops.proofs.ListingLemmas.{kept_next, next_in, window_kept}
 
 none_some : {X : Type 0} {x : X} → None ≡ Some x → ⊥
 none_some same = cc
 
 some_same : {X : Type 0} {x y : X} → Some x ≡ Some y → x ≡ y
 some_same is = cc
-
-next_in : Result Effect OpFault → Option StateRows
-next_in (Ok e) = e.next
-next_in (Err fault) = None
 
 -- ---- no fault
 
@@ -99,11 +95,6 @@ remove_exact state name free =
     ((λ no. cc), (λ same. absurd (remove_apart state name free (ap (λ (s : StateRows). s.pools) same))))
 
 -- ---- what each operation leaves
-
--- a reply alone
-kept_next : (reply : Data) (effect : Effect) → ◌≡◌ {A = Result Effect OpFault} (Ok (kept reply)) (Ok effect) → effect.next ≡ None
-unfolding next_in
-kept_next reply effect is = ap (λ (r : Result Effect OpFault). next_in r) (sym is)
 
 got_kept : (found : Result Pool OpFault) (state : StateRows) (effect : Effect) → (found >>= (λ pool. Ok (kept (told state pool)))) ≡ Ok effect → effect.next ≡ None
 got_kept (Err fault) state effect is = cc
@@ -182,7 +173,7 @@ removes state name effect next is changes = removes_free (remove_fault pools_of_
 
 -- what is asked for by GET
 pub pools_keep : (state : StateRows) (it : PoolOp) (effect : Effect) → (route_of (pools.endpoint_of it)).method ≡ Get → pool_effect state it ≡ Ok effect → effect.next ≡ None
-pools_keep state pool_op.List effect get is = kept_next (pools_data state) effect is
+pools_keep state (pool_op.List asked) effect get is = window_kept asked (λ window. pools_data window state) effect is
 pools_keep state (pool_op.Add input) effect get is = cc
 pools_keep state (pool_op.Get name) effect get is = got_kept (pool_or state name) state effect is
 pools_keep state (pool_op.Change name input) effect get is = cc
@@ -193,7 +184,7 @@ unchanged effect next none changes = absurd (none_some (sym none ∙ changes))
 
 -- a change leaves other pools
 pub pools_differ : (it : PoolOp) (state next : StateRows) (effect : Effect) → pool_effect state it ≡ Ok effect → effect.next ≡ Some next → next ≢ state
-pools_differ pool_op.List state next effect is changes same = unchanged effect next (kept_next (pools_data state) effect is) changes
+pools_differ (pool_op.List asked) state next effect is changes same = unchanged effect next (window_kept asked (λ window. pools_data window state) effect is) changes
 pools_differ (pool_op.Add input) state next effect is changes same =
     let it = adds state input effect next is changes in
     add_apart state it.pool.name it.pool.slots it.free (ap (λ (s : StateRows). s.pools) (sym it.next_is ∙ same))
@@ -228,7 +219,7 @@ removed_alone state name = record {
 }
 
 pub pools_touch : (it : PoolOp) (state next : StateRows) (effect : Effect) → pool_effect state it ≡ Ok effect → effect.next ≡ Some next → TouchesOnePool (pools.name_of it) state next
-pools_touch pool_op.List state next effect is changes = unchanged effect next (kept_next (pools_data state) effect is) changes
+pools_touch (pool_op.List asked) state next effect is changes = unchanged effect next (window_kept asked (λ window. pools_data window state) effect is) changes
 pools_touch (pool_op.Add input) state next effect is changes =
     let it = adds state input effect next is changes in
     subst (λ (s : StateRows). TouchesOnePool (pools.added_name input) state s) (sym it.next_is)

@@ -3,7 +3,6 @@ use Rattle.std.proofs.Common.{◌≡◌, ◌∙◌, ℕ, Bool, true, false, cond
 use Rattle.std.specs.Prelude.{Option, Some, None, Ok, Result, is_some, option_map, unwrap_or}
 use Rattle.std.specs.Cmp.Lexicographic.{nat_list_cmp_total, nat_list_eq_equiv, pointwise}
 use Rattle.af_base.specs.Ordered.{has_key}
-use Rattle.af_names.proofs.OrderLemmas.{order-take}
 use Rattle.af_pool.proofs.PoolLemmas.{needed_stay}
 use Rattle.af_pool.proofs.SlotLemmas.{occupied_parts}
 use Rattle.af_pool.specs.Pools.{NeededStay, has_pool, name_of, pool_of, with_pool, with_slots, without_pool}
@@ -22,6 +21,7 @@ use Rattle.af_ops.specs.PoolEffects.{pool_effect}
 use Rattle.af_ops.specs.RowLaws.{NeededPoolsStay, PoolChangesTouchOnePool, PoolsAreAsWritten, PoolsAreToldWhole, RowsGoByName, VariableChangesTouchOneVariable, VariablesAreAsWritten}
 use Rattle.af_ops.proofs.KeyLemmas.{added_found, any_found, changed_found, found_key, removed_found}
 use Rattle.af_ops.proofs.LawLemmas.{changes_stay, readings_keep, unchanged}
+use Rattle.af_ops.proofs.ListingLemmas.{order_cut}
 use Rattle.af_ops.proofs.PoolLemmas.{adds, free_to_go, pools_keep, pools_touch, removes, sets}
 use Rattle.af_ops.proofs.VariableLemmas as variable
 use Rattle.af_ops.proofs.VariableLemmas.{variables_touch}
@@ -57,7 +57,7 @@ set_stay old own slots name needed there =
     ∙ with_other (pointwise nat_eq own name) (λ (p : Pool). record p { slots = slots }) (pool_of old.pools name) (sym (any_found (has_key name_of name) old.pools) ∙ there)
 
 pools_stay : (it : PoolOp) (old new : StateRows) (effect : Effect) → pool_effect old it ≡ Ok effect → effect.next ≡ Some new → NeededStay pools_of_row old.dags old.pools new.pools
-pools_stay pool_op.List old new effect is changes = unchanged effect new (pools_keep old pool_op.List effect refl is) changes
+pools_stay (pool_op.List asked) old new effect is changes = unchanged effect new (pools_keep old (pool_op.List asked) effect refl is) changes
 pools_stay (pool_op.Add input) old new effect is changes =
     let it = adds old input effect new is changes in
     subst (λ (s : StateRows). NeededStay pools_of_row old.dags old.pools s.pools) (sym it.next_is) (added_stay old it.pool)
@@ -73,15 +73,15 @@ pools_stay (pool_op.Delete name) old new effect is changes =
 pub needed_stays : NeededPoolsStay
 needed_stays op.Version old new at =
     unchanged at.2 new (readings_keep at.0 old op.Version at.1 at.2 refl at.3) at.4
-needed_stays op.ListDags old new at =
-    unchanged at.2 new (readings_keep at.0 old op.ListDags at.1 at.2 refl at.3) at.4
+needed_stays (op.ListDags asked) old new at =
+    unchanged at.2 new (readings_keep at.0 old (op.ListDags asked) at.1 at.2 refl at.3) at.4
 needed_stays (op.GetDag dag_id) old new at =
     unchanged at.2 new (readings_keep at.0 old (op.GetDag dag_id) at.1 at.2 refl at.3) at.4
 needed_stays (op.PauseDag dag_id input) old new at = same_stay old new (changes_stay at.0 old (op.PauseDag dag_id input) at.1 at.2 new dag_id at.3 at.4 refl).pools
 needed_stays (op.ListTasks dag_id) old new at =
     unchanged at.2 new (readings_keep at.0 old (op.ListTasks dag_id) at.1 at.2 refl at.3) at.4
-needed_stays (op.ListRuns dag) old new at =
-    unchanged at.2 new (readings_keep at.0 old (op.ListRuns dag) at.1 at.2 refl at.3) at.4
+needed_stays (op.ListRuns dag asked) old new at =
+    unchanged at.2 new (readings_keep at.0 old (op.ListRuns dag asked) at.1 at.2 refl at.3) at.4
 needed_stays (op.TriggerRun dag_id input) old new at = same_stay old new (changes_stay at.0 old (op.TriggerRun dag_id input) at.1 at.2 new dag_id at.3 at.4 refl).pools
 needed_stays (op.GetRun dag_id run_id) old new at =
     unchanged at.2 new (readings_keep at.0 old (op.GetRun dag_id run_id) at.1 at.2 refl at.3) at.4
@@ -89,8 +89,8 @@ needed_stays (op.MarkRun dag_id run_id input) old new at = same_stay old new (ch
 needed_stays (op.DeleteRun dag_id run_id) old new at = same_stay old new (changes_stay at.0 old (op.DeleteRun dag_id run_id) at.1 at.2 new dag_id at.3 at.4 refl).pools
 needed_stays (op.ClearRun dag_id run_id input) old new at = same_stay old new (changes_stay at.0 old (op.ClearRun dag_id run_id input) at.1 at.2 new dag_id at.3 at.4 refl).pools
 needed_stays (op.ClearInstances dag_id input) old new at = same_stay old new (changes_stay at.0 old (op.ClearInstances dag_id input) at.1 at.2 new dag_id at.3 at.4 refl).pools
-needed_stays (op.ListInstances dag_id run_id) old new at =
-    unchanged at.2 new (readings_keep at.0 old (op.ListInstances dag_id run_id) at.1 at.2 refl at.3) at.4
+needed_stays (op.ListInstances dag_id run_id asked) old new at =
+    unchanged at.2 new (readings_keep at.0 old (op.ListInstances dag_id run_id asked) at.1 at.2 refl at.3) at.4
 needed_stays (op.GetInstance dag_id run_id task_id) old new at =
     unchanged at.2 new (readings_keep at.0 old (op.GetInstance dag_id run_id task_id) at.1 at.2 refl at.3) at.4
 needed_stays (op.Pool it) old new at = pools_stay it old new at.2 at.3 at.4
@@ -180,4 +180,4 @@ told_whole state pool =
     )
 
 pub rows_by_name : RowsGoByName
-rows_by_name state pools variables = (order-take name_of nat_list_cmp_total 100 state.pools pools, order-take key_of nat_list_cmp_total 100 state.variables variables)
+rows_by_name window state pools variables = (order_cut name_of nat_list_cmp_total window state.pools pools, order_cut key_of nat_list_cmp_total window state.variables variables)

@@ -74,13 +74,13 @@ adds_run reads state dag_id input now effect kept is =
 
 pub numbers_rise : RunNumbersRise
 numbers_rise reads state op.Version now effect next is changes = unchanged effect next (readings_keep reads state op.Version now effect refl is) changes
-numbers_rise reads state op.ListDags now effect next is changes = unchanged effect next (readings_keep reads state op.ListDags now effect refl is) changes
+numbers_rise reads state (op.ListDags asked) now effect next is changes = unchanged effect next (readings_keep reads state (op.ListDags asked) now effect refl is) changes
 numbers_rise reads state (op.GetDag dag_id) now effect next is changes = unchanged effect next (readings_keep reads state (op.GetDag dag_id) now effect refl is) changes
 numbers_rise reads state (op.PauseDag dag_id input) now effect next is changes =
     let it = pauses state dag_id input effect next is changes in
     subst (λ (s : StateRows). state.next_run ≤ s.next_run) (sym it.next_is) (omega arith)
 numbers_rise reads state (op.ListTasks dag_id) now effect next is changes = unchanged effect next (readings_keep reads state (op.ListTasks dag_id) now effect refl is) changes
-numbers_rise reads state (op.ListRuns dag) now effect next is changes = unchanged effect next (readings_keep reads state (op.ListRuns dag) now effect refl is) changes
+numbers_rise reads state (op.ListRuns dag asked) now effect next is changes = unchanged effect next (readings_keep reads state (op.ListRuns dag asked) now effect refl is) changes
 numbers_rise reads state (op.TriggerRun dag_id input) now effect next is changes =
     let it = triggers state dag_id input now effect is in
     subst (λ (s : StateRows). state.next_run ≤ s.next_run) (some_same (sym it.next_is ∙ changes)) (omega arith)
@@ -97,7 +97,7 @@ numbers_rise reads state (op.ClearRun dag_id run_id input) now effect next is ch
 numbers_rise reads state (op.ClearInstances dag_id input) now effect next is changes =
     let it = clears_instances state dag_id input effect next is changes in
     subst (λ (s : StateRows). state.next_run ≤ s.next_run) (sym it.next_is) (omega arith)
-numbers_rise reads state (op.ListInstances dag_id run_id) now effect next is changes = unchanged effect next (readings_keep reads state (op.ListInstances dag_id run_id) now effect refl is) changes
+numbers_rise reads state (op.ListInstances dag_id run_id asked) now effect next is changes = unchanged effect next (readings_keep reads state (op.ListInstances dag_id run_id asked) now effect refl is) changes
 numbers_rise reads state (op.GetInstance dag_id run_id task_id) now effect next is changes = unchanged effect next (readings_keep reads state (op.GetInstance dag_id run_id task_id) now effect refl is) changes
 numbers_rise reads state (op.Pool it) now effect next is changes =
     let same = pools_touch it state next effect is changes in

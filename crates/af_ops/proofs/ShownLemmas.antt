@@ -6,22 +6,23 @@ use Rattle.std.specs.List.{AllByRecursion, IsDistinct}
 use Rattle.std.proofs.lemmas.Bool.{and_from, and_parts, false≢true}
 use Rattle.std.proofs.lemmas.Cmp.{nat_cmp_total}
 use Rattle.af_graph.specs.Graph.{same_name}
-use Rattle.af_names.proofs.OrderLemmas.{order-filter, order-take}
+use Rattle.af_names.proofs.OrderLemmas.{order-filter}
 use Rattle.af_runs.specs.Runs.{is_of, is_run, runs_of, same_ids}
 use Rattle.af_runs.specs.declared.run.Run.{Run}
 use Rattle.af_ops.specs.Laws.{RunsAreShownByTheirIds, RunsListedGoByNumber}
 use Rattle.af_ops.specs.Listings.{read_rows}
 use Rattle.af_ops.proofs.LawLemmas.{some_same}
+use Rattle.af_ops.proofs.ListingLemmas.{order_cut}
 
 number_of : Run → ℕ
 number_of run = run.number
 
 pub by_number : RunsListedGoByNumber
 unfolding number_of
-by_number reads dag_id state are = (
-  order-take number_of nat_cmp_total 100 (read_rows reads (λ (run : Run). run.dag_id) state.runs)
+by_number reads window dag_id state are = (
+  order_cut number_of nat_cmp_total window (read_rows reads (λ (run : Run). run.dag_id) state.runs)
       (order-filter number_of nat_cmp_total (λ (run : Run). reads run.dag_id) state.runs are.in_order),
-  order-take number_of nat_cmp_total 100 (runs_of state.runs dag_id)
+  order_cut number_of nat_cmp_total window (runs_of state.runs dag_id)
       (order-filter number_of nat_cmp_total (is_of dag_id) state.runs are.in_order),
 )
 

@@ -2,7 +2,9 @@
 use Rattle.std.proofs.Common.{◌≡◌, ◌<◌, ◌∙◌, ℕ, zero, suc, Bool, true, false, List, [], ◌∷◌, length, get_or, refl, sym, ap, arith, not, ◌&&◌, subst}
 use Rattle.std.specs.List.{list_all}
 use Rattle.std.specs.Cmp.Lexicographic.{pointwise, bytes_decides}
-use Rattle.std.specs.Prelude.{nat_eq, Option, Some, None, option_map, if◌then◌else◌}
+use Rattle.std.specs.Prelude.{nat_eq, Option, Some, None, Result, option_map, if◌then◌else◌}
+use Rattle.af_listing.specs.Windows.{Cut, window_of}
+use Rattle.af_policy.specs.declared.bad_input.Parameter.{Parameter}
 use Rattle.std.proofs.lemmas.Bool.{and_from, and_parts, false≢true, not-true}
 use Rattle.af_ops.specs.declared.endpoint.Endpoint.{Endpoint}
 use Rattle.af_ops.specs.declared.endpoint.Endpoint.TheVariants as endpoint
@@ -223,11 +225,11 @@ no_id : (parts : List (List ℕ)) → is_all parts ≡ true → dag_id_in parts 
 no_id [] is = refl
 no_id (part ∷ parts) is = rw ((bytes_decides part (126 ∷ [])).0 is) refl
 
-all_or_one : (all : Bool) (parts : List (List ℕ)) (asked : Op) → is_all parts ≡ all → (if all then Some (op.ListRuns None) else option_map (λ id. op.ListRuns (Some id)) (dag_id_in parts)) ≡ Some asked → (endpoint_of asked ≡ endpoint.ListRuns) × (dag_of asked ≡ dag_id_in parts)
-all_or_one true parts asked all is =
+all_or_one : (all : Bool) (parts : List (List ℕ)) (window : Result Cut Parameter) (asked : Op) → is_all parts ≡ all → (if all then Some (op.ListRuns None window) else option_map (λ id. op.ListRuns (Some id) window) (dag_id_in parts)) ≡ Some asked → (endpoint_of asked ≡ endpoint.ListRuns) × (dag_of asked ≡ dag_id_in parts)
+all_or_one true parts window asked all is =
     (ap endpoint_of (sym (some_same is)), ap dag_of (sym (some_same is)) ∙ sym (no_id parts all))
-all_or_one false parts asked all is =
-    mapped (λ id. op.ListRuns (Some id)) endpoint.ListRuns (dag_id_in parts) asked (λ id. refl) (λ id. refl) is
+all_or_one false parts window asked all is =
+    mapped (λ id. op.ListRuns (Some id) window) endpoint.ListRuns (dag_id_in parts) asked (λ id. refl) (λ id. refl) is
 
 mapped_three : (dag run task : Option (List ℕ)) (asked : Op) → option_map (λ ids. op.GetInstance ids.0.0 ids.0.1 ids.1) (both (both dag run) task) ≡ Some asked → (endpoint_of asked ≡ endpoint.GetInstance) × (dag_of asked ≡ dag)
 mapped_three (Some id) (Some run_id) (Some task_id) asked is = (ap endpoint_of (sym (some_same is)), ap dag_of (sym (some_same is)))
@@ -242,43 +244,43 @@ mapped_none make it (Some name) asked of_it names is =
     (ap endpoint_of (sym (some_same is)) ∙ of_it name, ap dag_of (sym (some_same is)) ∙ names name)
 
 pub of_their_row : OperationsAreOfTheirRow
-of_their_row endpoint.Version parts body asked is = (ap endpoint_of (sym (some_same is)), ap dag_of (sym (some_same is)))
-of_their_row endpoint.ListDags parts body asked is = (ap endpoint_of (sym (some_same is)), ap dag_of (sym (some_same is)))
-of_their_row endpoint.GetDag parts body asked is =
+of_their_row endpoint.Version parts query body asked is = (ap endpoint_of (sym (some_same is)), ap dag_of (sym (some_same is)))
+of_their_row endpoint.ListDags parts query body asked is = (ap endpoint_of (sym (some_same is)), ap dag_of (sym (some_same is)))
+of_their_row endpoint.GetDag parts query body asked is =
     mapped (λ id. op.GetDag id) endpoint.GetDag (dag_id_in parts) asked (λ id. refl) (λ id. refl) is
-of_their_row endpoint.PauseDag parts body asked is =
+of_their_row endpoint.PauseDag parts query body asked is =
     mapped (λ id. op.PauseDag id (pause_in body)) endpoint.PauseDag (dag_id_in parts) asked (λ id. refl) (λ id. refl) is
-of_their_row endpoint.ListTasks parts body asked is =
+of_their_row endpoint.ListTasks parts query body asked is =
     mapped (λ id. op.ListTasks id) endpoint.ListTasks (dag_id_in parts) asked (λ id. refl) (λ id. refl) is
-of_their_row endpoint.ListRuns parts body asked is = all_or_one (is_all parts) parts asked refl is
-of_their_row endpoint.TriggerRun parts body asked is =
+of_their_row endpoint.ListRuns parts query body asked is = all_or_one (is_all parts) parts (window_of query) asked refl is
+of_their_row endpoint.TriggerRun parts query body asked is =
     mapped (λ id. op.TriggerRun id (trigger_in body)) endpoint.TriggerRun (dag_id_in parts) asked (λ id. refl) (λ id. refl) is
-of_their_row endpoint.GetRun parts body asked is =
+of_their_row endpoint.GetRun parts query body asked is =
     mapped_both (λ id run_id. op.GetRun id run_id) endpoint.GetRun (dag_id_in parts) (run_id_in parts) asked (λ id run_id. refl) (λ id run_id. refl) is
-of_their_row endpoint.MarkRun parts body asked is =
+of_their_row endpoint.MarkRun parts query body asked is =
     mapped_both (λ id run_id. op.MarkRun id run_id (mark_in body)) endpoint.MarkRun (dag_id_in parts) (run_id_in parts) asked (λ id run_id. refl) (λ id run_id. refl) is
-of_their_row endpoint.DeleteRun parts body asked is =
+of_their_row endpoint.DeleteRun parts query body asked is =
     mapped_both (λ id run_id. op.DeleteRun id run_id) endpoint.DeleteRun (dag_id_in parts) (run_id_in parts) asked (λ id run_id. refl) (λ id run_id. refl) is
-of_their_row endpoint.ClearRun parts body asked is =
+of_their_row endpoint.ClearRun parts query body asked is =
     mapped_both (λ id run_id. op.ClearRun id run_id (clear_run_in body)) endpoint.ClearRun (dag_id_in parts) (run_id_in parts) asked (λ id run_id. refl) (λ id run_id. refl) is
-of_their_row endpoint.ListInstances parts body asked is =
-    mapped_both (λ id run_id. op.ListInstances id run_id) endpoint.ListInstances (dag_id_in parts) (run_id_in parts) asked (λ id run_id. refl) (λ id run_id. refl) is
-of_their_row endpoint.GetInstance parts body asked is = mapped_three (dag_id_in parts) (run_id_in parts) (task_id_in parts) asked is
-of_their_row endpoint.ClearInstances parts body asked is =
+of_their_row endpoint.ListInstances parts query body asked is =
+    mapped_both (λ id run_id. op.ListInstances id run_id (window_of query)) endpoint.ListInstances (dag_id_in parts) (run_id_in parts) asked (λ id run_id. refl) (λ id run_id. refl) is
+of_their_row endpoint.GetInstance parts query body asked is = mapped_three (dag_id_in parts) (run_id_in parts) (task_id_in parts) asked is
+of_their_row endpoint.ClearInstances parts query body asked is =
     mapped (λ id. op.ClearInstances id (clear_in body)) endpoint.ClearInstances (dag_id_in parts) asked (λ id. refl) (λ id. refl) is
-of_their_row endpoint.ListPools parts body asked is = (ap endpoint_of (sym (some_same is)), ap dag_of (sym (some_same is)))
-of_their_row endpoint.AddPool parts body asked is = (ap endpoint_of (sym (some_same is)), ap dag_of (sym (some_same is)))
-of_their_row endpoint.GetPool parts body asked is =
+of_their_row endpoint.ListPools parts query body asked is = (ap endpoint_of (sym (some_same is)), ap dag_of (sym (some_same is)))
+of_their_row endpoint.AddPool parts query body asked is = (ap endpoint_of (sym (some_same is)), ap dag_of (sym (some_same is)))
+of_their_row endpoint.GetPool parts query body asked is =
     mapped_none (λ name. op.Pool (pool_op.Get name)) endpoint.GetPool (row_name_in parts) asked (λ name. refl) (λ name. refl) is
-of_their_row endpoint.ChangePool parts body asked is =
+of_their_row endpoint.ChangePool parts query body asked is =
     mapped_none (λ name. op.Pool (pool_op.Change name (slots_in body))) endpoint.ChangePool (row_name_in parts) asked (λ name. refl) (λ name. refl) is
-of_their_row endpoint.DeletePool parts body asked is =
+of_their_row endpoint.DeletePool parts query body asked is =
     mapped_none (λ name. op.Pool (pool_op.Delete name)) endpoint.DeletePool (row_name_in parts) asked (λ name. refl) (λ name. refl) is
-of_their_row endpoint.ListVariables parts body asked is = (ap endpoint_of (sym (some_same is)), ap dag_of (sym (some_same is)))
-of_their_row endpoint.AddVariable parts body asked is = (ap endpoint_of (sym (some_same is)), ap dag_of (sym (some_same is)))
-of_their_row endpoint.GetVariable parts body asked is =
+of_their_row endpoint.ListVariables parts query body asked is = (ap endpoint_of (sym (some_same is)), ap dag_of (sym (some_same is)))
+of_their_row endpoint.AddVariable parts query body asked is = (ap endpoint_of (sym (some_same is)), ap dag_of (sym (some_same is)))
+of_their_row endpoint.GetVariable parts query body asked is =
     mapped_none (λ name. op.Variable (variable_op.Get name)) endpoint.GetVariable (row_name_in parts) asked (λ name. refl) (λ name. refl) is
-of_their_row endpoint.ChangeVariable parts body asked is =
+of_their_row endpoint.ChangeVariable parts query body asked is =
     mapped_none (λ name. op.Variable (variable_op.Change name (value_in body))) endpoint.ChangeVariable (row_name_in parts) asked (λ name. refl) (λ name. refl) is
-of_their_row endpoint.DeleteVariable parts body asked is =
+of_their_row endpoint.DeleteVariable parts query body asked is =
     mapped_none (λ name. op.Variable (variable_op.Delete name)) endpoint.DeleteVariable (row_name_in parts) asked (λ name. refl) (λ name. refl) is

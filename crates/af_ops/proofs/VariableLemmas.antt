@@ -3,7 +3,6 @@ use Rattle.std.proofs.Common.{◌≡◌, ◌≢◌, ◌∙◌, ℕ, Bool, true, 
 use Rattle.std.specs.Prelude.{Option, Some, None, is_some, option_map, ok_or, Result, Ok, Err, if◌then◌else◌}
 use Rattle.std.proofs.lemmas.Bool.{false≢true}
 use Rattle.std.specs.Cmp.Lexicographic.{pointwise, bytes_decides}
-use Rattle.serde_json.specs.Data.{Data}
 use Rattle.af_base.specs.Ordered.{has_key}
 use Rattle.af_base.specs.Readings.{◌>>=◌}
 use Rattle.af_sched.specs.State.{StateRows, StateWithRoom}
@@ -27,16 +26,13 @@ use Rattle.af_ops.specs.Table.{route_of}
 use Rattle.af_ops.specs.VariableEffects.{adding, unless_fault, variable_added, variable_changed, variable_deleted, variable_effect, variable_or, variables_data, writing}
 use Rattle.af_ops.specs.VariableOps as variables
 use Rattle.af_ops.proofs.KeyLemmas.{added_apart, added_found, any_found, changed_apart, changed_found, none_there, removed_apart, removed_found, some_there}
+use Rattle.af_ops.proofs.ListingLemmas.{kept_next, next_in, window_kept}
 
 none_some : {X : Type 0} {x : X} → None ≡ Some x → ⊥
 none_some same = cc
 
 some_same : {X : Type 0} {x y : X} → Some x ≡ Some y → x ≡ y
 some_same is = cc
-
-next_in : Result Effect OpFault → Option StateRows
-next_in (Ok e) = e.next
-next_in (Err fault) = None
 
 -- ---- no fault
 
@@ -104,11 +100,6 @@ remove_exact state key free =
     ((λ no. cc), (λ same. absurd (remove_apart state key free (ap (λ (s : StateRows). s.variables) same))))
 
 -- ---- what each operation leaves
-
--- a reply alone
-kept_next : (reply : Data) (effect : Effect) → ◌≡◌ {A = Result Effect OpFault} (Ok (kept reply)) (Ok effect) → effect.next ≡ None
-unfolding next_in
-kept_next reply effect is = ap (λ (r : Result Effect OpFault). next_in r) (sym is)
 
 got_kept : (found : Result Variable OpFault) (effect : Effect) → (found >>= (λ variable. Ok (kept (variable_data variable)))) ≡ Ok effect → effect.next ≡ None
 got_kept (Err fault) effect is = cc
@@ -183,7 +174,7 @@ removes state key effect next is changes = removes_free (change_fault state.vari
 
 -- what is asked for by GET
 pub variables_keep : (state : StateRows) (it : VariableOp) (effect : Effect) → (route_of (variables.endpoint_of it)).method ≡ Get → variable_effect state it ≡ Ok effect → effect.next ≡ None
-variables_keep state variable_op.List effect get is = kept_next (variables_data state.variables) effect is
+variables_keep state (variable_op.List asked) effect get is = window_kept asked (λ window. variables_data window state.variables) effect is
 variables_keep state (variable_op.Add input) effect get is = cc
 variables_keep state (variable_op.Get key) effect get is = got_kept (variable_or state key) effect is
 variables_keep state (variable_op.Change key input) effect get is = cc
@@ -194,7 +185,7 @@ unchanged effect next none changes = absurd (none_some (sym none ∙ changes))
 
 -- a change leaves other variables
 pub variables_differ : (it : VariableOp) (state next : StateRows) (effect : Effect) → variable_effect state it ≡ Ok effect → effect.next ≡ Some next → next ≢ state
-variables_differ variable_op.List state next effect is changes same = unchanged effect next (kept_next (variables_data state.variables) effect is) changes
+variables_differ (variable_op.List asked) state next effect is changes same = unchanged effect next (window_kept asked (λ window. variables_data window state.variables) effect is) changes
 variables_differ (variable_op.Add input) state next effect is changes same =
     let it = adds state input effect next is changes in
     add_apart state it.variable it.free (ap (λ (s : StateRows). s.variables) (sym it.next_is ∙ same))
@@ -229,7 +220,7 @@ removed_alone state key = record {
 }
 
 pub variables_touch : (it : VariableOp) (state next : StateRows) (effect : Effect) → variable_effect state it ≡ Ok effect → effect.next ≡ Some next → TouchesOneVariable (variables.key_of it) state next
-variables_touch variable_op.List state next effect is changes = unchanged effect next (kept_next (variables_data state.variables) effect is) changes
+variables_touch (variable_op.List asked) state next effect is changes = unchanged effect next (window_kept asked (λ window. variables_data window state.variables) effect is) changes
 variables_touch (variable_op.Add input) state next effect is changes =
     let it = adds state input effect next is changes in
     subst (λ (s : StateRows). TouchesOneVariable (variables.added_key input) state s) (sym it.next_is)

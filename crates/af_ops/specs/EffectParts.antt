@@ -1,7 +1,9 @@
--- What effects are made of: a reply and a state after it, and the faults of bodies, which come first.
+-- What effects are made of: a reply and a state after it, and the faults of parameters and of bodies, which come first.
 use Rattle.std.specs.Prelude.{ℕ, List, Option, Some, None, Result, Ok, Err}
 use Rattle.serde_json.specs.Data.{Data}
 use Rattle.serde_json.specs.Written.{compact_text}
+use Rattle.af_listing.specs.Windows.{Cut}
+use Rattle.af_policy.specs.declared.bad_input.Parameter.{Parameter}
 use Rattle.af_sched.specs.State.{StateRows}
 use Rattle.af_ops.specs.declared.answer.OpFault.{OpFault}
 use Rattle.af_ops.specs.declared.answer.OpFault.TheVariants as fault
@@ -35,3 +37,8 @@ input_fault input.OutOfMemory = fault.OutOfMemory
 abbrev pub input_or : {X : Type 0} → Result X BodyFault → Result X OpFault
 input_or (Ok read) = Ok read
 input_or (Err why) = Err (input_fault why)
+
+-- the rows that a listing is asked for
+abbrev pub window_or : Result Cut Parameter → Result Cut OpFault
+window_or (Ok window) = Ok window
+window_or (Err parameter) = Err (fault.BadParameter parameter)

@@ -6,6 +6,9 @@ use Rattle.serde_json.specs.Written.{compact_text}
 use Rattle.af_names.specs.Isoformat.{isoformat}
 use Rattle.std.specs.List.{enumerate_from, position, slice_get}
 use Rattle.std.specs.Option.{option_map_or}
+use Rattle.af_policy.specs.declared.bad_input.Parameter.{Parameter}
+use Rattle.af_listing.specs.Pages.{cut}
+use Rattle.af_listing.specs.Windows.{Cut}
 use Rattle.af_graph.specs.Graph.{downstream_of, place_of}
 use Rattle.af_graph.specs.declared.task_spec.TaskSpec.{TaskSpec}
 use Rattle.af_runs.specs.Clears.{ChosenRow, are_left_by, chosen_in, chosen_tasks}
@@ -23,11 +26,11 @@ use Rattle.af_runs.specs.declared.run_fault.RunFault.TheVariants as run_fault
 use Rattle.af_runs.specs.declared.run_type.RunType.TheVariants.{Manual}
 use Rattle.af_sched.specs.State.{StateRows, with_paused, dag_of}
 use Rattle.af_sched.specs.declared.dag_row.DagRow.{DagRow}
-pub use Rattle.af_ops.specs.EffectParts.{Effect, input_fault, input_or, kept}
+pub use Rattle.af_ops.specs.EffectParts.{Effect, input_fault, input_or, kept, window_or}
 use Rattle.af_ops.specs.Edits.{with_clear, with_run}
 use Rattle.af_ops.specs.Endpoints.{both}
 use Rattle.af_ops.specs.Fields.{list_of, listing_of}
-use Rattle.af_ops.specs.Listings.{default_limit, page, read_rows}
+use Rattle.af_ops.specs.Listings.{read_rows}
 use Rattle.af_ops.specs.PoolEffects.{pool_effect}
 use Rattle.af_base.specs.Readings.{◌>>=◌}
 use Rattle.af_ops.specs.Replies.{cleared_data, dag_data, instance_data, run_data, task_data, version_data}
@@ -53,11 +56,16 @@ run_or state dag_id run_id = ok_or (run_of state.runs dag_id run_id) fault.NoSuc
 
 -- ---- the operations
 
--- the first page of the DAGs that are read
-abbrev pub dags_data : (List ℕ → Bool) → List DagRow → Data
-dags_data reads dags =
-    listing_of (codes "dags") (map dag_data (page default_limit 0 (read_rows reads (λ row. row.dag.dag_id) dags)))
+-- of the DAGs that are read, those of a page, and how many there are
+abbrev pub dags_data : (List ℕ → Bool) → Cut → List DagRow → Data
+dags_data reads window dags =
+    listing_of (codes "dags") (map dag_data (cut window (read_rows reads (λ row. row.dag.dag_id) dags)))
     (length (read_rows reads (λ row. row.dag.dag_id) dags))
+
+abbrev pub listed_dags : (List ℕ → Bool) → StateRows → Result Cut Parameter → Result Effect OpFault
+listed_dags reads state asked = do
+  window ← window_or asked
+  Ok (kept (dags_data reads window state.dags))
 
 -- one DAG
 abbrev pub got_dag : StateRows → List ℕ → Result Effect OpFault
@@ -107,19 +115,26 @@ listed_tasks state dag_id = do
   row ← dag_or state dag_id
   Ok (kept (tasks_data row.dag.tasks))
 
--- the first page of these runs
-abbrev pub runs_data : List Run → Data
-runs_data runs = listing_of (codes "dag_runs") (map run_data (page default_limit 0 runs)) (length runs)
+-- of these runs, those of a page, and how many there are
+abbrev pub runs_data : Cut → List Run → Data
+runs_data window runs = listing_of (codes "dag_runs") (map run_data (cut window runs)) (length runs)
 
-abbrev pub runs_of_dag : StateRows → List ℕ → Result Effect OpFault
-runs_of_dag state dag_id = do
+-- the runs of all DAGs that are read, in order of their numbers
+abbrev pub all_runs : (List ℕ → Bool) → StateRows → Result Cut Parameter → Result Effect OpFault
+all_runs reads state asked = do
+  window ← window_or asked
+  Ok (kept (runs_data window (read_rows reads (λ run. run.dag_id) state.runs)))
+
+-- the runs of one DAG, in that order
+abbrev pub runs_of_dag : StateRows → List ℕ → Result Cut Parameter → Result Effect OpFault
+runs_of_dag state dag_id asked = do
+  window ← window_or asked
   row ← dag_or state dag_id
-  Ok (kept (runs_data (runs_of state.runs dag_id)))
+  Ok (kept (runs_data window (runs_of state.runs dag_id)))
 
--- the runs of one DAG, or those of all DAGs that are read, in order of their numbers
-abbrev pub listed_runs : (List ℕ → Bool) → StateRows → Option (List ℕ) → Result Effect OpFault
-listed_runs reads state None = Ok (kept (runs_data (read_rows reads (λ run. run.dag_id) state.runs)))
-listed_runs reads state (Some dag_id) = runs_of_dag state dag_id
+abbrev pub listed_runs : (List ℕ → Bool) → StateRows → Option (List ℕ) → Result Cut Parameter → Result Effect OpFault
+listed_runs reads state None asked = all_runs reads state asked
+listed_runs reads state (Some dag_id) asked = runs_of_dag state dag_id asked
 
 -- one run
 abbrev pub got_run : StateRows → List ℕ → List ℕ → Result Effect OpFault
@@ -136,17 +151,18 @@ each_told run tasks instances = map (λ at. record { run = run; task = at.0; ins
 abbrev pub instances_told : List TaskSpec → Run → List InstanceTold
 instances_told tasks run = each_told run tasks run.instances
 
--- the first page of them
-abbrev pub instances_data : List TaskSpec → Run → Data
-instances_data tasks run =
-    listing_of (codes "task_instances") (map instance_data (page default_limit 0 (instances_told tasks run)))
+-- those of a page, and how many there are
+abbrev pub instances_data : Cut → List TaskSpec → Run → Data
+instances_data window tasks run =
+    listing_of (codes "task_instances") (map instance_data (cut window (instances_told tasks run)))
     (length (instances_told tasks run))
 
-abbrev pub listed_instances : StateRows → List ℕ → List ℕ → Result Effect OpFault
-listed_instances state dag_id run_id = do
+abbrev pub listed_instances : StateRows → List ℕ → List ℕ → Result Cut Parameter → Result Effect OpFault
+listed_instances state dag_id run_id asked = do
+  window ← window_or asked
   row ← dag_or state dag_id
   run ← run_or state dag_id run_id
-  Ok (kept (instances_data row.dag.tasks run))
+  Ok (kept (instances_data window row.dag.tasks run))
 
 -- the instance at a place, and that of a task's id
 abbrev pub instance_at : List TaskSpec → Run → ℕ → Option InstanceTold
@@ -313,17 +329,17 @@ instances_cleared state dag_id input = do
 -- what a permitted operation does for a reader of these DAGs, at a moment
 abbrev pub effect_of : (List ℕ → Bool) → StateRows → Op → ℕ → Result Effect OpFault
 effect_of reads state op.Version now = Ok (kept version_data)
-effect_of reads state op.ListDags now = Ok (kept (dags_data reads state.dags))
+effect_of reads state (op.ListDags asked) now = listed_dags reads state asked
 effect_of reads state (op.GetDag dag_id) now = got_dag state dag_id
 effect_of reads state (op.PauseDag dag_id input) now = paused_dag state dag_id input
 effect_of reads state (op.ListTasks dag_id) now = listed_tasks state dag_id
-effect_of reads state (op.ListRuns dag) now = listed_runs reads state dag
+effect_of reads state (op.ListRuns dag asked) now = listed_runs reads state dag asked
 effect_of reads state (op.TriggerRun dag_id input) now = triggered_run state dag_id input now
 effect_of reads state (op.GetRun dag_id run_id) now = got_run state dag_id run_id
 effect_of reads state (op.MarkRun dag_id run_id input) now = run_marked state dag_id run_id input now
 effect_of reads state (op.DeleteRun dag_id run_id) now = run_deleted state dag_id run_id
 effect_of reads state (op.ClearRun dag_id run_id input) now = run_cleared state dag_id run_id input
-effect_of reads state (op.ListInstances dag_id run_id) now = listed_instances state dag_id run_id
+effect_of reads state (op.ListInstances dag_id run_id asked) now = listed_instances state dag_id run_id asked
 effect_of reads state (op.GetInstance dag_id run_id task_id) now = got_instance state dag_id run_id task_id
 effect_of reads state (op.ClearInstances dag_id input) now = instances_cleared state dag_id input
 effect_of reads state (op.Pool it) now = pool_effect state it

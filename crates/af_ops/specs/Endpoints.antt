@@ -1,6 +1,7 @@
 -- The operations of the API (Airflow 2, "Stable REST API"), with what a request says of them.
 use Rattle.std.specs.Prelude.{◌≡◌, ◌⊎◌, ◌&&◌, ◌||◌, ℕ, List, [], ◌∷◌, Bool, true, false, is_some, Option, Some, None, option_map, unwrap_or, Result, Ok, Err, if◌then◌else◌}
 use Rattle.std.specs.Result.{result_ok}
+use Rattle.af_listing.specs.Windows.{window_of}
 use Rattle.af_names.specs.Names.{Grammar, named, id_grammar, is_tilde, row_name_grammar, run_id_grammar}
 use Rattle.af_ops.specs.declared.body_fault.BodyFault.{BodyFault}
 use Rattle.af_ops.specs.declared.body_fault.BodyFault.TheVariants.{OutOfMemory}
@@ -23,17 +24,17 @@ use Rattle.af_ops.specs.VariableOps as variables
 
 abbrev pub endpoint_of : Op → Endpoint
 endpoint_of op.Version = endpoint.Version
-endpoint_of op.ListDags = endpoint.ListDags
+endpoint_of (op.ListDags asked) = endpoint.ListDags
 endpoint_of (op.GetDag dag_id) = endpoint.GetDag
 endpoint_of (op.PauseDag dag_id input) = endpoint.PauseDag
 endpoint_of (op.ListTasks dag_id) = endpoint.ListTasks
-endpoint_of (op.ListRuns dag) = endpoint.ListRuns
+endpoint_of (op.ListRuns dag asked) = endpoint.ListRuns
 endpoint_of (op.TriggerRun dag_id input) = endpoint.TriggerRun
 endpoint_of (op.GetRun dag_id run_id) = endpoint.GetRun
 endpoint_of (op.MarkRun dag_id run_id input) = endpoint.MarkRun
 endpoint_of (op.DeleteRun dag_id run_id) = endpoint.DeleteRun
 endpoint_of (op.ClearRun dag_id run_id input) = endpoint.ClearRun
-endpoint_of (op.ListInstances dag_id run_id) = endpoint.ListInstances
+endpoint_of (op.ListInstances dag_id run_id asked) = endpoint.ListInstances
 endpoint_of (op.GetInstance dag_id run_id task_id) = endpoint.GetInstance
 endpoint_of (op.ClearInstances dag_id input) = endpoint.ClearInstances
 endpoint_of (op.Pool it) = pools.endpoint_of it
@@ -42,17 +43,17 @@ endpoint_of (op.Variable it) = variables.endpoint_of it
 -- the DAG that an operation names, or none
 abbrev pub dag_of : Op → Option (List ℕ)
 dag_of op.Version = None
-dag_of op.ListDags = None
+dag_of (op.ListDags asked) = None
 dag_of (op.GetDag dag_id) = Some dag_id
 dag_of (op.PauseDag dag_id input) = Some dag_id
 dag_of (op.ListTasks dag_id) = Some dag_id
-dag_of (op.ListRuns dag) = dag
+dag_of (op.ListRuns dag asked) = dag
 dag_of (op.TriggerRun dag_id input) = Some dag_id
 dag_of (op.GetRun dag_id run_id) = Some dag_id
 dag_of (op.MarkRun dag_id run_id input) = Some dag_id
 dag_of (op.DeleteRun dag_id run_id) = Some dag_id
 dag_of (op.ClearRun dag_id run_id input) = Some dag_id
-dag_of (op.ListInstances dag_id run_id) = Some dag_id
+dag_of (op.ListInstances dag_id run_id asked) = Some dag_id
 dag_of (op.GetInstance dag_id run_id task_id) = Some dag_id
 dag_of (op.ClearInstances dag_id input) = Some dag_id
 dag_of (op.Pool it) = None
@@ -76,17 +77,17 @@ task_ids_of _ = []
 -- the run that an operation names, or none
 abbrev pub run_of : Op → Option (List ℕ)
 run_of op.Version = None
-run_of op.ListDags = None
+run_of (op.ListDags asked) = None
 run_of (op.GetDag dag_id) = None
 run_of (op.PauseDag dag_id input) = None
 run_of (op.ListTasks dag_id) = None
-run_of (op.ListRuns dag) = None
+run_of (op.ListRuns dag asked) = None
 run_of (op.TriggerRun dag_id input) = None
 run_of (op.GetRun dag_id run_id) = Some run_id
 run_of (op.MarkRun dag_id run_id input) = Some run_id
 run_of (op.DeleteRun dag_id run_id) = Some run_id
 run_of (op.ClearRun dag_id run_id input) = Some run_id
-run_of (op.ListInstances dag_id run_id) = Some run_id
+run_of (op.ListInstances dag_id run_id asked) = Some run_id
 run_of (op.GetInstance dag_id run_id task_id) = Some run_id
 run_of (op.ClearInstances dag_id input) = cleared_run input
 run_of (op.Pool it) = None
@@ -95,17 +96,17 @@ run_of (op.Variable it) = None
 -- the task that an operation names, or none
 abbrev pub task_of : Op → Option (List ℕ)
 task_of op.Version = None
-task_of op.ListDags = None
+task_of (op.ListDags asked) = None
 task_of (op.GetDag dag_id) = None
 task_of (op.PauseDag dag_id input) = None
 task_of (op.ListTasks dag_id) = None
-task_of (op.ListRuns dag) = None
+task_of (op.ListRuns dag asked) = None
 task_of (op.TriggerRun dag_id input) = None
 task_of (op.GetRun dag_id run_id) = None
 task_of (op.MarkRun dag_id run_id input) = None
 task_of (op.DeleteRun dag_id run_id) = None
 task_of (op.ClearRun dag_id run_id input) = None
-task_of (op.ListInstances dag_id run_id) = None
+task_of (op.ListInstances dag_id run_id asked) = None
 task_of (op.GetInstance dag_id run_id task_id) = Some task_id
 task_of (op.ClearInstances dag_id input) = None
 task_of (op.Pool it) = None
@@ -124,17 +125,17 @@ given_in (Err fault) = None
 -- the id that the run which an operation adds is given, or none
 abbrev pub given_id : Op → Option (List ℕ)
 given_id op.Version = None
-given_id op.ListDags = None
+given_id (op.ListDags asked) = None
 given_id (op.GetDag dag_id) = None
 given_id (op.PauseDag dag_id input) = None
 given_id (op.ListTasks dag_id) = None
-given_id (op.ListRuns dag) = None
+given_id (op.ListRuns dag asked) = None
 given_id (op.TriggerRun dag_id input) = given_in input
 given_id (op.GetRun dag_id run_id) = None
 given_id (op.MarkRun dag_id run_id input) = None
 given_id (op.DeleteRun dag_id run_id) = None
 given_id (op.ClearRun dag_id run_id input) = None
-given_id (op.ListInstances dag_id run_id) = None
+given_id (op.ListInstances dag_id run_id asked) = None
 given_id (op.GetInstance dag_id run_id task_id) = None
 given_id (op.ClearInstances dag_id input) = None
 given_id (op.Pool it) = None
@@ -206,48 +207,49 @@ are_names method place.Pool parts = is_some (row_name_in parts)
 are_names method place.Variables parts = true
 are_names method place.Variable parts = is_some (row_name_in parts)
 
--- The operation that a row of the table stands for, where the parts of the path, decoded, are these and the body has these
--- bytes; none where a part is no name of its kind. Bodies of operations that read none are ignored.
-abbrev pub op_of_row : Endpoint → List (List ℕ) → List ℕ → Option Op
-op_of_row endpoint.Version parts body = Some op.Version
-op_of_row endpoint.ListDags parts body = Some op.ListDags
-op_of_row endpoint.GetDag parts body = option_map (λ dag_id. op.GetDag dag_id) (dag_id_in parts)
-op_of_row endpoint.PauseDag parts body = option_map (λ dag_id. op.PauseDag dag_id (pause_in body)) (dag_id_in parts)
-op_of_row endpoint.ListTasks parts body = option_map (λ dag_id. op.ListTasks dag_id) (dag_id_in parts)
-op_of_row endpoint.ListRuns parts body = if is_all parts then Some (op.ListRuns None) else option_map (λ dag_id. op.ListRuns (Some dag_id)) (dag_id_in parts)
-op_of_row endpoint.TriggerRun parts body = option_map (λ dag_id. op.TriggerRun dag_id (trigger_in body)) (dag_id_in parts)
-op_of_row endpoint.GetRun parts body = option_map (λ ids. op.GetRun ids.0 ids.1) (run_ids_in parts)
-op_of_row endpoint.MarkRun parts body = option_map (λ ids. op.MarkRun ids.0 ids.1 (mark_in body)) (run_ids_in parts)
-op_of_row endpoint.DeleteRun parts body = option_map (λ ids. op.DeleteRun ids.0 ids.1) (run_ids_in parts)
-op_of_row endpoint.ClearRun parts body = option_map (λ ids. op.ClearRun ids.0 ids.1 (clear_run_in body)) (run_ids_in parts)
-op_of_row endpoint.ListInstances parts body = option_map (λ ids. op.ListInstances ids.0 ids.1) (run_ids_in parts)
-op_of_row endpoint.GetInstance parts body = option_map (λ ids. op.GetInstance ids.0.0 ids.0.1 ids.1) (instance_ids_in parts)
-op_of_row endpoint.ClearInstances parts body = option_map (λ dag_id. op.ClearInstances dag_id (clear_in body)) (dag_id_in parts)
-op_of_row endpoint.ListPools parts body = Some (op.Pool pool_op.List)
-op_of_row endpoint.AddPool parts body = Some (op.Pool (pool_op.Add (pool_in body)))
-op_of_row endpoint.GetPool parts body = option_map (λ name. op.Pool (pool_op.Get name)) (row_name_in parts)
-op_of_row endpoint.ChangePool parts body = option_map (λ name. op.Pool (pool_op.Change name (slots_in body))) (row_name_in parts)
-op_of_row endpoint.DeletePool parts body = option_map (λ name. op.Pool (pool_op.Delete name)) (row_name_in parts)
-op_of_row endpoint.ListVariables parts body = Some (op.Variable variable_op.List)
-op_of_row endpoint.AddVariable parts body = Some (op.Variable (variable_op.Add (variable_in body)))
-op_of_row endpoint.GetVariable parts body = option_map (λ key. op.Variable (variable_op.Get key)) (row_name_in parts)
-op_of_row endpoint.ChangeVariable parts body = option_map (λ key. op.Variable (variable_op.Change key (value_in body))) (row_name_in parts)
-op_of_row endpoint.DeleteVariable parts body = option_map (λ key. op.Variable (variable_op.Delete key)) (row_name_in parts)
+-- The operation that a row of the table stands for, where the parts of the path, decoded, are these and the query and the body have
+-- these bytes; none where a part is no name of its kind. Queries and bodies of operations that read none are ignored: there are
+-- no pages of tasks.
+abbrev pub op_of_row : Endpoint → List (List ℕ) → List ℕ → List ℕ → Option Op
+op_of_row endpoint.Version parts query body = Some op.Version
+op_of_row endpoint.ListDags parts query body = Some (op.ListDags (window_of query))
+op_of_row endpoint.GetDag parts query body = option_map (λ dag_id. op.GetDag dag_id) (dag_id_in parts)
+op_of_row endpoint.PauseDag parts query body = option_map (λ dag_id. op.PauseDag dag_id (pause_in body)) (dag_id_in parts)
+op_of_row endpoint.ListTasks parts query body = option_map (λ dag_id. op.ListTasks dag_id) (dag_id_in parts)
+op_of_row endpoint.ListRuns parts query body = if is_all parts then Some (op.ListRuns None (window_of query)) else option_map (λ dag_id. op.ListRuns (Some dag_id) (window_of query)) (dag_id_in parts)
+op_of_row endpoint.TriggerRun parts query body = option_map (λ dag_id. op.TriggerRun dag_id (trigger_in body)) (dag_id_in parts)
+op_of_row endpoint.GetRun parts query body = option_map (λ ids. op.GetRun ids.0 ids.1) (run_ids_in parts)
+op_of_row endpoint.MarkRun parts query body = option_map (λ ids. op.MarkRun ids.0 ids.1 (mark_in body)) (run_ids_in parts)
+op_of_row endpoint.DeleteRun parts query body = option_map (λ ids. op.DeleteRun ids.0 ids.1) (run_ids_in parts)
+op_of_row endpoint.ClearRun parts query body = option_map (λ ids. op.ClearRun ids.0 ids.1 (clear_run_in body)) (run_ids_in parts)
+op_of_row endpoint.ListInstances parts query body = option_map (λ ids. op.ListInstances ids.0 ids.1 (window_of query)) (run_ids_in parts)
+op_of_row endpoint.GetInstance parts query body = option_map (λ ids. op.GetInstance ids.0.0 ids.0.1 ids.1) (instance_ids_in parts)
+op_of_row endpoint.ClearInstances parts query body = option_map (λ dag_id. op.ClearInstances dag_id (clear_in body)) (dag_id_in parts)
+op_of_row endpoint.ListPools parts query body = Some (op.Pool (pool_op.List (window_of query)))
+op_of_row endpoint.AddPool parts query body = Some (op.Pool (pool_op.Add (pool_in body)))
+op_of_row endpoint.GetPool parts query body = option_map (λ name. op.Pool (pool_op.Get name)) (row_name_in parts)
+op_of_row endpoint.ChangePool parts query body = option_map (λ name. op.Pool (pool_op.Change name (slots_in body))) (row_name_in parts)
+op_of_row endpoint.DeletePool parts query body = option_map (λ name. op.Pool (pool_op.Delete name)) (row_name_in parts)
+op_of_row endpoint.ListVariables parts query body = Some (op.Variable (variable_op.List (window_of query)))
+op_of_row endpoint.AddVariable parts query body = Some (op.Variable (variable_op.Add (variable_in body)))
+op_of_row endpoint.GetVariable parts query body = option_map (λ key. op.Variable (variable_op.Get key)) (row_name_in parts)
+op_of_row endpoint.ChangeVariable parts query body = option_map (λ key. op.Variable (variable_op.Change key (value_in body))) (row_name_in parts)
+op_of_row endpoint.DeleteVariable parts query body = option_map (λ key. op.Variable (variable_op.Delete key)) (row_name_in parts)
 
 -- the same operation, whose body was not read for want of memory
 abbrev pub unread : Op → Op
 unread op.Version = op.Version
-unread op.ListDags = op.ListDags
+unread (op.ListDags asked) = op.ListDags asked
 unread (op.GetDag dag_id) = op.GetDag dag_id
 unread (op.PauseDag dag_id input) = op.PauseDag dag_id (Err OutOfMemory)
 unread (op.ListTasks dag_id) = op.ListTasks dag_id
-unread (op.ListRuns dag) = op.ListRuns dag
+unread (op.ListRuns dag asked) = op.ListRuns dag asked
 unread (op.TriggerRun dag_id input) = op.TriggerRun dag_id (Err OutOfMemory)
 unread (op.GetRun dag_id run_id) = op.GetRun dag_id run_id
 unread (op.MarkRun dag_id run_id input) = op.MarkRun dag_id run_id (Err OutOfMemory)
 unread (op.DeleteRun dag_id run_id) = op.DeleteRun dag_id run_id
 unread (op.ClearRun dag_id run_id input) = op.ClearRun dag_id run_id (Err OutOfMemory)
-unread (op.ListInstances dag_id run_id) = op.ListInstances dag_id run_id
+unread (op.ListInstances dag_id run_id asked) = op.ListInstances dag_id run_id asked
 unread (op.GetInstance dag_id run_id task_id) = op.GetInstance dag_id run_id task_id
 unread (op.ClearInstances dag_id input) = op.ClearInstances dag_id (Err OutOfMemory)
 unread (op.Pool it) = op.Pool (pools.unread it)

@@ -1,6 +1,7 @@
 -- What is told of a fault: its status and its detail.
 use Rattle.std.specs.Prelude.{ℕ, List, [], ◌++◌, Option, Some, None, slice_index_or, unwrap_or, codes}
 use Rattle.af_names.specs.Isoformat.{isoformat}
+use Rattle.af_policy.specs.Inputs.{parameter_text}
 use Rattle.af_role.specs.Needs.{need_text}
 use Rattle.af_ops.specs.declared.answer.CallFault.{CallFault}
 use Rattle.af_ops.specs.declared.answer.CallFault.TheVariants as why
@@ -20,6 +21,7 @@ fault_of status detail = Some record { status = status; detail = detail }
 abbrev pub problem_of : Op → CallFault → Option Problem
 problem_of asked why.Unauthenticated = fault_of status.Unauthorized (codes "authentication required")
 problem_of asked (why.Denied need) = fault_of status.Forbidden (codes "missing permission " ++ need_text need (dag_of asked))
+problem_of asked (why.Op (fault.BadParameter it)) = fault_of status.BadRequest (codes "bad parameter: " ++ parameter_text it)
 problem_of asked (why.Op fault.BadBody) = fault_of status.BadRequest (codes "bad body")
 problem_of asked (why.Op (fault.BadMember it)) = fault_of status.BadRequest (codes "bad member: " ++ name_of it)
 problem_of asked (why.Op fault.NoSuchDag) = fault_of status.NotFound (codes "no such dag: " ++ unwrap_or (dag_of asked) [])

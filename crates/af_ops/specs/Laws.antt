@@ -3,6 +3,8 @@ use Rattle.std.specs.Prelude.{◌≡◌, ◌≢◌, ◌↔◌, ◌<◌, ◌≤�
 use Rattle.std.specs.Cmp.Lexicographic.{pointwise}
 use Rattle.std.specs.List.Sorted.{IsStrictlySortedBy}
 use Rattle.std.specs.Ordering.{nat_cmp}
+use Rattle.af_listing.specs.Pages.{cut}
+use Rattle.af_listing.specs.Windows.{Cut}
 use Rattle.af_graph.specs.declared.task_state.TaskState.TheVariants.{NoStatus}
 use Rattle.af_runs.specs.Clears.{run_after}
 use Rattle.af_runs.specs.Laws.{TouchesChosenAlone}
@@ -22,14 +24,14 @@ use Rattle.af_ops.specs.declared.op.Op.TheVariants as op
 use Rattle.af_ops.specs.declared.trigger.Trigger.{Trigger}
 use Rattle.af_ops.specs.Effects.{Effect, effect_of, filter_of, id_or, selection_of}
 use Rattle.af_ops.specs.Endpoints.{dag_id_in, dag_of, endpoint_of, op_of_row}
-use Rattle.af_ops.specs.Listings.{default_limit, page, read_rows}
+use Rattle.af_ops.specs.Listings.{read_rows}
 use Rattle.af_ops.specs.Table.{Segment, Text, Part, endpoint_at, route_of, segments_of}
 
--- the rows of a listing stand in byte order of their ids, and no id stands twice
+-- the rows of a page stand in byte order of their ids, and no id stands twice
 abbrev pub ListingsGoById : Type 0
 ListingsGoById =
-    (reads : List ℕ → Bool) (state : StateRows) → AreInOrder state.dags
-    → AreInOrder (page default_limit 0 (read_rows reads (λ row. row.dag.dag_id) state.dags))
+    (reads : List ℕ → Bool) (window : Cut) (state : StateRows) → AreInOrder state.dags
+    → AreInOrder (cut window (read_rows reads (λ row. row.dag.dag_id) state.dags))
 
 -- an operation that is asked for by GET leaves every state as it is
 abbrev pub ReadingsLeaveTheState : Type 0
@@ -62,12 +64,12 @@ RunsListedAreThoseRead =
     (reads : List ℕ → Bool) (state : StateRows) (run : Run)
     → Contains (read_rows reads (λ it. it.dag_id) state.runs) run ↔ (Contains state.runs run × (reads run.dag_id ≡ true))
 
--- the runs that are listed, those of one DAG and those whose DAG is read, stand in order of their numbers, and no run stands twice
+-- the runs of a page, of those of one DAG and of those whose DAG is read, stand in order of their numbers, and no run stands twice
 abbrev pub RunsListedGoByNumber : Type 0
 RunsListedGoByNumber =
-    (reads : List ℕ → Bool) (dag_id : List ℕ) (state : StateRows) → AreRuns state.runs state.next_run
-    → IsStrictlySortedBy nat_cmp (map (λ run. run.number) (page default_limit 0 (read_rows reads (λ run. run.dag_id) state.runs)))
-    × IsStrictlySortedBy nat_cmp (map (λ run. run.number) (page default_limit 0 (runs_of state.runs dag_id)))
+    (reads : List ℕ → Bool) (window : Cut) (dag_id : List ℕ) (state : StateRows) → AreRuns state.runs state.next_run
+    → IsStrictlySortedBy nat_cmp (map (λ run. run.number) (cut window (read_rows reads (λ run. run.dag_id) state.runs)))
+    × IsStrictlySortedBy nat_cmp (map (λ run. run.number) (cut window (runs_of state.runs dag_id)))
 
 -- the run that is shown is the one of its DAG that has the id
 abbrev pub RunsAreShownByTheirIds : Type 0
@@ -156,5 +158,5 @@ names_dag (Part name ∷ rest) = pointwise nat_eq name (codes "dag_id") || names
 -- what is read of a row of the table is that row's operation, and it names the DAG of the path's part, where the path has one
 abbrev pub OperationsAreOfTheirRow : Type 0
 OperationsAreOfTheirRow =
-    (it : Endpoint) (parts : List (List ℕ)) (body : List ℕ) (asked : Op) → op_of_row it parts body ≡ Some asked
+    (it : Endpoint) (parts : List (List ℕ)) (query body : List ℕ) (asked : Op) → op_of_row it parts query body ≡ Some asked
     → (endpoint_of asked ≡ it) × (dag_of asked ≡ (if names_dag (segments_of (route_of it).place) then dag_id_in parts else None))

@@ -4,6 +4,9 @@ use Rattle.std.specs.Prelude.{ℕ, List, ◌==◌, map, zip, length, Option, Som
 use Rattle.serde_json.specs.Data.{Data}
 use Rattle.serde_json.specs.Written.{compact_text}
 use Rattle.af_base.specs.Readings.{◌>>=◌}
+use Rattle.af_listing.specs.Pages.{cut}
+use Rattle.af_listing.specs.Windows.{Cut}
+use Rattle.af_policy.specs.declared.bad_input.Parameter.{Parameter}
 use Rattle.af_pool.specs.Pools.{add_fault, pool_of, remove_fault, set_fault, with_pool, with_slots, without_pool}
 use Rattle.af_pool.specs.declared.fault.PoolFault.{PoolFault}
 use Rattle.af_pool.specs.declared.fault.PoolFault.TheVariants as pool_fault
@@ -17,9 +20,8 @@ use Rattle.af_ops.specs.declared.body_fault.BodyFault.{BodyFault}
 use Rattle.af_ops.specs.declared.body_fault.Member.TheVariants.{Slots}
 use Rattle.af_ops.specs.declared.pool_op.PoolOp.{PoolOp}
 use Rattle.af_ops.specs.declared.pool_op.PoolOp.TheVariants as pool_op
-use Rattle.af_ops.specs.EffectParts.{Effect, changed_to, input_or, kept, left_with}
+use Rattle.af_ops.specs.EffectParts.{Effect, changed_to, input_or, kept, left_with, window_or}
 use Rattle.af_ops.specs.Fields.{listing_of}
-use Rattle.af_ops.specs.Listings.{default_limit, page}
 use Rattle.af_ops.specs.Replies.{pool_data}
 use Rattle.af_ops.specs.Rows.{PoolTold}
 
@@ -62,9 +64,14 @@ told state pool = pool_data (pool_told state pool.name pool.slots)
 abbrev pub listed : List Pool → List Held → List PoolTold
 listed pools held = map (λ at. record { name = at.0.name; slots = at.0.slots; held = at.1 }) (zip pools held)
 
--- the first page of the pools, by name, and how many there are
-abbrev pub pools_data : StateRows → Data
-pools_data state = listing_of (codes "pools") (map (told state) (page default_limit 0 state.pools)) (length state.pools)
+-- the pools of a page, by name, and how many there are
+abbrev pub pools_data : Cut → StateRows → Data
+pools_data window state = listing_of (codes "pools") (map (told state) (cut window state.pools)) (length state.pools)
+
+abbrev pub listed_pools : StateRows → Result Cut Parameter → Result Effect OpFault
+listed_pools state asked = do
+  window ← window_or asked
+  Ok (kept (pools_data window state))
 
 -- a pool is added, and told
 abbrev pub adding : StateRows → Pool → Effect
@@ -102,7 +109,7 @@ pool_deleted state name = do
   Ok (left_with (record state { pools = without_pool state.pools name }))
 
 abbrev pub pool_effect : StateRows → PoolOp → Result Effect OpFault
-pool_effect state pool_op.List = Ok (kept (pools_data state))
+pool_effect state (pool_op.List asked) = listed_pools state asked
 pool_effect state (pool_op.Add input) = pool_added state input
 pool_effect state (pool_op.Get name) = got_pool state name
 pool_effect state (pool_op.Change name input) = pool_changed state name input

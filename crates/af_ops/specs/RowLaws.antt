@@ -2,6 +2,8 @@
 use Rattle.std.specs.Prelude.{◌≡◌, ◌<◌, ◌+◌, ◌^◌, ℕ, List, Bool, false, map, max, nat_eq, Some, None, Ok}
 use Rattle.std.specs.Cmp.Lexicographic.{pointwise}
 use Rattle.af_base.specs.Ordered.{AreInOrder}
+use Rattle.af_listing.specs.Pages.{cut}
+use Rattle.af_listing.specs.Windows.{Cut}
 use Rattle.af_pool.specs.Pools.{NeededStay, name_of, occupied_slots, pool_of, slots_of}
 use Rattle.af_pool.specs.declared.pool.Pool.{Pool}
 use Rattle.af_sched.specs.Holding.{held_of}
@@ -17,7 +19,6 @@ use Rattle.af_ops.specs.declared.pool_op.PoolOp.TheVariants as pool_op
 use Rattle.af_ops.specs.declared.variable_op.VariableOp.{VariableOp}
 use Rattle.af_ops.specs.declared.variable_op.VariableOp.TheVariants as variable_op
 use Rattle.af_ops.specs.Effects.{Effect, effect_of}
-use Rattle.af_ops.specs.Listings.{default_limit, page}
 use Rattle.af_ops.specs.PoolOps as pools
 use Rattle.af_ops.specs.Rows.{occupied_by, open_beside}
 use Rattle.af_ops.specs.VariableOps as variables
@@ -78,8 +79,8 @@ PoolsAreToldWhole =
     → (occupied_in_all state pool.name < 2 ^ 64 → occupied_by (held_of state pool.name) ≡ occupied_in_all state pool.name)
     × (occupied_by (held_of state pool.name) + open_beside pool.slots (held_of state pool.name) ≡ max pool.slots (occupied_by (held_of state pool.name)))
 
--- the pools that are listed stand in byte order of their names, and the variables in that of their keys; none stands twice
+-- the pools of a page stand in byte order of their names, and the variables in that of their keys; none stands twice
 abbrev pub RowsGoByName : Type 0
 RowsGoByName =
-    (state : StateRows) → AreInOrder name_of state.pools → AreInOrder key_of state.variables
-    → AreInOrder name_of (page default_limit 0 state.pools) × AreInOrder key_of (page default_limit 0 state.variables)
+    (window : Cut) (state : StateRows) → AreInOrder name_of state.pools → AreInOrder key_of state.variables
+    → AreInOrder name_of (cut window state.pools) × AreInOrder key_of (cut window state.variables)

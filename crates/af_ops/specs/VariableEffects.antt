@@ -4,6 +4,9 @@ use Rattle.std.specs.Cmp.Lexicographic.{pointwise}
 use Rattle.serde_json.specs.Data.{Data}
 use Rattle.serde_json.specs.Written.{compact_text}
 use Rattle.af_base.specs.Readings.{◌>>=◌}
+use Rattle.af_listing.specs.Pages.{cut}
+use Rattle.af_listing.specs.Windows.{Cut}
+use Rattle.af_policy.specs.declared.bad_input.Parameter.{Parameter}
 use Rattle.af_sched.specs.State.{StateRows}
 use Rattle.af_vars.specs.Variables.{add_fault, change_fault, variable_of, with_value, with_variable, without_variable}
 use Rattle.af_vars.specs.declared.fault.VariableFault.{VariableFault}
@@ -14,9 +17,8 @@ use Rattle.af_ops.specs.declared.answer.OpFault.TheVariants as fault
 use Rattle.af_ops.specs.declared.body_fault.BodyFault.{BodyFault}
 use Rattle.af_ops.specs.declared.variable_op.VariableOp.{VariableOp}
 use Rattle.af_ops.specs.declared.variable_op.VariableOp.TheVariants as variable_op
-use Rattle.af_ops.specs.EffectParts.{Effect, changed_to, input_or, kept, left_with}
+use Rattle.af_ops.specs.EffectParts.{Effect, changed_to, input_or, kept, left_with, window_or}
 use Rattle.af_ops.specs.Fields.{late_listing_of}
-use Rattle.af_ops.specs.Listings.{default_limit, page}
 use Rattle.af_ops.specs.Replies.{variable_data}
 
 -- ---- faults
@@ -38,9 +40,14 @@ variable_or state key = ok_or (variable_of state.variables key) fault.NoSuchVari
 
 -- ---- the operations
 
--- the first page of the variables, by key, and how many there are
-abbrev pub variables_data : List Variable → Data
-variables_data variables = late_listing_of (codes "variables") (map variable_data (page default_limit 0 variables)) (length variables)
+-- the variables of a page, by key, and how many there are
+abbrev pub variables_data : Cut → List Variable → Data
+variables_data window variables = late_listing_of (codes "variables") (map variable_data (cut window variables)) (length variables)
+
+abbrev pub listed_variables : StateRows → Result Cut Parameter → Result Effect OpFault
+listed_variables state asked = do
+  window ← window_or asked
+  Ok (kept (variables_data window state.variables))
 
 -- a variable is added, and told
 abbrev pub adding : StateRows → Variable → Effect
@@ -78,7 +85,7 @@ variable_deleted state key = do
   Ok (left_with (record state { variables = without_variable state.variables key }))
 
 abbrev pub variable_effect : StateRows → VariableOp → Result Effect OpFault
-variable_effect state variable_op.List = Ok (kept (variables_data state.variables))
+variable_effect state (variable_op.List asked) = listed_variables state asked
 variable_effect state (variable_op.Add input) = variable_added state input
 variable_effect state (variable_op.Get key) = got_variable state key
 variable_effect state (variable_op.Change key input) = variable_changed state key input

@@ -9,7 +9,7 @@ use Rattle.af_ops.specs.declared.variable_op.VariableOp.{VariableOp}
 use Rattle.af_ops.specs.declared.variable_op.VariableOp.TheVariants as variable_op
 
 abbrev pub endpoint_of : VariableOp → Endpoint
-endpoint_of variable_op.List = endpoint.ListVariables
+endpoint_of (variable_op.List asked) = endpoint.ListVariables
 endpoint_of (variable_op.Add input) = endpoint.AddVariable
 endpoint_of (variable_op.Get key) = endpoint.GetVariable
 endpoint_of (variable_op.Change key input) = endpoint.ChangeVariable
@@ -21,7 +21,7 @@ added_key (Err fault) = []
 
 -- the key of the variable that it is about, in its path or in its body; no text where there is none
 abbrev pub key_of : VariableOp → List ℕ
-key_of variable_op.List = []
+key_of (variable_op.List asked) = []
 key_of (variable_op.Add input) = added_key input
 key_of (variable_op.Get key) = key
 key_of (variable_op.Change key input) = key
@@ -29,7 +29,7 @@ key_of (variable_op.Delete key) = key
 
 -- the same operation, whose body was not read for want of memory
 abbrev pub unread : VariableOp → VariableOp
-unread variable_op.List = variable_op.List
+unread (variable_op.List asked) = variable_op.List asked
 unread (variable_op.Add input) = variable_op.Add (Err OutOfMemory)
 unread (variable_op.Get key) = variable_op.Get key
 unread (variable_op.Change key input) = variable_op.Change key (Err OutOfMemory)

@@ -1,6 +1,8 @@
 -- A small policy and a small state, for worked values: a viewer, a user who may read one DAG, one who may read its runs too, one who
 -- may edit all, one without permissions, and three DAGs of one task, the first of them paused.
-use Rattle.std.specs.Prelude.{ℕ, ◌^◌, pos, negsuc, List, [], ◌∷◌, ◌++◌, Bool, true, false, Option, Some, None, codes}
+use Rattle.std.specs.Prelude.{ℕ, ◌^◌, pos, negsuc, List, [], ◌∷◌, ◌++◌, Bool, true, false, Option, Some, None, Result, Ok, codes}
+use Rattle.af_listing.specs.Windows.{Cut}
+use Rattle.af_policy.specs.declared.bad_input.Parameter.{Parameter}
 use Rattle.af_role.specs.declared.action.Action.TheVariants.{Read}
 use Rattle.af_role.specs.declared.resource.ResourceKind.TheVariants.{DagRuns}
 use Rattle.af_role.specs.Pairs.{on_dag, on_kind}
@@ -99,6 +101,10 @@ changes text next = Changes (Some text) next
 -- what this user is told
 abbrev pub is_told : StandingRows → List ℕ → Op → Option Shown
 is_told standing who asked = answer_of asked standing.under (asks standing who asked)
+
+-- what a listing is asked for, where nothing is said
+abbrev pub first_page : Result Cut Parameter
+first_page = Ok record { limit = 100; offset = 0 }
 
 -- ---- runs
 

@@ -1,5 +1,6 @@
 use crate::body_fault::Member;
 use af_names::Instant;
+use af_policy::Parameter;
 use af_role::Need;
 use std::alloc::AllocError;
 
@@ -13,6 +14,8 @@ pub struct Under {
 /// Why a permitted operation is not done, in the order in which the reasons are told.
 #[derive(Clone, Copy, Debug, PartialEq, Eq)]
 pub enum OpFault {
+    /// This parameter of its query is no number.
+    BadParameter(Parameter),
     /// Its body is no JSON object.
     BadBody,
     /// This member of its body is absent though it has to be there, or of a wrong kind or value.

@@ -149,12 +149,12 @@ fn would_change(state: &State, op: &Op) -> bool
         Op::DeleteRun(_, _) => true,
         Op::PauseDag(_, Err(_)) | Op::TriggerRun(_, Err(_)) | Op::MarkRun(_, _, Err(_)) => false,
         Op::Version
-        | Op::ListDags
+        | Op::ListDags(_)
         | Op::GetDag(_)
         | Op::ListTasks(_)
-        | Op::ListRuns(_)
+        | Op::ListRuns(_, _)
         | Op::GetRun(_, _)
-        | Op::ListInstances(_, _)
+        | Op::ListInstances(_, _, _)
         | Op::GetInstance(_, _, _) => false,
         Op::ClearRun(_, _, _) | Op::ClearInstances(_, _) => false,
         Op::Pool(op) => would_change_pools(state, op),

@@ -54,6 +54,7 @@ mod trigger;
 mod variable_op;
 mod variable_text;
 mod worked;
+mod worked_pages;
 mod worked_rows;
 
 pub use answer::{CallFault, OpFault, Under};
@@ -94,6 +95,7 @@ pub use worked::{
     marks_by_the_rule, messages_by_the_rule, readings_by_the_rule, routes_by_the_rule,
     run_messages_by_the_rule, runs_by_the_rule, tasks_by_the_rule, triggers_by_the_rule,
 };
+pub use worked_pages::{page_messages_by_the_rule, pages_by_the_rule, windows_by_the_rule};
 pub use worked_rows::{
     pool_messages_by_the_rule, pools_by_the_rule, row_bodies_by_the_rule, row_routes_by_the_rule,
     variable_messages_by_the_rule, variables_by_the_rule,

@@ -8,24 +8,26 @@ use crate::endpoint::Endpoint;
 use crate::pool_op::PoolOp;
 use crate::trigger::Trigger;
 use crate::variable_op::VariableOp;
+use af_listing::Window;
 use af_names::{DagId, RunId, TaskId};
+use af_policy::Parameter;
 use af_runs::Mark;
 
-/// An operation that a request asks for: the names of its path, and what was read of its body, where it reads one.
+/// An operation that a request asks for: the names of its path, and what was read of its query or of its body, where it reads one.
 #[derive(Drop)]
 pub enum Op {
     /// What the server is.
     Version,
-    /// The DAGs that the user reads.
-    ListDags,
+    /// A page of the DAGs that the user reads.
+    ListDags(Result<Window, Parameter>),
     /// One DAG.
     GetDag(DagId),
     /// A DAG is paused, or not.
     PauseDag(DagId, Result<bool, BodyFault>),
     /// The tasks of a DAG.
     ListTasks(DagId),
-    /// The runs of one DAG, or those of all DAGs that the user reads.
-    ListRuns(Option<DagId>),
+    /// A page of the runs of one DAG, or of those of all DAGs that the user reads.
+    ListRuns(Option<DagId>, Result<Window, Parameter>),
     /// A run of a DAG is triggered.
     TriggerRun(DagId, Result<Trigger, BodyFault>),
     /// One run of a DAG.
@@ -36,8 +38,8 @@ pub enum Op {
     DeleteRun(DagId, RunId),
     /// The instances of a run are cleared, or told as those that would be.
     ClearRun(DagId, RunId, Result<bool, BodyFault>),
-    /// The instances of a run.
-    ListInstances(DagId, RunId),
+    /// A page of the instances of a run.
+    ListInstances(DagId, RunId, Result<Window, Parameter>),
     /// One instance of a run.
     GetInstance(DagId, RunId, TaskId),
     /// Instances of a DAG's runs are cleared, or told as those that would be.
@@ -55,17 +57,17 @@ impl Op {
     {
         match self {
             Op::Version => Endpoint::Version,
-            Op::ListDags => Endpoint::ListDags,
+            Op::ListDags(_) => Endpoint::ListDags,
             Op::GetDag(_) => Endpoint::GetDag,
             Op::PauseDag(_, _) => Endpoint::PauseDag,
             Op::ListTasks(_) => Endpoint::ListTasks,
-            Op::ListRuns(_) => Endpoint::ListRuns,
+            Op::ListRuns(_, _) => Endpoint::ListRuns,
             Op::TriggerRun(_, _) => Endpoint::TriggerRun,
             Op::GetRun(_, _) => Endpoint::GetRun,
             Op::MarkRun(_, _, _) => Endpoint::MarkRun,
             Op::DeleteRun(_, _) => Endpoint::DeleteRun,
             Op::ClearRun(_, _, _) => Endpoint::ClearRun,
-            Op::ListInstances(_, _) => Endpoint::ListInstances,
+            Op::ListInstances(_, _, _) => Endpoint::ListInstances,
             Op::GetInstance(_, _, _) => Endpoint::GetInstance,
             Op::ClearInstances(_, _) => Endpoint::ClearInstances,
             Op::Pool(op) => op.endpoint(),
@@ -78,14 +80,14 @@ impl Op {
         ensures { option_copied result ≡ dag_of self.now }
     {
         match self {
-            Op::Version | Op::ListDags | Op::Pool(_) | Op::Variable(_) => None,
+            Op::Version | Op::ListDags(_) | Op::Pool(_) | Op::Variable(_) => None,
             Op::GetDag(dag_id) | Op::PauseDag(dag_id, _) => Some(dag_id),
             Op::ListTasks(dag_id) => Some(dag_id),
-            Op::ListRuns(dag) => dag.as_ref(),
+            Op::ListRuns(dag, _) => dag.as_ref(),
             Op::TriggerRun(dag_id, _) | Op::GetRun(dag_id, _) => Some(dag_id),
             Op::MarkRun(dag_id, _, _) | Op::ClearRun(dag_id, _, _) => Some(dag_id),
             Op::DeleteRun(dag_id, _) | Op::ClearInstances(dag_id, _) => Some(dag_id),
-            Op::ListInstances(dag_id, _) | Op::GetInstance(dag_id, _, _) => Some(dag_id),
+            Op::ListInstances(dag_id, _, _) | Op::GetInstance(dag_id, _, _) => Some(dag_id),
         }
     }
 
@@ -96,14 +98,14 @@ impl Op {
         match self {
             Op::GetRun(_, run_id) | Op::MarkRun(_, run_id, _) => Some(run_id),
             Op::DeleteRun(_, run_id) | Op::ClearRun(_, run_id, _) => Some(run_id),
-            Op::ListInstances(_, run_id) | Op::GetInstance(_, run_id, _) => Some(run_id),
+            Op::ListInstances(_, run_id, _) | Op::GetInstance(_, run_id, _) => Some(run_id),
             Op::ClearInstances(_, input) => cleared_run(input),
             Op::Version
-            | Op::ListDags
+            | Op::ListDags(_)
             | Op::GetDag(_)
             | Op::PauseDag(_, _)
             | Op::ListTasks(_)
-            | Op::ListRuns(_)
+            | Op::ListRuns(_, _)
             | Op::TriggerRun(_, _)
             | Op::Pool(_)
             | Op::Variable(_) => None,
@@ -117,17 +119,17 @@ impl Op {
         match self {
             Op::GetInstance(_, _, task_id) => Some(task_id),
             Op::Version
-            | Op::ListDags
+            | Op::ListDags(_)
             | Op::GetDag(_)
             | Op::PauseDag(_, _)
             | Op::ListTasks(_)
-            | Op::ListRuns(_)
+            | Op::ListRuns(_, _)
             | Op::TriggerRun(_, _)
             | Op::GetRun(_, _)
             | Op::MarkRun(_, _, _)
             | Op::DeleteRun(_, _)
             | Op::ClearRun(_, _, _)
-            | Op::ListInstances(_, _)
+            | Op::ListInstances(_, _, _)
             | Op::ClearInstances(_, _)
             | Op::Pool(_)
             | Op::Variable(_) => None,
@@ -141,16 +143,16 @@ impl Op {
         match self {
             Op::TriggerRun(_, input) => given_in(input),
             Op::Version
-            | Op::ListDags
+            | Op::ListDags(_)
             | Op::GetDag(_)
             | Op::PauseDag(_, _)
             | Op::ListTasks(_)
-            | Op::ListRuns(_)
+            | Op::ListRuns(_, _)
             | Op::GetRun(_, _)
             | Op::MarkRun(_, _, _)
             | Op::DeleteRun(_, _)
             | Op::ClearRun(_, _, _)
-            | Op::ListInstances(_, _)
+            | Op::ListInstances(_, _, _)
             | Op::GetInstance(_, _, _)
             | Op::ClearInstances(_, _)
             | Op::Pool(_)
@@ -165,17 +167,17 @@ impl Op {
         match self {
             Op::ClearInstances(_, input) => ids_in(input),
             Op::Version
-            | Op::ListDags
+            | Op::ListDags(_)
             | Op::GetDag(_)
             | Op::PauseDag(_, _)
             | Op::ListTasks(_)
-            | Op::ListRuns(_)
+            | Op::ListRuns(_, _)
             | Op::TriggerRun(_, _)
             | Op::GetRun(_, _)
             | Op::MarkRun(_, _, _)
             | Op::DeleteRun(_, _)
             | Op::ClearRun(_, _, _)
-            | Op::ListInstances(_, _)
+            | Op::ListInstances(_, _, _)
             | Op::GetInstance(_, _, _)
             | Op::Pool(_)
             | Op::Variable(_) => &[],
@@ -190,17 +192,17 @@ impl Op {
             Op::Pool(op) => op.name(),
             Op::Variable(op) => op.key(),
             Op::Version
-            | Op::ListDags
+            | Op::ListDags(_)
             | Op::GetDag(_)
             | Op::PauseDag(_, _)
             | Op::ListTasks(_)
-            | Op::ListRuns(_)
+            | Op::ListRuns(_, _)
             | Op::TriggerRun(_, _)
             | Op::GetRun(_, _)
             | Op::MarkRun(_, _, _)
             | Op::DeleteRun(_, _)
             | Op::ClearRun(_, _, _)
-            | Op::ListInstances(_, _)
+            | Op::ListInstances(_, _, _)
             | Op::GetInstance(_, _, _)
             | Op::ClearInstances(_, _) => "",
         }

@@ -3,14 +3,16 @@ ghost use Rattle.af_ops.specs.PoolOps.{added_name, endpoint_of, name_of};
 
 use crate::body_fault::BodyFault;
 use crate::endpoint::Endpoint;
+use af_listing::Window;
 use af_names::PoolName;
+use af_policy::Parameter;
 use af_pool::Pool;
 
-/// An operation on pools: the name of its path, and what was read of its body, where it reads one.
+/// An operation on pools: the name of its path, and what was read of its query or of its body, where it reads one.
 #[derive(Drop)]
 pub enum PoolOp {
-    /// The pools.
-    List,
+    /// A page of the pools.
+    List(Result<Window, Parameter>),
     /// A pool is added.
     Add(Result<Pool, BodyFault>),
     /// One pool.
@@ -27,7 +29,7 @@ impl PoolOp {
         ensures { result ≡ endpoint_of self.now }
     {
         match self {
-            PoolOp::List => Endpoint::ListPools,
+            PoolOp::List(_) => Endpoint::ListPools,
             PoolOp::Add(_) => Endpoint::AddPool,
             PoolOp::Get(_) => Endpoint::GetPool,
             PoolOp::Change(_, _) => Endpoint::ChangePool,
@@ -40,7 +42,7 @@ impl PoolOp {
         ensures { result.now ≡ name_of self.now }
     {
         match self {
-            PoolOp::List => "",
+            PoolOp::List(_) => "",
             PoolOp::Add(input) => added_name(input),
             PoolOp::Get(name) => name.as_str(),
             PoolOp::Change(name, _) => name.as_str(),

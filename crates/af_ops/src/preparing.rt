@@ -8,7 +8,7 @@ use crate::answer::OpFault;
 use crate::edit::Edit;
 use crate::op::Op;
 use crate::operations::clearing::{instances_cleared, run_cleared};
-use crate::operations::dags::{dags_text, got_dag, paused_dag};
+use crate::operations::dags::{got_dag, listed_dags, paused_dag};
 use crate::operations::deleting::run_deleted;
 use crate::operations::instances::{got_instance, listed_instances};
 use crate::operations::marking::run_marked;
@@ -45,20 +45,19 @@ pub fn prepare<R: Reader>(
             let body = row_text(alloc, &Product)?;
             Ok(Prepared::of(body, Edit::Nothing))
         }
-        Op::ListDags => {
-            let body = dags_text(alloc, state.dags(), reader)?;
-            Ok(Prepared::of(body, Edit::Nothing))
-        }
+        Op::ListDags(asked) => listed_dags(alloc, state, asked, reader),
         Op::GetDag(dag_id) => got_dag(alloc, state, dag_id),
         Op::PauseDag(dag_id, input) => paused_dag(alloc, state, dag_id, input),
         Op::ListTasks(dag_id) => listed_tasks(alloc, state, dag_id),
-        Op::ListRuns(dag) => listed_runs(alloc, state, dag.as_ref(), reader),
+        Op::ListRuns(dag, asked) => listed_runs(alloc, state, dag.as_ref(), asked, reader),
         Op::TriggerRun(dag_id, input) => triggered_run(alloc, state, dag_id, input, now),
         Op::GetRun(dag_id, run_id) => got_run(alloc, state, dag_id, run_id),
         Op::MarkRun(dag_id, run_id, input) => run_marked(alloc, state, dag_id, run_id, input, now),
         Op::DeleteRun(dag_id, run_id) => run_deleted(state, dag_id, run_id),
         Op::ClearRun(dag_id, run_id, input) => run_cleared(alloc, state, dag_id, run_id, input),
-        Op::ListInstances(dag_id, run_id) => listed_instances(alloc, state, dag_id, run_id),
+        Op::ListInstances(dag_id, run_id, asked) => {
+            listed_instances(alloc, state, dag_id, run_id, asked)
+        }
         Op::GetInstance(dag_id, run_id, task_id) => {
             got_instance(alloc, state, dag_id, run_id, task_id)
         }

@@ -12,25 +12,27 @@ use crate::row_reading::{
     get_variable, is_row_name,
 };
 use crate::variable_op::VariableOp;
+use af_listing::Window;
 use af_names::{DagId, NameError, RunId, TaskId};
 use std::alloc::{AllocError, Global};
 
 /// The operation that a row of the table stands for, where the parts of the path, decoded, are these; none where a part is no
-/// name of its kind. Where there is no memory to read the body, the operation says so in place of its input, and is decided
-/// without it. `AllocError` only where a growth was refused for a
-/// name, and all parts are names of their kinds.
+/// name of its kind. A listing reads its window from the query, but that of tasks, which is not paged. Where there is no memory to
+/// read the body, the operation says so in place of its input, and is decided without it. `AllocError` only where a growth was
+/// refused for a name, and all parts are names of their kinds.
 pub fn read_row(
     alloc: Global,
     endpoint: Endpoint,
     parts: &[String],
+    query: &[u8],
     body: &[u8],
 ) -> Result<Option<Op>, AllocError>
-    ensures ok { IfOk result (λ found. IsRead (op_of_row endpoint (map (λ part. string_bytes part) parts.now) body.now) found) }
-    ensures memory { IsErr result → IsSome (op_of_row endpoint (map (λ part. string_bytes part) parts.now) body.now) }
+    ensures ok { IfOk result (λ found. IsRead (op_of_row endpoint (map (λ part. string_bytes part) parts.now) query.now body.now) found) }
+    ensures memory { IsErr result → IsSome (op_of_row endpoint (map (λ part. string_bytes part) parts.now) query.now body.now) }
 {
     match endpoint {
         Endpoint::Version => Ok(Some(Op::Version)),
-        Endpoint::ListDags => Ok(Some(Op::ListDags)),
+        Endpoint::ListDags => Ok(Some(Op::ListDags(Window::read(query)))),
         Endpoint::GetDag => {
             let Some(dag_id) = dag_id_in(alloc, parts)? else {
                 return Ok(None);
@@ -51,12 +53,12 @@ pub fn read_row(
         }
         Endpoint::ListRuns => {
             if is_all(parts) {
-                return Ok(Some(Op::ListRuns(None)));
+                return Ok(Some(Op::ListRuns(None, Window::read(query))));
             }
             let Some(dag_id) = dag_id_in(alloc, parts)? else {
                 return Ok(None);
             };
-            Ok(Some(Op::ListRuns(Some(dag_id))))
+            Ok(Some(Op::ListRuns(Some(dag_id), Window::read(query))))
         }
         Endpoint::TriggerRun => {
             let Some(dag_id) = dag_id_in(alloc, parts)? else {
@@ -92,7 +94,7 @@ pub fn read_row(
             let Some((dag_id, run_id)) = run_ids_in(alloc, parts)? else {
                 return Ok(None);
             };
-            Ok(Some(Op::ListInstances(dag_id, run_id)))
+            Ok(Some(Op::ListInstances(dag_id, run_id, Window::read(query))))
         }
         Endpoint::GetInstance => {
             let Some(((dag_id, run_id), task_id)) = instance_ids_in(alloc, parts)? else {
@@ -106,12 +108,12 @@ pub fn read_row(
             };
             Ok(Some(Op::ClearInstances(dag_id, read_clear(alloc, body))))
         }
-        Endpoint::ListPools => Ok(Some(Op::Pool(PoolOp::List))),
+        Endpoint::ListPools => Ok(Some(Op::Pool(PoolOp::List(Window::read(query))))),
         Endpoint::AddPool => Ok(Some(add_pool(alloc, body))),
         Endpoint::GetPool => get_pool(alloc, parts),
         Endpoint::ChangePool => change_pool(alloc, parts, body),
         Endpoint::DeletePool => delete_pool(alloc, parts),
-        Endpoint::ListVariables => Ok(Some(Op::Variable(VariableOp::List))),
+        Endpoint::ListVariables => Ok(Some(Op::Variable(VariableOp::List(Window::read(query))))),
         Endpoint::AddVariable => Ok(Some(add_variable(alloc, body))),
         Endpoint::GetVariable => get_variable(alloc, parts),
         Endpoint::ChangeVariable => change_variable(alloc, parts, body),

@@ -12,15 +12,15 @@ use std::alloc::{AllocError, Global};
 
 /// A pool is added.
 pub(crate) fn add_pool(alloc: Global, body: &[u8]) -> Op
-    ensures { IsRead (op_of_row AddPool [] body.now) (Some result) }
+    ensures { IsRead (op_of_row AddPool [] [] body.now) (Some result) }
 {
     Op::Pool(PoolOp::Add(read_pool(alloc, body)))
 }
 
 /// One pool.
 pub(crate) fn get_pool(alloc: Global, parts: &[String]) -> Result<Option<Op>, AllocError>
-    ensures ok { IfOk result (λ found. IsRead (op_of_row GetPool (map (λ part. string_bytes part) parts.now) []) found) }
-    ensures memory { IsErr result → IsSome (op_of_row GetPool (map (λ part. string_bytes part) parts.now) []) }
+    ensures ok { IfOk result (λ found. IsRead (op_of_row GetPool (map (λ part. string_bytes part) parts.now) [] []) found) }
+    ensures memory { IsErr result → IsSome (op_of_row GetPool (map (λ part. string_bytes part) parts.now) [] []) }
 {
     let Some(name) = pool_name_in(alloc, parts)? else {
         return Ok(None);
@@ -34,8 +34,8 @@ pub(crate) fn change_pool(
     parts: &[String],
     body: &[u8],
 ) -> Result<Option<Op>, AllocError>
-    ensures ok { IfOk result (λ found. IsRead (op_of_row ChangePool (map (λ part. string_bytes part) parts.now) body.now) found) }
-    ensures memory { IsErr result → IsSome (op_of_row ChangePool (map (λ part. string_bytes part) parts.now) body.now) }
+    ensures ok { IfOk result (λ found. IsRead (op_of_row ChangePool (map (λ part. string_bytes part) parts.now) [] body.now) found) }
+    ensures memory { IsErr result → IsSome (op_of_row ChangePool (map (λ part. string_bytes part) parts.now) [] body.now) }
 {
     let Some(name) = pool_name_in(alloc, parts)? else {
         return Ok(None);
@@ -45,8 +45,8 @@ pub(crate) fn change_pool(
 
 /// A pool is deleted.
 pub(crate) fn delete_pool(alloc: Global, parts: &[String]) -> Result<Option<Op>, AllocError>
-    ensures ok { IfOk result (λ found. IsRead (op_of_row DeletePool (map (λ part. string_bytes part) parts.now) []) found) }
-    ensures memory { IsErr result → IsSome (op_of_row DeletePool (map (λ part. string_bytes part) parts.now) []) }
+    ensures ok { IfOk result (λ found. IsRead (op_of_row DeletePool (map (λ part. string_bytes part) parts.now) [] []) found) }
+    ensures memory { IsErr result → IsSome (op_of_row DeletePool (map (λ part. string_bytes part) parts.now) [] []) }
 {
     let Some(name) = pool_name_in(alloc, parts)? else {
         return Ok(None);
@@ -56,15 +56,15 @@ pub(crate) fn delete_pool(alloc: Global, parts: &[String]) -> Result<Option<Op>,
 
 /// A variable is added.
 pub(crate) fn add_variable(alloc: Global, body: &[u8]) -> Op
-    ensures { IsRead (op_of_row AddVariable [] body.now) (Some result) }
+    ensures { IsRead (op_of_row AddVariable [] [] body.now) (Some result) }
 {
     Op::Variable(VariableOp::Add(read_variable(alloc, body)))
 }
 
 /// One variable.
 pub(crate) fn get_variable(alloc: Global, parts: &[String]) -> Result<Option<Op>, AllocError>
-    ensures ok { IfOk result (λ found. IsRead (op_of_row GetVariable (map (λ part. string_bytes part) parts.now) []) found) }
-    ensures memory { IsErr result → IsSome (op_of_row GetVariable (map (λ part. string_bytes part) parts.now) []) }
+    ensures ok { IfOk result (λ found. IsRead (op_of_row GetVariable (map (λ part. string_bytes part) parts.now) [] []) found) }
+    ensures memory { IsErr result → IsSome (op_of_row GetVariable (map (λ part. string_bytes part) parts.now) [] []) }
 {
     let Some(key) = variable_key_in(alloc, parts)? else {
         return Ok(None);
@@ -78,8 +78,8 @@ pub(crate) fn change_variable(
     parts: &[String],
     body: &[u8],
 ) -> Result<Option<Op>, AllocError>
-    ensures ok { IfOk result (λ found. IsRead (op_of_row ChangeVariable (map (λ part. string_bytes part) parts.now) body.now) found) }
-    ensures memory { IsErr result → IsSome (op_of_row ChangeVariable (map (λ part. string_bytes part) parts.now) body.now) }
+    ensures ok { IfOk result (λ found. IsRead (op_of_row ChangeVariable (map (λ part. string_bytes part) parts.now) [] body.now) found) }
+    ensures memory { IsErr result → IsSome (op_of_row ChangeVariable (map (λ part. string_bytes part) parts.now) [] body.now) }
 {
     let Some(key) = variable_key_in(alloc, parts)? else {
         return Ok(None);
@@ -90,8 +90,8 @@ pub(crate) fn change_variable(
 
 /// A variable is deleted.
 pub(crate) fn delete_variable(alloc: Global, parts: &[String]) -> Result<Option<Op>, AllocError>
-    ensures ok { IfOk result (λ found. IsRead (op_of_row DeleteVariable (map (λ part. string_bytes part) parts.now) []) found) }
-    ensures memory { IsErr result → IsSome (op_of_row DeleteVariable (map (λ part. string_bytes part) parts.now) []) }
+    ensures ok { IfOk result (λ found. IsRead (op_of_row DeleteVariable (map (λ part. string_bytes part) parts.now) [] []) found) }
+    ensures memory { IsErr result → IsSome (op_of_row DeleteVariable (map (λ part. string_bytes part) parts.now) [] []) }
 {
     let Some(key) = variable_key_in(alloc, parts)? else {
         return Ok(None);

@@ -126,10 +126,10 @@ pub fn needs_for(op: &Op) -> &'static [Need]
     ensures { result.now ≡ needs_for op.now }
 {
     match op {
-        Op::ListRuns(None) => &READ_SOME_RUN,
-        Op::ListRuns(Some(_)) => &READ_RUN,
+        Op::ListRuns(None, _) => &READ_SOME_RUN,
+        Op::ListRuns(Some(_), _) => &READ_RUN,
         Op::Version => needs(Endpoint::Version),
-        Op::ListDags => needs(Endpoint::ListDags),
+        Op::ListDags(_) => needs(Endpoint::ListDags),
         Op::GetDag(_) => needs(Endpoint::GetDag),
         Op::PauseDag(_, _) => needs(Endpoint::PauseDag),
         Op::ListTasks(_) => needs(Endpoint::ListTasks),
@@ -138,7 +138,7 @@ pub fn needs_for(op: &Op) -> &'static [Need]
         Op::MarkRun(_, _, _) => needs(Endpoint::MarkRun),
         Op::DeleteRun(_, _) => needs(Endpoint::DeleteRun),
         Op::ClearRun(_, _, _) => needs(Endpoint::ClearRun),
-        Op::ListInstances(_, _) => needs(Endpoint::ListInstances),
+        Op::ListInstances(_, _, _) => needs(Endpoint::ListInstances),
         Op::GetInstance(_, _, _) => needs(Endpoint::GetInstance),
         Op::ClearInstances(_, _) => needs(Endpoint::ClearInstances),
         Op::Pool(op) => needs(op.endpoint()),

@@ -51,6 +51,10 @@ fn shown_op_fault(alloc: Global, op: &Op, fault: OpFault, under: Under) -> Resul
     ensures { IfOk result (λ shown. fault_told op.now under (CallFault.Op fault) ≡ Some shown) }
 {
     match fault {
+        OpFault::BadParameter(it) => {
+            let detail = joined(alloc, "bad parameter: ", it.text())?;
+            shown_problem(alloc, under, Status::BadRequest, detail.as_str())
+        }
         OpFault::BadBody => shown_problem(alloc, under, Status::BadRequest, "bad body"),
         OpFault::BadMember(it) => {
             let detail = joined(alloc, "bad member: ", name_of(it))?;

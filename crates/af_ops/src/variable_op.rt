@@ -3,14 +3,16 @@ ghost use Rattle.af_ops.specs.VariableOps.{added_key, endpoint_of, key_of};
 
 use crate::body_fault::BodyFault;
 use crate::endpoint::Endpoint;
+use af_listing::Window;
 use af_names::VarKey;
+use af_policy::Parameter;
 use af_vars::{VarText, Variable};
 
-/// An operation on variables: the key of its path, and what was read of its body, where it reads one.
+/// An operation on variables: the key of its path, and what was read of its query or of its body, where it reads one.
 #[derive(Drop)]
 pub enum VariableOp {
-    /// The variables.
-    List,
+    /// A page of the variables.
+    List(Result<Window, Parameter>),
     /// A variable is added.
     Add(Result<Variable, BodyFault>),
     /// One variable.
@@ -27,7 +29,7 @@ impl VariableOp {
         ensures { result ≡ endpoint_of self.now }
     {
         match self {
-            VariableOp::List => Endpoint::ListVariables,
+            VariableOp::List(_) => Endpoint::ListVariables,
             VariableOp::Add(_) => Endpoint::AddVariable,
             VariableOp::Get(_) => Endpoint::GetVariable,
             VariableOp::Change(_, _) => Endpoint::ChangeVariable,
@@ -40,7 +42,7 @@ impl VariableOp {
         ensures { result.now ≡ key_of self.now }
     {
         match self {
-            VariableOp::List => "",
+            VariableOp::List(_) => "",
             VariableOp::Add(input) => added_key(input),
             VariableOp::Get(key) => key.as_str(),
             VariableOp::Change(key, _) => key.as_str(),

@@ -13,6 +13,7 @@ ghost use Rattle.af_role.specs.declared.action.Action.TheVariants.{Create, Read,
 ghost use Rattle.af_role.specs.declared.resource.ResourceKind.TheVariants.{DagRuns, TaskInstances};
 ghost use Rattle.af_runs.specs.declared.mark.Mark.TheVariants as mark;
 ghost use Rattle.serde_json.specs.Written.{compact_text};
+ghost use Rattle.af_listing.specs.Windows.{window_of};
 ghost use Rattle.af_ops.specs.Bodies.{clear_in, clear_run_in, mark_in, pause_in, trigger_in};
 ghost use Rattle.af_ops.specs.Endpoints.{are_names, op_of_row};
 ghost use Rattle.af_ops.specs.Fields.{list_of, listing_of};
@@ -23,16 +24,16 @@ ghost use Rattle.af_ops.specs.Statuses.{code_of, is_fault_status};
 ghost use Rattle.af_ops.specs.Table.{at_dag, at_some_dag, endpoint_at, methods_at, on_all, segments_of, spelled};
 ghost use Rattle.af_ops.specs.Standings.{history_limit};
 ghost use Rattle.af_ops.specs.Verdicts.{Changes, Open, Stranger, Lacks, Refuses, judged, verdict};
-ghost use Rattle.af_ops.specs.Worked.{asks, at_entries, at_work, changes, clear, cleared_half, cleared_later, dag, ended, ended_later, first_cleared, first_told, full_at_work, full_later, is_told, is_told_then, later, no_numbers, opening, policy, second, second_cleared, second_told, state_with, tells, trigger, waited_told, waiting_told, with_cleared, with_ended, without_second};
+ghost use Rattle.af_ops.specs.Worked.{asks, at_entries, at_work, changes, clear, cleared_half, cleared_later, dag, ended, ended_later, first_cleared, first_page, first_told, full_at_work, full_later, is_told, is_told_then, later, no_numbers, opening, policy, second, second_cleared, second_told, state_with, tells, trigger, waited_told, waiting_told, with_cleared, with_ended, without_second};
 
 /// Who asks for DAGs: a viewer is told all three, who may read one DAG that one, who has no permission the requirement that is
 /// lacked. Who may not read a DAG is told the same whether it is there or not; who may is told that it is not.
 pub fn readings_by_the_rule()
-    ensures viewer { asks opening (codes "vera") op.ListDags ≡ tells (compact_text (listing_of (codes "dags") (map dag_data (state_with false).dags) 3)) }
-    ensures one { asks opening (codes "bob") op.ListDags ≡ tells (compact_text (listing_of (codes "dags") (dag_data (dag (codes "b") false) ∷ []) 1)) }
-    ensures denied { asks opening (codes "pat") op.ListDags ≡ Lacks (at_some_dag Read) }
-    ensures unknown { asks opening (codes "nobody") op.ListDags ≡ Lacks (at_some_dag Read) }
-    ensures nobody { judged history_limit policy opening op.ListDags 0 None ≡ Stranger }
+    ensures viewer { asks opening (codes "vera") (op.ListDags first_page) ≡ tells (compact_text (listing_of (codes "dags") (map dag_data (state_with false).dags) 3)) }
+    ensures one { asks opening (codes "bob") (op.ListDags first_page) ≡ tells (compact_text (listing_of (codes "dags") (dag_data (dag (codes "b") false) ∷ []) 1)) }
+    ensures denied { asks opening (codes "pat") (op.ListDags first_page) ≡ Lacks (at_some_dag Read) }
+    ensures unknown { asks opening (codes "nobody") (op.ListDags first_page) ≡ Lacks (at_some_dag Read) }
+    ensures nobody { judged history_limit policy opening (op.ListDags first_page) 0 None ≡ Stranger }
     ensures shown { asks opening (codes "bob") (op.GetDag (codes "b")) ≡ tells (compact_text (dag_data (dag (codes "b") false))) }
     ensures hidden { asks opening (codes "bob") (op.GetDag (codes "a")) ≡ Lacks (at_dag Read) }
     ensures hidden_absent { asks opening (codes "bob") (op.GetDag (codes "nosuch")) ≡ Lacks (at_dag Read) }
@@ -58,15 +59,15 @@ pub fn changes_by_the_rule()
 
 /// What each of them is told.
 pub fn messages_by_the_rule()
-    ensures one { is_told opening (codes "bob") op.ListDags ≡ Some (record { status = status.Ok; version = Some 0; seq = Some 0; body = Some (codes "{\"dags\":[{\"dag_id\":\"b\",\"is_paused\":false,\"max_active_runs\":16,\"next_dagrun\":null,\"schedule_interval\":null}],\"total_entries\":1}") }) }
+    ensures one { is_told opening (codes "bob") (op.ListDags first_page) ≡ Some (record { status = status.Ok; version = Some 0; seq = Some 0; body = Some (codes "{\"dags\":[{\"dag_id\":\"b\",\"is_paused\":false,\"max_active_runs\":16,\"next_dagrun\":null,\"schedule_interval\":null}],\"total_entries\":1}") }) }
     ensures paused { is_told opening (codes "uma") (op.PauseDag (codes "b") (Ok true)) ≡ Some (record { status = status.Ok; version = Some 0; seq = Some 1; body = Some (codes "{\"dag_id\":\"b\",\"is_paused\":true,\"max_active_runs\":16,\"next_dagrun\":null,\"schedule_interval\":null}") }) }
     ensures again { is_told (at_entries 1 true) (codes "uma") (op.PauseDag (codes "b") (Ok true)) ≡ Some (record { status = status.Ok; version = Some 0; seq = Some 1; body = Some (codes "{\"dag_id\":\"b\",\"is_paused\":true,\"max_active_runs\":16,\"next_dagrun\":null,\"schedule_interval\":null}") }) }
     ensures denied { is_told opening (codes "bob") (op.GetDag (codes "nosuch")) ≡ Some (record { status = status.Forbidden; version = Some 0; seq = Some 0; body = Some (codes "{\"detail\":\"missing permission DAG:nosuch.can_read\",\"status\":403,\"title\":\"Forbidden\",\"type\":\"about:blank\"}") }) }
     ensures absent { is_told opening (codes "vera") (op.GetDag (codes "nosuch")) ≡ Some (record { status = status.NotFound; version = Some 0; seq = Some 0; body = Some (codes "{\"detail\":\"no such dag: nosuch\",\"status\":404,\"title\":\"Not Found\",\"type\":\"about:blank\"}") }) }
     ensures bad_member { is_told opening (codes "uma") (op.PauseDag (codes "b") (Err (BadMember IsPaused))) ≡ Some (record { status = status.BadRequest; version = Some 0; seq = Some 0; body = Some (codes "{\"detail\":\"bad member: is_paused\",\"status\":400,\"title\":\"Bad Request\",\"type\":\"about:blank\"}") }) }
-    ensures nobody { answer_of op.ListDags opening.under Stranger ≡ Some (record { status = status.Unauthorized; version = Some 0; seq = Some 0; body = Some (codes "{\"detail\":\"authentication required\",\"status\":401,\"title\":\"Unauthorized\",\"type\":\"about:blank\"}") }) }
+    ensures nobody { answer_of (op.ListDags first_page) opening.under Stranger ≡ Some (record { status = status.Unauthorized; version = Some 0; seq = Some 0; body = Some (codes "{\"detail\":\"authentication required\",\"status\":401,\"title\":\"Unauthorized\",\"type\":\"about:blank\"}") }) }
     ensures version { answer_of op.Version opening.under (verdict history_limit policy opening None op.Version 0) ≡ Some (record { status = status.Ok; version = None; seq = None; body = Some (codes "{\"git_version\":null,\"version\":\"afplane 1\"}") }) }
-    ensures memory { fault_told op.ListDags opening.under (why.Op fault.OutOfMemory) ≡ None }
+    ensures memory { fault_told (op.ListDags first_page) opening.under (why.Op fault.OutOfMemory) ≡ None }
 {}
 
 /// Bodies of a pause: the last of a repeated member stays, null counts as absent, other members are ignored.
@@ -89,20 +90,20 @@ pub fn routes_by_the_rule()
     ensures post { endpoint_at Post place.Dag ≡ None }
     ensures methods { methods_at place.Dag ≡ record { get = true; post = false; patch = true; delete = false } }
     ensures path { spelled (segments_of place.Dag) ≡ codes "/api/v1/dags/{dag_id}" }
-    ensures one { op_of_row endpoint.GetDag (codes "b" ∷ []) (codes "{") ≡ Some (op.GetDag (codes "b")) }
-    ensures body { op_of_row endpoint.PauseDag (codes "b" ∷ []) (codes "{") ≡ Some (op.PauseDag (codes "b") (Err BadBody)) }
-    ensures no_id { op_of_row endpoint.GetDag (codes "a b" ∷ []) [] ≡ None }
-    ensures each_dag { op_of_row endpoint.PauseDag (codes "~" ∷ []) (codes "{}") ≡ None }
-    ensures all { op_of_row endpoint.ListRuns (codes "~" ∷ []) [] ≡ Some (op.ListRuns None) }
-    ensures one_of_all { op_of_row endpoint.ListRuns (codes "b" ∷ []) [] ≡ Some (op.ListRuns (Some (codes "b"))) }
+    ensures one { op_of_row endpoint.GetDag (codes "b" ∷ []) [] (codes "{") ≡ Some (op.GetDag (codes "b")) }
+    ensures body { op_of_row endpoint.PauseDag (codes "b" ∷ []) [] (codes "{") ≡ Some (op.PauseDag (codes "b") (Err BadBody)) }
+    ensures no_id { op_of_row endpoint.GetDag (codes "a b" ∷ []) [] [] ≡ None }
+    ensures each_dag { op_of_row endpoint.PauseDag (codes "~" ∷ []) [] (codes "{}") ≡ None }
+    ensures all { op_of_row endpoint.ListRuns (codes "~" ∷ []) [] [] ≡ Some (op.ListRuns None (window_of [])) }
+    ensures one_of_all { op_of_row endpoint.ListRuns (codes "b" ∷ []) [] [] ≡ Some (op.ListRuns (Some (codes "b")) (window_of [])) }
     ensures all_listed { are_names (Some Get) place.Runs (codes "~" ∷ []) ≡ true }
     ensures none_triggered { are_names (Some Post) place.Runs (codes "~" ∷ []) ≡ false }
     ensures no_method { are_names None place.Runs (codes "~" ∷ []) ≡ false }
-    ensures run { op_of_row endpoint.GetRun (codes "b" ∷ codes "r~1" ∷ []) [] ≡ Some (op.GetRun (codes "b") (codes "r~1")) }
-    ensures no_run { op_of_row endpoint.GetRun (codes "b" ∷ codes "~" ∷ []) [] ≡ None }
+    ensures run { op_of_row endpoint.GetRun (codes "b" ∷ codes "r~1" ∷ []) [] [] ≡ Some (op.GetRun (codes "b") (codes "r~1")) }
+    ensures no_run { op_of_row endpoint.GetRun (codes "b" ∷ codes "~" ∷ []) [] [] ≡ None }
     ensures run_path { spelled (segments_of place.Run) ≡ codes "/api/v1/dags/{dag_id}/dagRuns/{dag_run_id}" }
     ensures run_methods { methods_at place.Runs ≡ record { get = true; post = true; patch = false; delete = false } }
-    ensures no_part { op_of_row endpoint.GetDag ([] ∷ []) [] ≡ None }
+    ensures no_part { op_of_row endpoint.GetDag ([] ∷ []) [] [] ≡ None }
 {}
 
 /// Bodies of faults, and the numbers of the statuses.
@@ -117,12 +118,12 @@ pub fn faults_by_the_rule()
 
 /// Who asks for runs: who may read one DAG and runs is told the runs of that one alone, of all too.
 pub fn runs_by_the_rule()
-    ensures all { asks later (codes "ron") (op.ListRuns None) ≡ tells (compact_text (listing_of (codes "dag_runs") (run_data second ∷ []) 1)) }
-    ensures one { asks later (codes "ron") (op.ListRuns (Some (codes "b"))) ≡ tells (compact_text (listing_of (codes "dag_runs") (run_data second ∷ []) 1)) }
-    ensures hidden { asks later (codes "ron") (op.ListRuns (Some (codes "a"))) ≡ Lacks (at_dag Read) }
-    ensures no_runs { asks later (codes "bob") (op.ListRuns None) ≡ Lacks (on_all Read DagRuns) }
-    ensures no_dags { asks later (codes "pat") (op.ListRuns None) ≡ Lacks (at_some_dag Read) }
-    ensures absent_dag { asks later (codes "vera") (op.ListRuns (Some (codes "nosuch"))) ≡ Refuses fault.NoSuchDag }
+    ensures all { asks later (codes "ron") (op.ListRuns None first_page) ≡ tells (compact_text (listing_of (codes "dag_runs") (run_data second ∷ []) 1)) }
+    ensures one { asks later (codes "ron") (op.ListRuns (Some (codes "b")) first_page) ≡ tells (compact_text (listing_of (codes "dag_runs") (run_data second ∷ []) 1)) }
+    ensures hidden { asks later (codes "ron") (op.ListRuns (Some (codes "a")) first_page) ≡ Lacks (at_dag Read) }
+    ensures no_runs { asks later (codes "bob") (op.ListRuns None first_page) ≡ Lacks (on_all Read DagRuns) }
+    ensures no_dags { asks later (codes "pat") (op.ListRuns None first_page) ≡ Lacks (at_some_dag Read) }
+    ensures absent_dag { asks later (codes "vera") (op.ListRuns (Some (codes "nosuch")) first_page) ≡ Refuses fault.NoSuchDag }
     ensures shown { asks later (codes "ron") (op.GetRun (codes "b") (codes "r2")) ≡ tells (compact_text (run_data second)) }
     ensures absent { asks later (codes "ron") (op.GetRun (codes "b") (codes "r1")) ≡ Refuses fault.NoSuchRun }
     ensures not_created { asks later (codes "vera") (op.TriggerRun (codes "b") (Err BadBody)) ≡ Lacks (at_dag Edit) }
@@ -141,7 +142,7 @@ pub fn run_messages_by_the_rule()
     ensures triggered { is_told_then opening (codes "uma") (op.TriggerRun (codes "b") (Ok (trigger None None))) ≡ Some (record { status = status.Ok; version = Some 0; seq = Some 1; body = Some (codes "{\"dag_id\":\"b\",\"dag_run_id\":\"manual__2024-01-01T00:00:00.000001+00:00\",\"data_interval_end\":\"2024-01-01T00:00:00.000001+00:00\",\"data_interval_start\":\"2024-01-01T00:00:00.000001+00:00\",\"end_date\":null,\"logical_date\":\"2024-01-01T00:00:00.000001+00:00\",\"run_type\":\"manual\",\"start_date\":null,\"state\":\"queued\"}") }) }
     ensures exists { is_told later (codes "uma") (op.TriggerRun (codes "b") (Ok (trigger (Some (codes "r2")) None))) ≡ Some (record { status = status.Conflict; version = Some 0; seq = Some 2; body = Some (codes "{\"detail\":\"run exists: r2\",\"status\":409,\"title\":\"Conflict\",\"type\":\"about:blank\"}") }) }
     ensures taken { is_told later (codes "uma") (op.TriggerRun (codes "b") (Ok (trigger (Some (codes "x")) (Some 2)))) ≡ Some (record { status = status.Conflict; version = Some 0; seq = Some 2; body = Some (codes "{\"detail\":\"date taken: 1970-01-01T00:00:00.000002+00:00\",\"status\":409,\"title\":\"Conflict\",\"type\":\"about:blank\"}") }) }
-    ensures listed { is_told later (codes "ron") (op.ListRuns None) ≡ Some (record { status = status.Ok; version = Some 0; seq = Some 2; body = Some (codes "{\"dag_runs\":[{\"dag_id\":\"b\",\"dag_run_id\":\"r2\",\"data_interval_end\":\"1970-01-01T00:00:00.000002+00:00\",\"data_interval_start\":\"1970-01-01T00:00:00.000002+00:00\",\"end_date\":null,\"logical_date\":\"1970-01-01T00:00:00.000002+00:00\",\"run_type\":\"manual\",\"start_date\":null,\"state\":\"queued\"}],\"total_entries\":1}") }) }
+    ensures listed { is_told later (codes "ron") (op.ListRuns None first_page) ≡ Some (record { status = status.Ok; version = Some 0; seq = Some 2; body = Some (codes "{\"dag_runs\":[{\"dag_id\":\"b\",\"dag_run_id\":\"r2\",\"data_interval_end\":\"1970-01-01T00:00:00.000002+00:00\",\"data_interval_start\":\"1970-01-01T00:00:00.000002+00:00\",\"end_date\":null,\"logical_date\":\"1970-01-01T00:00:00.000002+00:00\",\"run_type\":\"manual\",\"start_date\":null,\"state\":\"queued\"}],\"total_entries\":1}") }) }
     ensures too_many { is_told no_numbers (codes "uma") (op.TriggerRun (codes "b") (Ok (trigger None None))) ≡ Some (record { status = status.Conflict; version = Some 0; seq = Some 0; body = Some (codes "{\"detail\":\"too many\",\"status\":409,\"title\":\"Conflict\",\"type\":\"about:blank\"}") }) }
     ensures full { is_told (at_entries 1_000_000 false) (codes "uma") (op.TriggerRun (codes "b") (Ok (trigger None None))) ≡ Some (record { status = status.InsufficientStorage; version = Some 0; seq = Some 1_000_000; body = Some (codes "{\"detail\":\"history full\",\"status\":507,\"title\":\"Insufficient Storage\",\"type\":\"about:blank\"}") }) }
     ensures absent { is_told later (codes "vera") (op.GetRun (codes "b") (codes "r1")) ≡ Some (record { status = status.NotFound; version = Some 0; seq = Some 2; body = Some (codes "{\"detail\":\"no such run: r1\",\"status\":404,\"title\":\"Not Found\",\"type\":\"about:blank\"}") }) }
@@ -167,8 +168,8 @@ pub fn triggers_by_the_rule()
 /// denial comes before an absence.
 pub fn tasks_by_the_rule()
     ensures path { spelled (segments_of place.Tasks) ≡ codes "/api/v1/dags/{dag_id}/tasks" }
-    ensures row { op_of_row endpoint.ListTasks (codes "f" ∷ []) (codes "{") ≡ Some (op.ListTasks (codes "f")) }
-    ensures each_dag { op_of_row endpoint.ListTasks (codes "~" ∷ []) [] ≡ None }
+    ensures row { op_of_row endpoint.ListTasks (codes "f" ∷ []) [] (codes "{") ≡ Some (op.ListTasks (codes "f")) }
+    ensures each_dag { op_of_row endpoint.ListTasks (codes "~" ∷ []) [] [] ≡ None }
     ensures listed { asks at_work (codes "vera") (op.ListTasks (codes "f")) ≡ tells (compact_text (listing_of (codes "tasks") (task_data waiting_told ∷ task_data waited_told ∷ []) 2)) }
     ensures no_instances { asks opening (codes "bob") (op.ListTasks (codes "b")) ≡ Lacks (on_all Read TaskInstances) }
     ensures hidden { asks opening (codes "bob") (op.ListTasks (codes "nosuch")) ≡ Lacks (at_dag Read) }
@@ -178,12 +179,12 @@ pub fn tasks_by_the_rule()
 
 /// Paths of instances, and their parts: each is a name of its kind.
 pub fn instance_routes_by_the_rule()
-    ensures listed { op_of_row endpoint.ListInstances (codes "b" ∷ codes "r~1" ∷ []) (codes "{") ≡ Some (op.ListInstances (codes "b") (codes "r~1")) }
-    ensures shown { op_of_row endpoint.GetInstance (codes "b" ∷ codes "r~1" ∷ codes "t-1" ∷ []) [] ≡ Some (op.GetInstance (codes "b") (codes "r~1") (codes "t-1")) }
-    ensures no_task { op_of_row endpoint.GetInstance (codes "b" ∷ codes "r" ∷ codes "t~1" ∷ []) [] ≡ None }
-    ensures no_part { op_of_row endpoint.GetInstance (codes "b" ∷ codes "r" ∷ []) [] ≡ None }
-    ensures each_run { op_of_row endpoint.ListInstances (codes "b" ∷ codes "~" ∷ []) [] ≡ None }
-    ensures each_dag { op_of_row endpoint.ListInstances (codes "~" ∷ codes "r" ∷ []) [] ≡ None }
+    ensures listed { op_of_row endpoint.ListInstances (codes "b" ∷ codes "r~1" ∷ []) [] (codes "{") ≡ Some (op.ListInstances (codes "b") (codes "r~1") (window_of [])) }
+    ensures shown { op_of_row endpoint.GetInstance (codes "b" ∷ codes "r~1" ∷ codes "t-1" ∷ []) [] [] ≡ Some (op.GetInstance (codes "b") (codes "r~1") (codes "t-1")) }
+    ensures no_task { op_of_row endpoint.GetInstance (codes "b" ∷ codes "r" ∷ codes "t~1" ∷ []) [] [] ≡ None }
+    ensures no_part { op_of_row endpoint.GetInstance (codes "b" ∷ codes "r" ∷ []) [] [] ≡ None }
+    ensures each_run { op_of_row endpoint.ListInstances (codes "b" ∷ codes "~" ∷ []) [] [] ≡ None }
+    ensures each_dag { op_of_row endpoint.ListInstances (codes "~" ∷ codes "r" ∷ []) [] [] ≡ None }
     ensures names { are_names (Some Get) place.Instance (codes "b" ∷ codes "r" ∷ codes "t" ∷ []) ≡ true }
     ensures no_names { are_names None place.Instance (codes "b" ∷ codes "r" ∷ codes "t~1" ∷ []) ≡ false }
     ensures path { spelled (segments_of place.Instances) ≡ codes "/api/v1/dags/{dag_id}/dagRuns/{dag_run_id}/taskInstances" }
@@ -194,24 +195,24 @@ pub fn instance_routes_by_the_rule()
 /// Who asks for instances: a viewer is told those of a run in the order of its DAG's tasks. A denial comes before an absence; of DAG,
 /// run and task the first that is not there is told.
 pub fn instances_by_the_rule()
-    ensures listed { asks at_work (codes "vera") (op.ListInstances (codes "f") (codes "r")) ≡ tells (compact_text (listing_of (codes "task_instances") (instance_data first_told ∷ instance_data second_told ∷ []) 2)) }
+    ensures listed { asks at_work (codes "vera") (op.ListInstances (codes "f") (codes "r") first_page) ≡ tells (compact_text (listing_of (codes "task_instances") (instance_data first_told ∷ instance_data second_told ∷ []) 2)) }
     ensures shown { asks at_work (codes "vera") (op.GetInstance (codes "f") (codes "r") (codes "t")) ≡ tells (compact_text (instance_data second_told)) }
-    ensures no_instances { asks later (codes "ron") (op.ListInstances (codes "b") (codes "r2")) ≡ Lacks (on_all Read TaskInstances) }
+    ensures no_instances { asks later (codes "ron") (op.ListInstances (codes "b") (codes "r2") first_page) ≡ Lacks (on_all Read TaskInstances) }
     ensures no_runs { asks later (codes "bob") (op.GetInstance (codes "b") (codes "r2") (codes "t")) ≡ Lacks (on_all Read DagRuns) }
     ensures hidden { asks later (codes "ron") (op.GetInstance (codes "nosuch") (codes "r2") (codes "t")) ≡ Lacks (at_dag Read) }
     ensures no_dag { asks at_work (codes "vera") (op.GetInstance (codes "b") (codes "r2") (codes "x")) ≡ Refuses fault.NoSuchDag }
     ensures no_run { asks at_work (codes "vera") (op.GetInstance (codes "f") (codes "r2") (codes "x")) ≡ Refuses fault.NoSuchRun }
     ensures no_task { asks at_work (codes "vera") (op.GetInstance (codes "f") (codes "r") (codes "x")) ≡ Refuses fault.NoSuchTask }
-    ensures no_run_listed { asks at_work (codes "vera") (op.ListInstances (codes "f") (codes "r2")) ≡ Refuses fault.NoSuchRun }
+    ensures no_run_listed { asks at_work (codes "vera") (op.ListInstances (codes "f") (codes "r2") first_page) ≡ Refuses fault.NoSuchRun }
 {}
 
 /// What is told of instances.
 pub fn instance_messages_by_the_rule()
     ensures shown { is_told at_work (codes "vera") (op.GetInstance (codes "f") (codes "r") (codes "u")) ≡ Some (record { status = status.Ok; version = Some 0; seq = Some 3; body = Some (codes "{\"dag_id\":\"f\",\"dag_run_id\":\"r\",\"end_date\":null,\"pool\":\"slow \\\"lane\\\"\",\"pool_slots\":3,\"priority_weight\":-7,\"start_date\":\"1970-01-01T00:00:00.000005+00:00\",\"state\":\"running\",\"task_id\":\"u\",\"try_number\":2}") }) }
-    ensures listed { is_told at_work (codes "vera") (op.ListInstances (codes "f") (codes "r")) ≡ Some (record { status = status.Ok; version = Some 0; seq = Some 3; body = Some (codes "{\"task_instances\":[{\"dag_id\":\"f\",\"dag_run_id\":\"r\",\"end_date\":null,\"pool\":\"slow \\\"lane\\\"\",\"pool_slots\":3,\"priority_weight\":-7,\"start_date\":\"1970-01-01T00:00:00.000005+00:00\",\"state\":\"running\",\"task_id\":\"u\",\"try_number\":2},{\"dag_id\":\"f\",\"dag_run_id\":\"r\",\"end_date\":null,\"pool\":\"default_pool\",\"pool_slots\":1,\"priority_weight\":1,\"start_date\":null,\"state\":null,\"task_id\":\"t\",\"try_number\":0}],\"total_entries\":2}") }) }
+    ensures listed { is_told at_work (codes "vera") (op.ListInstances (codes "f") (codes "r") first_page) ≡ Some (record { status = status.Ok; version = Some 0; seq = Some 3; body = Some (codes "{\"task_instances\":[{\"dag_id\":\"f\",\"dag_run_id\":\"r\",\"end_date\":null,\"pool\":\"slow \\\"lane\\\"\",\"pool_slots\":3,\"priority_weight\":-7,\"start_date\":\"1970-01-01T00:00:00.000005+00:00\",\"state\":\"running\",\"task_id\":\"u\",\"try_number\":2},{\"dag_id\":\"f\",\"dag_run_id\":\"r\",\"end_date\":null,\"pool\":\"default_pool\",\"pool_slots\":1,\"priority_weight\":1,\"start_date\":null,\"state\":null,\"task_id\":\"t\",\"try_number\":0}],\"total_entries\":2}") }) }
     ensures absent { is_told at_work (codes "vera") (op.GetInstance (codes "f") (codes "r") (codes "x")) ≡ Some (record { status = status.NotFound; version = Some 0; seq = Some 3; body = Some (codes "{\"detail\":\"no such task: x\",\"status\":404,\"title\":\"Not Found\",\"type\":\"about:blank\"}") }) }
     ensures no_run { is_told at_work (codes "vera") (op.GetInstance (codes "f") (codes "r2") (codes "x")) ≡ Some (record { status = status.NotFound; version = Some 0; seq = Some 3; body = Some (codes "{\"detail\":\"no such run: r2\",\"status\":404,\"title\":\"Not Found\",\"type\":\"about:blank\"}") }) }
-    ensures denied { is_told later (codes "ron") (op.ListInstances (codes "b") (codes "r2")) ≡ Some (record { status = status.Forbidden; version = Some 0; seq = Some 2; body = Some (codes "{\"detail\":\"missing permission Task Instances.can_read\",\"status\":403,\"title\":\"Forbidden\",\"type\":\"about:blank\"}") }) }
+    ensures denied { is_told later (codes "ron") (op.ListInstances (codes "b") (codes "r2") first_page) ≡ Some (record { status = status.Forbidden; version = Some 0; seq = Some 2; body = Some (codes "{\"detail\":\"missing permission Task Instances.can_read\",\"status\":403,\"title\":\"Forbidden\",\"type\":\"about:blank\"}") }) }
 {}
 
 /// Who marks a run: one who may edit its DAG and runs. The first time is a change, and marking what stands is none; a denial comes
@@ -227,8 +228,8 @@ pub fn marks_by_the_rule()
     ensures no_run { asks later (codes "uma") (op.MarkRun (codes "b") (codes "r1") (Ok mark.Failed)) ≡ Refuses fault.NoSuchRun }
     ensures full { asks full_later (codes "uma") (op.MarkRun (codes "b") (codes "r2") (Ok mark.Success)) ≡ Refuses fault.HistoryFull }
     ensures full_stands { asks full_later (codes "uma") (op.MarkRun (codes "b") (codes "r2") (Ok mark.Queued)) ≡ tells (compact_text (run_data second)) }
-    ensures row { op_of_row endpoint.MarkRun (codes "b" ∷ codes "r~1" ∷ []) (codes "{") ≡ Some (op.MarkRun (codes "b") (codes "r~1") (Err BadBody)) }
-    ensures no_name { op_of_row endpoint.MarkRun (codes "~" ∷ codes "r" ∷ []) [] ≡ None }
+    ensures row { op_of_row endpoint.MarkRun (codes "b" ∷ codes "r~1" ∷ []) [] (codes "{") ≡ Some (op.MarkRun (codes "b") (codes "r~1") (Err BadBody)) }
+    ensures no_name { op_of_row endpoint.MarkRun (codes "~" ∷ codes "r" ∷ []) [] [] ≡ None }
     ensures methods { methods_at place.Run ≡ record { get = true; post = false; patch = true; delete = true } }
 {}
 
@@ -292,9 +293,9 @@ pub fn clear_bodies_by_the_rule()
     ensures run_done { clear_run_in (codes "{\"dry_run\":false}") ≡ Ok false }
     ensures run_text { clear_run_in (codes "{\"dry_run\":\"false\"}") ≡ Err (BadMember DryRun) }
     ensures list { clear_run_in (codes "[]") ≡ Err BadBody }
-    ensures row { op_of_row endpoint.ClearRun (codes "b" ∷ codes "r~1" ∷ []) (codes "{") ≡ Some (op.ClearRun (codes "b") (codes "r~1") (Err BadBody)) }
-    ensures dag_row { op_of_row endpoint.ClearInstances (codes "b" ∷ []) (codes "{") ≡ Some (op.ClearInstances (codes "b") (Err BadBody)) }
-    ensures no_dag { op_of_row endpoint.ClearInstances (codes "~" ∷ []) [] ≡ None }
+    ensures row { op_of_row endpoint.ClearRun (codes "b" ∷ codes "r~1" ∷ []) [] (codes "{") ≡ Some (op.ClearRun (codes "b") (codes "r~1") (Err BadBody)) }
+    ensures dag_row { op_of_row endpoint.ClearInstances (codes "b" ∷ []) [] (codes "{") ≡ Some (op.ClearInstances (codes "b") (Err BadBody)) }
+    ensures no_dag { op_of_row endpoint.ClearInstances (codes "~" ∷ []) [] [] ≡ None }
     ensures path { spelled (segments_of place.RunClear) ≡ codes "/api/v1/dags/{dag_id}/dagRuns/{dag_run_id}/clear" }
     ensures dag_path { spelled (segments_of place.Clear) ≡ codes "/api/v1/dags/{dag_id}/clearTaskInstances" }
     ensures methods { methods_at place.Clear ≡ record { get = false; post = true; patch = false; delete = false } }
@@ -311,7 +312,7 @@ pub fn deletes_by_the_rule()
     ensures no_dag { asks later (codes "uma") (op.DeleteRun (codes "nosuch") (codes "r2")) ≡ Refuses fault.NoSuchDag }
     ensures denied { asks later (codes "vera") (op.DeleteRun (codes "nosuch") (codes "r2")) ≡ Lacks (at_dag Edit) }
     ensures full { asks full_later (codes "uma") (op.DeleteRun (codes "b") (codes "r2")) ≡ Refuses fault.HistoryFull }
-    ensures row { op_of_row endpoint.DeleteRun (codes "b" ∷ codes "r~1" ∷ []) (codes "{") ≡ Some (op.DeleteRun (codes "b") (codes "r~1")) }
-    ensures no_name { op_of_row endpoint.DeleteRun (codes "b" ∷ codes "~" ∷ []) [] ≡ None }
+    ensures row { op_of_row endpoint.DeleteRun (codes "b" ∷ codes "r~1" ∷ []) [] (codes "{") ≡ Some (op.DeleteRun (codes "b") (codes "r~1")) }
+    ensures no_name { op_of_row endpoint.DeleteRun (codes "b" ∷ codes "~" ∷ []) [] [] ≡ None }
     ensures found { endpoint_at Delete place.Run ≡ Some endpoint.DeleteRun }
 {}

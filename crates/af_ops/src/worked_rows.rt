@@ -20,6 +20,7 @@ ghost use Rattle.af_ops.specs.Replies.{variable_data};
 ghost use Rattle.af_ops.specs.RowBodies.{pool_in, slots_in, value_in, variable_in};
 ghost use Rattle.af_ops.specs.Table.{methods_at, on_all, segments_of, spelled};
 ghost use Rattle.af_ops.specs.Verdicts.{Changes, Lacks, Refuses, Tells};
+ghost use Rattle.af_ops.specs.Worked.{first_page};
 ghost use Rattle.af_ops.specs.WorkedRows.{asks, lane, named, of_pools, of_variables, pool, standing, state, variable, with_p};
 
 /// Pools are added, get other slots and are deleted, by who may; what is asked for is told before what stands.
@@ -50,7 +51,7 @@ pub fn pool_messages_by_the_rule()
     ensures lowered { of_pools (pool (codes "default_pool") 128 ∷ lane 2 ∷ []) (pool_op.Get (codes "slow \"lane\"")) ≡ Some (record { status = status.Ok; version = Some 0; seq = Some 7; body = Some (codes "{\"name\":\"slow \\\"lane\\\"\",\"occupied_slots\":3,\"open_slots\":0,\"queued_slots\":0,\"running_slots\":3,\"slots\":2}") }) }
     ensures set { of_pools (with_p 2) (pool_op.Change (codes "p") (Ok 3)) ≡ Some (record { status = status.Ok; version = Some 0; seq = Some 8; body = Some (codes "{\"name\":\"p\",\"occupied_slots\":0,\"open_slots\":3,\"queued_slots\":0,\"running_slots\":0,\"slots\":3}") }) }
     ensures as_it_was { of_pools (with_p 2) (pool_op.Change (codes "p") (Ok 2)) ≡ Some (record { status = status.Ok; version = Some 0; seq = Some 7; body = Some (codes "{\"name\":\"p\",\"occupied_slots\":0,\"open_slots\":2,\"queued_slots\":0,\"running_slots\":0,\"slots\":2}") }) }
-    ensures listed { of_pools named pool_op.List ≡ Some (record { status = status.Ok; version = Some 0; seq = Some 7; body = Some (codes "{\"pools\":[{\"name\":\"default_pool\",\"occupied_slots\":0,\"open_slots\":128,\"queued_slots\":0,\"running_slots\":0,\"slots\":128},{\"name\":\"slow \\\"lane\\\"\",\"occupied_slots\":3,\"open_slots\":1,\"queued_slots\":0,\"running_slots\":3,\"slots\":4}],\"total_entries\":2}") }) }
+    ensures listed { of_pools named (pool_op.List first_page) ≡ Some (record { status = status.Ok; version = Some 0; seq = Some 7; body = Some (codes "{\"pools\":[{\"name\":\"default_pool\",\"occupied_slots\":0,\"open_slots\":128,\"queued_slots\":0,\"running_slots\":0,\"slots\":128},{\"name\":\"slow \\\"lane\\\"\",\"occupied_slots\":3,\"open_slots\":1,\"queued_slots\":0,\"running_slots\":3,\"slots\":4}],\"total_entries\":2}") }) }
     ensures absent { of_pools named (pool_op.Get (codes "p")) ≡ Some (record { status = status.NotFound; version = Some 0; seq = Some 7; body = Some (codes "{\"detail\":\"no such pool: p\",\"status\":404,\"title\":\"Not Found\",\"type\":\"about:blank\"}") }) }
     ensures bad_slots { of_pools named (pool_op.Change (codes "p") (Err (BadMember Slots))) ≡ Some (record { status = status.BadRequest; version = Some 0; seq = Some 7; body = Some (codes "{\"detail\":\"bad member: slots\",\"status\":400,\"title\":\"Bad Request\",\"type\":\"about:blank\"}") }) }
     ensures default_stays { of_pools named (pool_op.Delete (codes "default_pool")) ≡ Some (record { status = status.Conflict; version = Some 0; seq = Some 7; body = Some (codes "{\"detail\":\"default pool\",\"status\":409,\"title\":\"Conflict\",\"type\":\"about:blank\"}") }) }
@@ -66,7 +67,7 @@ pub fn variable_messages_by_the_rule()
     ensures absent { of_variables [] (variable_op.Get (codes "k")) ≡ Some (record { status = status.NotFound; version = Some 0; seq = Some 7; body = Some (codes "{\"detail\":\"no such variable: k\",\"status\":404,\"title\":\"Not Found\",\"type\":\"about:blank\"}") }) }
     ensures written { of_variables (variable (codes "k") (codes "v") ∷ []) (variable_op.Change (codes "k") (Ok (codes "w\n"))) ≡ Some (record { status = status.Ok; version = Some 0; seq = Some 8; body = Some (codes "{\"key\":\"k\",\"value\":\"w\\n\"}") }) }
     ensures as_it_was { of_variables (variable (codes "k") (codes "v") ∷ []) (variable_op.Change (codes "k") (Ok (codes "v"))) ≡ Some (record { status = status.Ok; version = Some 0; seq = Some 7; body = Some (codes "{\"key\":\"k\",\"value\":\"v\"}") }) }
-    ensures listed { of_variables (variable (codes "k") (codes "v") ∷ []) variable_op.List ≡ Some (record { status = status.Ok; version = Some 0; seq = Some 7; body = Some (codes "{\"total_entries\":1,\"variables\":[{\"key\":\"k\",\"value\":\"v\"}]}") }) }
+    ensures listed { of_variables (variable (codes "k") (codes "v") ∷ []) (variable_op.List first_page) ≡ Some (record { status = status.Ok; version = Some 0; seq = Some 7; body = Some (codes "{\"total_entries\":1,\"variables\":[{\"key\":\"k\",\"value\":\"v\"}]}") }) }
     ensures deleted { of_variables (variable (codes "k") (codes "v") ∷ []) (variable_op.Delete (codes "k")) ≡ Some (record { status = status.NoContent; version = Some 0; seq = Some 8; body = None }) }
 {}
 
@@ -92,9 +93,9 @@ pub fn row_routes_by_the_rule()
     ensures pool { methods_at place.Pool ≡ record { get = true; post = false; patch = true; delete = true } }
     ensures path { spelled (segments_of place.Pool) ≡ codes "/api/v1/pools/{pool_name}" }
     ensures variable_path { spelled (segments_of place.Variable) ≡ codes "/api/v1/variables/{variable_key}" }
-    ensures one { op_of_row endpoint.GetPool (codes "a b" ∷ []) (codes "{") ≡ Some (op.Pool (pool_op.Get (codes "a b"))) }
-    ensures no_name { op_of_row endpoint.DeletePool ([] ∷ []) [] ≡ None }
+    ensures one { op_of_row endpoint.GetPool (codes "a b" ∷ []) [] (codes "{") ≡ Some (op.Pool (pool_op.Get (codes "a b"))) }
+    ensures no_name { op_of_row endpoint.DeletePool ([] ∷ []) [] [] ≡ None }
     ensures no_part { are_names (Some Get) place.Variable ([] ∷ []) ≡ false }
-    ensures key { op_of_row endpoint.DeleteVariable (codes "%zz" ∷ []) [] ≡ Some (op.Variable (variable_op.Delete (codes "%zz"))) }
-    ensures body { op_of_row endpoint.ChangeVariable (codes "k" ∷ []) (codes "{") ≡ Some (op.Variable (variable_op.Change (codes "k") (Err BadBody))) }
+    ensures key { op_of_row endpoint.DeleteVariable (codes "%zz" ∷ []) [] [] ≡ Some (op.Variable (variable_op.Delete (codes "%zz"))) }
+    ensures body { op_of_row endpoint.ChangeVariable (codes "k" ∷ []) [] (codes "{") ≡ Some (op.Variable (variable_op.Change (codes "k") (Err BadBody))) }
 {}

@@ -436,7 +436,7 @@ fn op(alloc: Global, endpoint: Endpoint, part: &str, body: &[u8]) -> Result<Opti
     for text in part.split('/') {
         parts.push(String::from_str(alloc, text)?)?;
     }
-    Ok(read_row(alloc, endpoint, parts.as_slice(), body)?)
+    Ok(read_row(alloc, endpoint, parts.as_slice(), b"", body)?)
 }
 
 /// What is told of a row: the status, the number of entries, and the body.

@@ -4,7 +4,7 @@ ghost use Rattle.serde_json.specs.Written.{compact_text};
 ghost use Rattle.af_sched.specs.State.{StateRows, StateWithRoom, with_paused};
 ghost use Rattle.af_ops.specs.declared.answer.OpFault.TheVariants.{OutOfMemory};
 ghost use Rattle.af_ops.specs.Edits.{next_by};
-ghost use Rattle.af_ops.specs.Effects.{dags_data, differs, got_dag, paused_dag};
+ghost use Rattle.af_ops.specs.Effects.{dags_data, differs, got_dag, listed_dags, paused_dag};
 ghost use Rattle.af_ops.specs.Prepared.{CanDo, IsExact, MemoryLast, done_on};
 ghost use Rattle.af_base.specs.Readings.{seen};
 
@@ -12,24 +12,41 @@ use crate::answer::OpFault;
 use crate::body_fault::BodyFault;
 use crate::dag_text::PausedRow;
 use crate::edit::Edit;
-use crate::operations::shared::{LIMIT, dag_or, page, rows_read, truth_or};
+use crate::operations::shared::{cut, dag_or, rows_read, truth_or, window_or};
 use crate::prepared::Prepared;
 use crate::row::{listing_text, row_text};
+use af_listing::Window;
 use af_names::DagId;
-use af_policy::Reader;
+use af_policy::{Parameter, Reader};
 use af_sched::{DagRow, State};
 use std::alloc::{AllocError, Global};
 
-/// The text of the first page of the DAGs that are read.
-pub(crate) fn dags_text<R: Reader>(
+pub(crate) fn listed_dags<R: Reader>(
+    alloc: Global,
+    state: &State,
+    asked: &Result<Window, Parameter>,
+    reader: &R,
+) -> Result<Prepared, OpFault>
+    ensures told { MemoryLast OutOfMemory (listed_dags (R.reads reader.now) state.now.rows asked.now) (seen (done_on state.now.rows) result) }
+    ensures room { IfOk result (λ prepared. CanDo state.now prepared.edit) }
+    ensures exact { IfOk result (λ prepared. IsExact state.now.rows prepared.edit) }
+{
+    let window = window_or(asked)?;
+    let body = dags_text(alloc, state.dags(), reader, window)?;
+    Ok(Prepared::of(body, Edit::Nothing))
+}
+
+/// The text of a page of the DAGs that are read.
+fn dags_text<R: Reader>(
     alloc: Global,
     dags: &[DagRow],
     reader: &R,
+    window: Window,
 ) -> Result<Vec<u8>, AllocError>
-    ensures { IfOk result (λ body. body.items ≡ compact_text (dags_data (R.reads reader.now) dags.now)) }
+    ensures { IfOk result (λ body. body.items ≡ compact_text (dags_data (R.reads reader.now) window dags.now)) }
 {
     let listed = rows_read(alloc, dags, reader)?;
-    let shown = page(listed.as_slice(), LIMIT, 0);
+    let shown = cut(listed.as_slice(), window);
     let body = listing_text(alloc, "dags", shown, listed.len())?;
     Ok(body)
 }

@@ -9,11 +9,13 @@ ghost use Rattle.af_ops.specs.Prepared.{CanDo, IsExact, MemoryLast, done_on};
 use crate::answer::OpFault;
 use crate::edit::Edit;
 use crate::instance_text::InstanceRow;
-use crate::operations::shared::{LIMIT, dag_or, page, run_or};
+use crate::operations::shared::{cut, dag_or, run_or, window_or};
 use crate::prepared::Prepared;
 use crate::row::{listing_text, row_text};
 use af_graph::{Dag, TaskSpec};
+use af_listing::Window;
 use af_names::{DagId, RunId, TaskId};
+use af_policy::Parameter;
 use af_runs::{Instance, Run};
 use af_sched::State;
 use std::alloc::{AllocError, Global};
@@ -23,14 +25,16 @@ pub(crate) fn listed_instances(
     state: &State,
     dag_id: &DagId,
     run_id: &RunId,
+    asked: &Result<Window, Parameter>,
 ) -> Result<Prepared, OpFault>
-    ensures told { MemoryLast OutOfMemory (listed_instances state.now.rows dag_id.now run_id.now) (seen (done_on state.now.rows) result) }
+    ensures told { MemoryLast OutOfMemory (listed_instances state.now.rows dag_id.now run_id.now asked.now) (seen (done_on state.now.rows) result) }
     ensures room { IfOk result (λ prepared. CanDo state.now prepared.edit) }
     ensures exact { IfOk result (λ prepared. IsExact state.now.rows prepared.edit) }
 {
+    let window = window_or(asked)?;
     let row = dag_or(state, dag_id)?;
     let run = run_or(state, dag_id, run_id)?;
-    let body = instances_text(alloc, &row.dag, run)?;
+    let body = instances_text(alloc, &row.dag, run, window)?;
     Ok(Prepared::of(body, Edit::Nothing))
 }
 
@@ -73,13 +77,18 @@ fn instance_at<'a>(tasks: &'a [TaskSpec], run: &'a Run, place: usize) -> Option<
     })
 }
 
-/// The text of the first page of the instances of a run.
-fn instances_text(alloc: Global, dag: &Dag, run: &Run) -> Result<Vec<u8>, AllocError>
-    ensures { IfOk result (λ body. body.items ≡ compact_text (instances_data dag.now.tasks run.now)) }
+/// The text of a page of the instances of a run.
+fn instances_text(
+    alloc: Global,
+    dag: &Dag,
+    run: &Run,
+    window: Window,
+) -> Result<Vec<u8>, AllocError>
+    ensures { IfOk result (λ body. body.items ≡ compact_text (instances_data window dag.now.tasks run.now)) }
 {
     let told = each_told(alloc, run, dag.tasks(), run.instances.as_slice())?;
     let rows: Vec<&InstanceRow<'_>> = told.iter().collect(alloc)?;
-    let shown = page(rows.as_slice(), LIMIT, 0);
+    let shown = cut(rows.as_slice(), window);
     let body = listing_text(alloc, "task_instances", shown, rows.len())?;
     Ok(body)
 }

@@ -7,18 +7,20 @@ ghost use Rattle.af_ops.specs.declared.answer.OpFault.TheVariants.{OutOfMemory};
 ghost use Rattle.af_ops.specs.declared.edit.Edit.TheVariants.{Nothing, PoolSet};
 ghost use Rattle.af_ops.specs.Decisions.{ChangesWhereDone};
 ghost use Rattle.af_ops.specs.EffectParts.{input_or};
-ghost use Rattle.af_ops.specs.PoolEffects.{adding, got_pool, listed, pool_added, pool_changed, pool_deleted, pool_effect, pool_or, pool_told, pools_data, settable, told_fault, unless_fault};
+ghost use Rattle.af_ops.specs.PoolEffects.{adding, got_pool, listed, listed_pools, pool_added, pool_changed, pool_deleted, pool_effect, pool_or, pool_told, pools_data, settable, told_fault, unless_fault};
 ghost use Rattle.af_ops.specs.Prepared.{CanDo, IsExact, MemoryLast, done_on};
 
 use crate::answer::OpFault;
 use crate::body_fault::{BodyFault, Member};
 use crate::edit::Edit;
-use crate::operations::shared::{LIMIT, input_fault, page};
+use crate::operations::shared::{cut, input_fault, window_or};
 use crate::pool_op::PoolOp;
 use crate::pool_text::PoolRow;
 use crate::prepared::Prepared;
 use crate::row::{listing_text, row_text};
+use af_listing::Window;
 use af_names::PoolName;
+use af_policy::Parameter;
 use af_pool::{Pool, PoolFault};
 use af_sched::{Held, State};
 use std::alloc::{AllocError, Global};
@@ -34,10 +36,7 @@ pub(crate) fn prepare_pools(
     ensures rows { state.new.rows ≡ state.old.rows }
 {
     match op {
-        PoolOp::List => {
-            let body = pools_text(alloc, state)?;
-            Ok(Prepared::of(body, Edit::Nothing))
-        }
+        PoolOp::List(asked) => listed_pools(alloc, state, asked),
         PoolOp::Add(input) => pool_added(alloc, state, input),
         PoolOp::Get(name) => got_pool(alloc, state, name),
         PoolOp::Change(name, input) => pool_changed(alloc, state, name, input),
@@ -50,7 +49,7 @@ pub(crate) fn would_change_pools(state: &State, op: &PoolOp) -> bool
     ensures { ChangesWhereDone (pool_effect state.now.rows op.now) result }
 {
     match op {
-        PoolOp::List | PoolOp::Get(_) => false,
+        PoolOp::List(_) | PoolOp::Get(_) => false,
         PoolOp::Add(Ok(_)) | PoolOp::Delete(_) => true,
         PoolOp::Change(name, Ok(slots)) => would_set(state, name, *slots),
         PoolOp::Add(Err(_)) | PoolOp::Change(_, Err(_)) => false,
@@ -67,13 +66,27 @@ fn would_set(state: &State, name: &PoolName, slots: u32) -> bool
     }
 }
 
-/// The text of the first page of the pools.
-fn pools_text(alloc: Global, state: &State) -> Result<Vec<u8>, AllocError>
-    ensures { IfOk result (λ body. body.items ≡ compact_text (pools_data state.now.rows)) }
+fn listed_pools(
+    alloc: Global,
+    state: &State,
+    asked: &Result<Window, Parameter>,
+) -> Result<Prepared, OpFault>
+    ensures told { MemoryLast OutOfMemory (listed_pools state.now.rows asked.now) (seen (done_on state.now.rows) result) }
+    ensures room { IfOk result (λ prepared. CanDo state.now prepared.edit) }
+    ensures exact { IfOk result (λ prepared. IsExact state.now.rows prepared.edit) }
+{
+    let window = window_or(asked)?;
+    let body = pools_text(alloc, state, window)?;
+    Ok(Prepared::of(body, Edit::Nothing))
+}
+
+/// The text of a page of the pools.
+fn pools_text(alloc: Global, state: &State, window: Window) -> Result<Vec<u8>, AllocError>
+    ensures { IfOk result (λ body. body.items ≡ compact_text (pools_data window state.now.rows)) }
 {
     let all = state.pools();
-    let held = state.each_held(alloc, LIMIT, 0)?;
-    let told = each_told(alloc, page(all, LIMIT, 0), held.as_slice())?;
+    let held = state.each_held(alloc, window.limit(), window.offset())?;
+    let told = each_told(alloc, cut(all, window), held.as_slice())?;
     let rows: Vec<&PoolRow<'_>> = told.iter().collect(alloc)?;
     let body = listing_text(alloc, "pools", rows.as_slice(), all.len())?;
     Ok(body)

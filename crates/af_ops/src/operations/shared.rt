@@ -1,21 +1,20 @@
-// What operations share: the faults that come first, and pages of listings.
-ghost use Rattle.std.specs.Prelude.{◌≡◌, IfOk, map};
-ghost use Rattle.af_ops.specs.Effects.{dag_or, input_fault, input_or, run_or};
-ghost use Rattle.af_ops.specs.Listings.{page, read_rows};
+// What operations share: the faults that come first, and the pages of listings.
+ghost use Rattle.std.specs.Prelude.{◌≡◌, IfOk, drop, map, take};
 ghost use Rattle.af_base.specs.Readings.{seen};
+ghost use Rattle.af_listing.specs.Pages.{cut};
+ghost use Rattle.af_ops.specs.Effects.{dag_or, input_fault, input_or, run_or, window_or};
+ghost use Rattle.af_ops.specs.Listings.{read_rows};
 
 use crate::answer::OpFault;
 use crate::body_fault::BodyFault;
 use crate::clear::Clear;
 use crate::trigger::Trigger;
+use af_listing::Window;
 use af_names::{DagId, NamesDag, RunId};
-use af_policy::Reader;
+use af_policy::{Parameter, Reader};
 use af_runs::{Mark, Run};
 use af_sched::{DagRow, State};
 use std::alloc::{AllocError, Global};
-
-/// How many rows a listing tells where no limit is given.
-pub(crate) const LIMIT: usize = 100;
 
 /// The DAG of an id.
 pub(crate) fn dag_or<'a>(state: &'a State, dag_id: &DagId) -> Result<&'a DagRow, OpFault>
@@ -75,6 +74,16 @@ pub(crate) fn clear_or(input: &Result<Clear, BodyFault>) -> Result<&Clear, OpFau
     }
 }
 
+/// The window that was read of a query.
+pub(crate) fn window_or(asked: &Result<Window, Parameter>) -> Result<Window, OpFault>
+    ensures { result ≡ window_or asked.now }
+{
+    match asked {
+        Ok(window) => Ok(*window),
+        Err(parameter) => Err(OpFault::BadParameter(*parameter)),
+    }
+}
+
 pub(crate) fn input_fault(why: BodyFault) -> OpFault
     ensures { result ≡ input_fault why }
 {
@@ -98,9 +107,16 @@ pub(crate) fn rows_read<'a, T: NamesDag, R: Reader>(
         .collect(alloc)
 }
 
+/// The rows of a page, of those that are shown.
+pub(crate) fn cut<T>(rows: &[T], window: Window) -> &[T]
+    ensures { result.now ≡ cut window rows.now }
+{
+    page(rows, window.limit(), window.offset())
+}
+
 /// At most so many rows, after so many.
-pub(crate) fn page<T>(rows: &[T], limit: usize, offset: usize) -> &[T]
-    ensures { result.now ≡ page limit offset rows.now }
+fn page<T>(rows: &[T], limit: usize, offset: usize) -> &[T]
+    ensures { result.now ≡ take limit (drop offset rows.now) }
 {
     let rest = &rows[offset.min(rows.len())..];
     &rest[..limit.min(rest.len())]

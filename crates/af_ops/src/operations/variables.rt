@@ -8,18 +8,20 @@ ghost use Rattle.af_ops.specs.declared.answer.OpFault.TheVariants.{OutOfMemory};
 ghost use Rattle.af_ops.specs.declared.edit.Edit.TheVariants.{Nothing, VariableSet};
 ghost use Rattle.af_ops.specs.Decisions.{ChangesWhereDone};
 ghost use Rattle.af_ops.specs.EffectParts.{input_or};
-ghost use Rattle.af_ops.specs.VariableEffects.{adding, got_variable, told_fault, unless_fault, variable_added, variable_changed, variable_deleted, variable_effect, variable_or, variables_data};
+ghost use Rattle.af_ops.specs.VariableEffects.{adding, got_variable, listed_variables, told_fault, unless_fault, variable_added, variable_changed, variable_deleted, variable_effect, variable_or, variables_data};
 ghost use Rattle.af_ops.specs.Prepared.{CanDo, IsExact, MemoryLast, done_on};
 
 use crate::answer::OpFault;
 use crate::body_fault::BodyFault;
 use crate::edit::Edit;
-use crate::operations::shared::{LIMIT, input_fault, page};
+use crate::operations::shared::{cut, input_fault, window_or};
 use crate::prepared::Prepared;
 use crate::row::{late_listing_text, row_text};
 use crate::variable_op::VariableOp;
 use crate::variable_text::WrittenRow;
+use af_listing::Window;
 use af_names::VarKey;
+use af_policy::Parameter;
 use af_sched::State;
 use af_vars::{VarText, Variable, VariableFault};
 use std::alloc::{AllocError, Global};
@@ -35,10 +37,7 @@ pub(crate) fn prepare_variables(
     ensures rows { state.new.rows ≡ state.old.rows }
 {
     match op {
-        VariableOp::List => {
-            let body = variables_text(alloc, state.variables())?;
-            Ok(Prepared::of(body, Edit::Nothing))
-        }
+        VariableOp::List(asked) => listed_variables(alloc, state, asked),
         VariableOp::Add(input) => variable_added(alloc, state, input),
         VariableOp::Get(key) => got_variable(alloc, state, key),
         VariableOp::Change(key, input) => variable_changed(alloc, state, key, input),
@@ -51,7 +50,7 @@ pub(crate) fn would_change_variables(state: &State, op: &VariableOp) -> bool
     ensures { ChangesWhereDone (variable_effect state.now.rows op.now) result }
 {
     match op {
-        VariableOp::List | VariableOp::Get(_) => false,
+        VariableOp::List(_) | VariableOp::Get(_) => false,
         VariableOp::Add(Ok(_)) | VariableOp::Delete(_) => true,
         VariableOp::Change(key, Ok(value)) => would_write(state, key, value),
         VariableOp::Add(Err(_)) | VariableOp::Change(_, Err(_)) => false,
@@ -68,11 +67,25 @@ fn would_write(state: &State, key: &VarKey, value: &VarText) -> bool
     }
 }
 
-/// The text of the first page of the variables.
-fn variables_text(alloc: Global, all: &[Variable]) -> Result<Vec<u8>, AllocError>
-    ensures { IfOk result (λ body. body.items ≡ compact_text (variables_data all.now)) }
+fn listed_variables(
+    alloc: Global,
+    state: &State,
+    asked: &Result<Window, Parameter>,
+) -> Result<Prepared, OpFault>
+    ensures told { MemoryLast OutOfMemory (listed_variables state.now.rows asked.now) (seen (done_on state.now.rows) result) }
+    ensures room { IfOk result (λ prepared. CanDo state.now prepared.edit) }
+    ensures exact { IfOk result (λ prepared. IsExact state.now.rows prepared.edit) }
 {
-    let shown: Vec<&Variable> = page(all, LIMIT, 0).iter().collect(alloc)?;
+    let window = window_or(asked)?;
+    let body = variables_text(alloc, state.variables(), window)?;
+    Ok(Prepared::of(body, Edit::Nothing))
+}
+
+/// The text of a page of the variables.
+fn variables_text(alloc: Global, all: &[Variable], window: Window) -> Result<Vec<u8>, AllocError>
+    ensures { IfOk result (λ body. body.items ≡ compact_text (variables_data window all.now)) }
+{
+    let shown: Vec<&Variable> = cut(all, window).iter().collect(alloc)?;
     let body = late_listing_text(alloc, "variables", shown.as_slice(), all.len())?;
     Ok(body)
 }

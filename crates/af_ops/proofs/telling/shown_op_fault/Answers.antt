@@ -5,6 +5,12 @@ use Rattle.af_ops.specs.Faults.{problem_of}
 use Rattle.af_ops.proofs.TellingLemmas.{told_is}
 use Rattle.af_ops.proofs.telling.shown_op_fault.Goals as goal
 
+pub returns-in_ok-detail-in-BadParameter : goal.returns-in_ok-detail-in-BadParameter
+returns-in_ok-detail-in-BadParameter c =
+    told_is c.args.op.now c.args.under (why.Op c.args.fault) _ c.shown_problem.result
+    (rw (c.in-BadParameter.is, c.as_str.ensures.value, c.in_ok-detail-in-BadParameter.ensures, c.text.ensures) refl)
+    c.shown_problem.ensures
+
 pub returns-in_ok-detail-in-NoSuchDag : goal.returns-in_ok-detail-in-NoSuchDag
 returns-in_ok-detail-in-NoSuchDag c =
     told_is c.args.op.now c.args.under (why.Op c.args.fault) _ c.shown_problem-in-NoSuchDag.result

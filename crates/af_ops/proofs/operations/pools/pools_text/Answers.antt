@@ -1,7 +1,8 @@
-use Rattle.std.proofs.Common.{◌∙◌, ap, codes, drop, length, map, rules, sym, take}
+use Rattle.std.proofs.Common.{◌∙◌, ap, codes, length, map, rules, sym}
 use Rattle.std.specs.Prelude.{List}
 use Rattle.serde_json.specs.Data.{Data}
 use Rattle.serde_json.specs.Written.{compact_text}
+use Rattle.af_listing.specs.Pages.{cut}
 use Rattle.af_pool.specs.declared.pool.Pool.{Pool}
 use Rattle.af_ops.specs.Fields.{listing_of, object_of}
 use Rattle.af_ops.specs.PoolEffects.{pool_told}
@@ -13,7 +14,7 @@ use Rattle.af_ops.proofs.operations.pools.pools_text.Goals as goal
 pub returns : goal.returns
 returns c =
     let state = c.args.state.now.rows in
-    let shown = take 100 (drop 0 state.pools) in
+    let shown = cut c.args.window state.pools in
     c.in_ok-body.ensures
     ∙ all_now (codes "pools") (λ row. row.now) pool_fields c.as_slice-2.result.now (map (λ (pool : Pool). pool_told state pool.name pool.slots) shown) _ (length state.pools) (search rules ∙ listed_told state shown) (search rules)
     ∙ ap (λ (rows : List Data). compact_text (listing_of (codes "pools") rows (length state.pools)))

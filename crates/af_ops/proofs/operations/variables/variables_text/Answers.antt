@@ -1,4 +1,5 @@
-use Rattle.std.proofs.Common.{◌∙◌, codes, drop, length, rules, take}
+use Rattle.std.proofs.Common.{◌∙◌, codes, length, rules}
+use Rattle.af_listing.specs.Pages.{cut}
 use Rattle.af_ops.specs.Rows.{variable_fields}
 use Rattle.af_ops.proofs.PageLemmas.{late_now}
 use Rattle.af_ops.proofs.operations.variables.variables_text.Goals as goal
@@ -6,4 +7,4 @@ use Rattle.af_ops.proofs.operations.variables.variables_text.Goals as goal
 pub returns : goal.returns
 returns c =
     c.in_ok-body.ensures
-    ∙ late_now (codes "variables") (λ row. row.now) variable_fields c.as_slice.result.now (take 100 (drop 0 c.args.all.now)) _ (length c.args.all.now) (search rules) (search rules)
+    ∙ late_now (codes "variables") (λ row. row.now) variable_fields c.as_slice.result.now (cut c.args.window c.args.all.now) _ (length c.args.all.now) (search rules) (search rules)
