@@ -1,6 +1,6 @@
 -- What entries make of a state.
 use Rattle.std.proofs.Common.{◌≡◌, ◌∙◌, sym, ap, subst, refl, ℕ, suc, ◌+◌, ◌<◌, List, [], ◌∷◌, ◌++◌, length, get_or, drop, drop-cons, add-one}
-use Rattle.std.specs.Prelude.{Some, None}
+use Rattle.std.specs.Prelude.{Some, None, Ok, Err}
 use Rattle.af_sched.specs.Laws.{ClaimIsOne, TickIsOne}
 use Rattle.af_sched.specs.State.{StateRows}
 use Rattle.af_ops.specs.declared.op.Op.TheVariants as op
@@ -55,6 +55,9 @@ fronts_make one front rest opening state was opens is first =
     subst (λ (s : StateRows). IsReplay s rest state) (one front opening there.0 was opens there.1 first) there.2
 
 pub no_change_depends : NoChangeDependsOnTheReader
-no_change_depends reads others state (op.ListRuns None) t = refl
-no_change_depends reads others state (op.ListRuns (Some dag_id)) t = refl
+no_change_depends reads others state (op.ListDags (Ok window)) t = refl
+no_change_depends reads others state (op.ListDags (Err parameter)) t = refl
+no_change_depends reads others state (op.ListRuns None (Ok window)) t = refl
+no_change_depends reads others state (op.ListRuns None (Err parameter)) t = refl
+no_change_depends reads others state (op.ListRuns (Some dag_id) asked) t = refl
 no_change_depends reads others state asked t = refl

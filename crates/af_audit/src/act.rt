@@ -91,7 +91,7 @@ fn pool_event(op: &PoolOp) -> &'static str
         PoolOp::Add(_) => "post_pool",
         PoolOp::Change(_, _) => "patch_pool",
         PoolOp::Delete(_) => "delete_pool",
-        PoolOp::List | PoolOp::Get(_) => "",
+        PoolOp::List(_) | PoolOp::Get(_) => "",
     }
 }
 
@@ -103,6 +103,6 @@ fn variable_event(op: &VariableOp) -> &'static str
         VariableOp::Add(_) => "post_variable",
         VariableOp::Change(_, _) => "patch_variable",
         VariableOp::Delete(_) => "delete_variable",
-        VariableOp::List | VariableOp::Get(_) => "",
+        VariableOp::List(_) | VariableOp::Get(_) => "",
     }
 }

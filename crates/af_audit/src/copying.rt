@@ -13,11 +13,11 @@ pub(crate) fn copied(alloc: Global, op: &Op) -> Result<Op, AllocError>
 {
     match op {
         Op::Version => Ok(Op::Version),
-        Op::ListDags => Ok(Op::ListDags),
+        Op::ListDags(asked) => Ok(Op::ListDags(*asked)),
         Op::GetDag(dag_id) => Ok(Op::GetDag(dag_id.copied(alloc)?)),
         Op::PauseDag(dag_id, input) => Ok(Op::PauseDag(dag_id.copied(alloc)?, *input)),
         Op::ListTasks(dag_id) => Ok(Op::ListTasks(dag_id.copied(alloc)?)),
-        Op::ListRuns(dag) => Ok(Op::ListRuns(copied_dag(alloc, dag)?)),
+        Op::ListRuns(dag, asked) => Ok(Op::ListRuns(copied_dag(alloc, dag)?, *asked)),
         Op::TriggerRun(dag_id, input) => {
             let dag_id = dag_id.copied(alloc)?;
             Ok(Op::TriggerRun(dag_id, copied_input(alloc, input)?))
@@ -42,9 +42,9 @@ pub(crate) fn copied(alloc: Global, op: &Op) -> Result<Op, AllocError>
             let dag_id = dag_id.copied(alloc)?;
             Ok(Op::ClearInstances(dag_id, copied_clear(alloc, input)?))
         }
-        Op::ListInstances(dag_id, run_id) => {
+        Op::ListInstances(dag_id, run_id, asked) => {
             let (dag_id, run_id) = copied_ids(alloc, dag_id, run_id)?;
-            Ok(Op::ListInstances(dag_id, run_id))
+            Ok(Op::ListInstances(dag_id, run_id, *asked))
         }
         Op::GetInstance(dag_id, run_id, task_id) => {
             let (dag_id, run_id) = copied_ids(alloc, dag_id, run_id)?;

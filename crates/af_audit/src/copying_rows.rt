@@ -11,7 +11,7 @@ pub(crate) fn copied_pool_op(alloc: Global, op: &PoolOp) -> Result<PoolOp, Alloc
     ensures { IfOk result (λ copy. copy ≡ op.now) }
 {
     match op {
-        PoolOp::List => Ok(PoolOp::List),
+        PoolOp::List(asked) => Ok(PoolOp::List(*asked)),
         PoolOp::Add(input) => Ok(PoolOp::Add(copied_pool(alloc, input)?)),
         PoolOp::Get(name) => Ok(PoolOp::Get(name.copied(alloc)?)),
         PoolOp::Change(name, input) => Ok(PoolOp::Change(name.copied(alloc)?, *input)),
@@ -43,7 +43,7 @@ pub(crate) fn copied_variable_op(alloc: Global, op: &VariableOp) -> Result<Varia
     ensures { IfOk result (λ copy. copy ≡ op.now) }
 {
     match op {
-        VariableOp::List => Ok(VariableOp::List),
+        VariableOp::List(asked) => Ok(VariableOp::List(*asked)),
         VariableOp::Add(input) => Ok(VariableOp::Add(copied_variable(alloc, input)?)),
         VariableOp::Get(key) => Ok(VariableOp::Get(key.copied(alloc)?)),
         VariableOp::Change(key, input) => {

@@ -61,7 +61,7 @@ pub fn ledger(alloc: Global, limit: u32) -> Result<Ledger, Fail> {
 /// An operation of DAG b.
 pub fn op(alloc: Global, endpoint: Endpoint, body: &str) -> Result<Op, Fail> {
     let parts = vec![in alloc; String::from_str(alloc, "b")?]?;
-    match read_row(alloc, endpoint, parts.as_slice(), body.as_bytes())? {
+    match read_row(alloc, endpoint, parts.as_slice(), b"", body.as_bytes())? {
         Some(op) => Ok(op),
         None => Err(Fail::new("a part is no name")),
     }
