@@ -1,4 +1,4 @@
--- The numbers of the busy runs: kept in order where one run changes, is added or is taken out.
+-- The numbers of the runs that pass a test: kept in order where one run changes, is added or is taken out.
 use Rattle.std.proofs.Common.{◌≡◌, refl, sym, ◌∙◌, ap, subst, ℕ, zero, suc, ◌<◌, List, [], ◌∷◌, ◌++◌, map, length, get_or, set, take, drop, Bool, true, false, cond, arith}
 use Rattle.std.specs.Prelude.{filter}
 use Rattle.std.specs.List.{AllByRecursion, remove, insert}
@@ -8,7 +8,7 @@ use Rattle.std.specs.declared.cmp.Ordering.TheVariants.{Less, Equal, Greater}
 use Rattle.std.specs.Cmp.{nat_cmp_total}
 use Rattle.std.proofs.lemmas.Bool.Decides.{nat_tests}
 use Rattle.std.proofs.Math.ListN.{take-append-drop}
-use Rattle.af_runs.specs.Busy.{busy_of, busy_numbers, is_busy, with_number}
+use Rattle.af_runs.specs.Busy.{with_number}
 use Rattle.af_runs.specs.declared.run.Run.{Run}
 use Rattle.af_names.proofs.OrderLemmas.{rows_before, rows_after, search_rises}
 
@@ -46,23 +46,6 @@ same_either : {X : Type 0} (b : Bool) (x : X) → cond b x x ≡ x
 same_either true x = refl
 same_either false x = refl
 
--- above a number: none is lower, and all are higher
-none_lower : (number : ℕ) (runs : List Run) → Above number runs → filter (λ other. is_lt (nat_cmp other number)) (busy_numbers runs) ≡ []
-none_lower number [] above = refl
-none_lower number (run ∷ runs) above =
-    ap (filter (λ other. is_lt (nat_cmp other number))) (numbers_step (is_busy run) run (busy_of runs))
-    ∙ filter_step (λ other. is_lt (nat_cmp other number)) (is_busy run) false run.number (busy_numbers runs) (lt_not number run.number above.0)
-    ∙ same_either (is_busy run) (filter (λ other. is_lt (nat_cmp other number)) (busy_numbers runs))
-    ∙ none_lower number runs above.1
-
-all_higher : (number : ℕ) (runs : List Run) → Above number runs → filter (λ other. is_lt (nat_cmp number other)) (busy_numbers runs) ≡ busy_numbers runs
-all_higher number [] above = refl
-all_higher number (run ∷ runs) above =
-    ap (filter (λ other. is_lt (nat_cmp number other))) (numbers_step (is_busy run) run (busy_of runs))
-    ∙ filter_step (λ other. is_lt (nat_cmp number other)) (is_busy run) true run.number (busy_numbers runs) (lt_is number run.number above.0)
-    ∙ (λ i. cond (is_busy run) (run.number ∷ all_higher number runs above.1 i) (all_higher number runs above.1 i))
-    ∙ sym (numbers_step (is_busy run) run (busy_of runs))
-
 below_at : (n : ℕ) (runs : List Run) (place : ℕ) (d : Run) → Above n runs → place < length runs → nat_cmp n (get_or runs place d).number ≡ Less
 below_at n [] place d above within = absurd (omega arith)
 below_at n (run ∷ runs) zero d above within = above.0
@@ -76,39 +59,61 @@ lower_first : (b : Bool) (number : ℕ) (some rest : List ℕ) → cond b (numbe
 lower_first true number some rest = refl
 lower_first false number some rest = refl
 
--- one run changes, and keeps its number
-pub busy-set : (runs : List Run) (place : ℕ) (run d : Run) → IsStrictlySortedBy nat_cmp (map number_of runs) → place < length runs → run.number ≡ (get_or runs place d).number → busy_numbers (set runs place run) ≡ with_number run.number (is_busy run) (busy_numbers runs)
-unfolding IsStrictlySortedBy
-busy-set [] place run d order within same = absurd (omega arith)
-busy-set (old ∷ runs) zero run d order within same =
-    let above : Above run.number runs = subst (λ (n : ℕ). Above n runs) (sym same) order.0 in
-    let low : filter (λ other. is_lt (nat_cmp other run.number)) (busy_numbers (old ∷ runs)) ≡ [] =
-    ap (filter (λ other. is_lt (nat_cmp other run.number))) (numbers_step (is_busy old) old (busy_of runs))
-    ∙ filter_step (λ other. is_lt (nat_cmp other run.number)) (is_busy old) false old.number (busy_numbers runs) (ap (λ (n : ℕ). is_lt (nat_cmp n run.number)) (sym same) ∙ not_self run.number)
-    ∙ same_either (is_busy old) _
-    ∙ none_lower run.number runs above in
-    let high : filter (λ other. is_lt (nat_cmp run.number other)) (busy_numbers (old ∷ runs)) ≡ busy_numbers runs =
-    ap (filter (λ other. is_lt (nat_cmp run.number other))) (numbers_step (is_busy old) old (busy_of runs))
-    ∙ filter_step (λ other. is_lt (nat_cmp run.number other)) (is_busy old) false old.number (busy_numbers runs) (ap (λ (n : ℕ). is_lt (nat_cmp run.number n)) (sym same) ∙ not_self run.number)
-    ∙ same_either (is_busy old) _
-    ∙ all_higher run.number runs above in
-    numbers_step (is_busy run) run (busy_of runs)
-    ∙ with_step (is_busy run) run.number (busy_numbers runs)
-    ∙ (λ i. sym low i ++ (cond (is_busy run) (run.number ∷ []) [] ++ sym high i))
-busy-set (old ∷ runs) (suc place) run d order within same =
-    let less : nat_cmp old.number run.number ≡ Less = subst (λ (n : ℕ). nat_cmp old.number n ≡ Less) (sym same) (below_at old.number runs place d order.0 (omega arith)) in
-    let rest = busy-set runs place run d order.1 (omega arith) same in
-    let low : filter (λ other. is_lt (nat_cmp other run.number)) (busy_numbers (old ∷ runs)) ≡ cond (is_busy old) (old.number ∷ filter (λ other. is_lt (nat_cmp other run.number)) (busy_numbers runs)) (filter (λ other. is_lt (nat_cmp other run.number)) (busy_numbers runs)) =
-    ap (filter (λ other. is_lt (nat_cmp other run.number))) (numbers_step (is_busy old) old (busy_of runs))
-    ∙ filter_step (λ other. is_lt (nat_cmp other run.number)) (is_busy old) true old.number (busy_numbers runs) (lt_is old.number run.number less) in
-    let high : filter (λ other. is_lt (nat_cmp run.number other)) (busy_numbers (old ∷ runs)) ≡ filter (λ other. is_lt (nat_cmp run.number other)) (busy_numbers runs) =
-    ap (filter (λ other. is_lt (nat_cmp run.number other))) (numbers_step (is_busy old) old (busy_of runs))
-    ∙ filter_step (λ other. is_lt (nat_cmp run.number other)) (is_busy old) false old.number (busy_numbers runs) (lt_not old.number run.number less)
-    ∙ same_either (is_busy old) _ in
-    numbers_step (is_busy old) old (busy_of (set runs place run))
-    ∙ (λ i. cond (is_busy old) (old.number ∷ rest i) (rest i))
-    ∙ sym (lower_first (is_busy old) old.number (filter (λ other. is_lt (nat_cmp other run.number)) (busy_numbers runs)) _)
-    ∙ (λ i. sym low i ++ (cond (is_busy run) (run.number ∷ []) [] ++ sym high i))
+-- ---- the numbers of those that pass a test
+module _ (p : Run → Bool) where
+  abbrev numbers_of : List Run → List ℕ
+  numbers_of runs = map number_of (filter p runs)
+
+  -- above a number: none is lower, and all are higher
+  none_lower : (number : ℕ) (runs : List Run) → Above number runs → filter (λ other. is_lt (nat_cmp other number)) (numbers_of runs) ≡ []
+  none_lower number [] above = refl
+  none_lower number (run ∷ runs) above =
+      ap (filter (λ other. is_lt (nat_cmp other number))) (numbers_step (p run) run (filter p runs))
+      ∙ filter_step (λ other. is_lt (nat_cmp other number)) (p run) false run.number (numbers_of runs) (lt_not number run.number above.0)
+      ∙ same_either (p run) (filter (λ other. is_lt (nat_cmp other number)) (numbers_of runs))
+      ∙ none_lower number runs above.1
+
+  all_higher : (number : ℕ) (runs : List Run) → Above number runs → filter (λ other. is_lt (nat_cmp number other)) (numbers_of runs) ≡ numbers_of runs
+  all_higher number [] above = refl
+  all_higher number (run ∷ runs) above =
+      ap (filter (λ other. is_lt (nat_cmp number other))) (numbers_step (p run) run (filter p runs))
+      ∙ filter_step (λ other. is_lt (nat_cmp number other)) (p run) true run.number (numbers_of runs) (lt_is number run.number above.0)
+      ∙ (λ i. cond (p run) (run.number ∷ all_higher number runs above.1 i) (all_higher number runs above.1 i))
+      ∙ sym (numbers_step (p run) run (filter p runs))
+
+  -- one run changes, and keeps its number
+  pub numbers-set : (runs : List Run) (place : ℕ) (run d : Run) → IsStrictlySortedBy nat_cmp (map number_of runs) → place < length runs → run.number ≡ (get_or runs place d).number → numbers_of (set runs place run) ≡ with_number run.number (p run) (numbers_of runs)
+  unfolding IsStrictlySortedBy
+  numbers-set [] place run d order within same = absurd (omega arith)
+  numbers-set (old ∷ runs) zero run d order within same =
+      let above : Above run.number runs = subst (λ (n : ℕ). Above n runs) (sym same) order.0 in
+      let low : filter (λ other. is_lt (nat_cmp other run.number)) (numbers_of (old ∷ runs)) ≡ [] =
+      ap (filter (λ other. is_lt (nat_cmp other run.number))) (numbers_step (p old) old (filter p runs))
+      ∙ filter_step (λ other. is_lt (nat_cmp other run.number)) (p old) false old.number (numbers_of runs) (ap (λ (n : ℕ). is_lt (nat_cmp n run.number)) (sym same) ∙ not_self run.number)
+      ∙ same_either (p old) _
+      ∙ none_lower run.number runs above in
+      let high : filter (λ other. is_lt (nat_cmp run.number other)) (numbers_of (old ∷ runs)) ≡ numbers_of runs =
+      ap (filter (λ other. is_lt (nat_cmp run.number other))) (numbers_step (p old) old (filter p runs))
+      ∙ filter_step (λ other. is_lt (nat_cmp run.number other)) (p old) false old.number (numbers_of runs) (ap (λ (n : ℕ). is_lt (nat_cmp run.number n)) (sym same) ∙ not_self run.number)
+      ∙ same_either (p old) _
+      ∙ all_higher run.number runs above in
+      numbers_step (p run) run (filter p runs)
+      ∙ with_step (p run) run.number (numbers_of runs)
+      ∙ (λ i. sym low i ++ (cond (p run) (run.number ∷ []) [] ++ sym high i))
+  numbers-set (old ∷ runs) (suc place) run d order within same =
+      let less : nat_cmp old.number run.number ≡ Less = subst (λ (n : ℕ). nat_cmp old.number n ≡ Less) (sym same) (below_at old.number runs place d order.0 (omega arith)) in
+      let rest = numbers-set runs place run d order.1 (omega arith) same in
+      let low : filter (λ other. is_lt (nat_cmp other run.number)) (numbers_of (old ∷ runs)) ≡ cond (p old) (old.number ∷ filter (λ other. is_lt (nat_cmp other run.number)) (numbers_of runs)) (filter (λ other. is_lt (nat_cmp other run.number)) (numbers_of runs)) =
+      ap (filter (λ other. is_lt (nat_cmp other run.number))) (numbers_step (p old) old (filter p runs))
+      ∙ filter_step (λ other. is_lt (nat_cmp other run.number)) (p old) true old.number (numbers_of runs) (lt_is old.number run.number less) in
+      let high : filter (λ other. is_lt (nat_cmp run.number other)) (numbers_of (old ∷ runs)) ≡ filter (λ other. is_lt (nat_cmp run.number other)) (numbers_of runs) =
+      ap (filter (λ other. is_lt (nat_cmp run.number other))) (numbers_step (p old) old (filter p runs))
+      ∙ filter_step (λ other. is_lt (nat_cmp run.number other)) (p old) false old.number (numbers_of runs) (lt_not old.number run.number less)
+      ∙ same_either (p old) _ in
+      numbers_step (p old) old (filter p (set runs place run))
+      ∙ (λ i. cond (p old) (old.number ∷ rest i) (rest i))
+      ∙ sym (lower_first (p old) old.number (filter (λ other. is_lt (nat_cmp other run.number)) (numbers_of runs)) _)
+      ∙ (λ i. sym low i ++ (cond (p run) (run.number ∷ []) [] ++ sym high i))
 
 -- ---- a search among rising numbers
 map_self : (xs : List ℕ) → map (λ (n : ℕ). n) xs ≡ xs

@@ -1,5 +1,6 @@
 -- The index of the runs: after one more, one less, or one changed.
 use Rattle.std.proofs.Common.{◌≡◌, refl, sym, ◌∙◌, ap, subst, ℕ, zero, suc, ◌<◌, ◌≤◌, List, [], ◌∷◌, ◌++◌, map, length, get_or, set, take, Bool, true, false, cond, arith}
+use Rattle.std.specs.Prelude.{filter}
 use Rattle.std.specs.List.{remove}
 use Rattle.std.specs.List.Sorted.{IsStrictlySortedBy}
 use Rattle.std.specs.Ordering.{nat_cmp}
@@ -7,7 +8,6 @@ use Rattle.std.proofs.lemmas.List.{get_or-map, length-map}
 use Rattle.std.proofs.lemmas.List.Elements.{filter-append}
 use Rattle.std.proofs.Math.Seq.{map-set_same}
 use Rattle.af_names.proofs.OrderLemmas.{length-filter_le}
-use Rattle.af_runs.specs.Busy.{busy_of, busy_numbers, is_busy}
 use Rattle.af_runs.specs.Codes.{ids_code, date_code, by_ids, by_date}
 use Rattle.af_runs.specs.DagLists.{AreDagLists}
 use Rattle.af_runs.specs.Chains.{HasRoom}
@@ -52,7 +52,7 @@ same_ids_key run other same = λ i. (same.number i, ids_code (same.dag_id i) (sa
 pub same_date_key : (run other : Run) → HasKeyOf run other → by_date other ≡ by_date run
 same_date_key run other same = λ i. (same.number i, date_code (same.dag_id i) (same.date i))
 
--- ---- the busy runs
+-- ---- the runs that pass a test
 cond_map : (b : Bool) (run : Run) → map (λ (other : Run). other.number) (cond b (run ∷ []) []) ≡ cond b (run.number ∷ []) []
 cond_map true run = refl
 cond_map false run = refl
@@ -61,14 +61,18 @@ map-append : (xs ys : List Run) → map (λ (run : Run). run.number) (xs ++ ys) 
 map-append [] ys = refl
 map-append (x ∷ xs) ys = ap (λ (ns : List ℕ). x.number ∷ ns) (map-append xs ys)
 
-pub busy-push : (runs : List Run) (run : Run) → busy_numbers (runs ++ run ∷ []) ≡ busy_numbers runs ++ cond (is_busy run) (run.number ∷ []) []
-busy-push runs run =
-    ap (map (λ (other : Run). other.number)) (filter-append is_busy runs (run ∷ []))
-    ∙ map-append (busy_of runs) (busy_of (run ∷ []))
-    ∙ ap (λ (ns : List ℕ). busy_numbers runs ++ ns) (cond_map (is_busy run) run)
+module _ (p : Run → Bool) where
+  abbrev numbers_of : List Run → List ℕ
+  numbers_of runs = map (λ (run : Run). run.number) (filter p runs)
 
-pub busy-few : (runs : List Run) → length (busy_numbers runs) ≤ length runs
-busy-few runs = omega (arith, length-map (busy_of runs) (λ (run : Run). run.number), length-filter_le is_busy runs)
+  pub numbers-push : (runs : List Run) (run : Run) → numbers_of (runs ++ run ∷ []) ≡ numbers_of runs ++ cond (p run) (run.number ∷ []) []
+  numbers-push runs run =
+      ap (map (λ (other : Run). other.number)) (filter-append p runs (run ∷ []))
+      ∙ map-append (filter p runs) (filter p (run ∷ []))
+      ∙ ap (λ (ns : List ℕ). numbers_of runs ++ ns) (cond_map (p run) run)
+
+  pub numbers-few : (runs : List Run) → length (numbers_of runs) ≤ length runs
+  numbers-few runs = omega (arith, length-map (filter p runs) (λ (run : Run). run.number), length-filter_le p runs)
 
 -- ---- the runs of each DAG
 numbers_set : (q : List ℕ) (n : ℕ) (runs : List Run) (place : ℕ) (run d : Run) → run.dag_id ≡ (get_or runs place d).dag_id → run.number ≡ (get_or runs place d).number → map (λ (other : Run). other.number) (runs_of (take n (set runs place run)) q) ≡ map (λ (other : Run). other.number) (runs_of (take n runs) q)
@@ -109,4 +113,5 @@ HasRoomFor-less more fewer index less has = record {
   ids = HasRoom-less more fewer index.ids less has.ids;
   dates = HasRoom-less more fewer index.dates less has.dates;
   busy = omega (arith, has.busy);
+  holders = omega (arith, has.holders);
 }

@@ -1,6 +1,6 @@
 -- The runs with what stands beside them: a run that is found, and one that changes.
-use Rattle.std.proofs.Common.{◌≡◌, ◌≢◌, sym, ◌∙◌, ap, subst, ℕ, ◌<◌, ◌≤◌, List, map, length, get_or, set, true, false, ⊎_elim, arith}
-use Rattle.std.specs.Prelude.{Option, Some, None, is_some, MatchOption, vec_capacity}
+use Rattle.std.proofs.Common.{◌≡◌, ◌≢◌, sym, ◌∙◌, ap, subst, ℕ, ◌<◌, ◌≤◌, List, map, length, get_or, set, Bool, true, false, ⊎_elim, arith}
+use Rattle.std.specs.Prelude.{Option, Some, None, filter, is_some, MatchOption}
 use Rattle.std.specs.List.{list_any}
 use Rattle.std.specs.List.Sorted.{IsStrictlySortedBy}
 use Rattle.std.specs.Ordering.{nat_cmp}
@@ -9,19 +9,19 @@ use Rattle.std.proofs.lemmas.Bool.{cases_lt, false_from_ne_true}
 use Rattle.std.proofs.lemmas.List.{get_or-set_same, get_or_default, length-map}
 use Rattle.std.proofs.lemmas.Map.Keys.{apart_from_distinct}
 use Rattle.af_names.proofs.OrderLemmas.{find-only, list_any-only, list_any-none, order-filter}
-use Rattle.af_runs.specs.Busy.{busy_numbers, is_busy, with_number}
+use Rattle.af_runs.specs.Busy.{holds_any, is_busy, with_number}
 use Rattle.af_runs.specs.Chains.{no_row}
 use Rattle.af_runs.specs.Codes.{by_ids}
-use Rattle.af_runs.specs.Index.{HasRoomFor, IsIndex}
+use Rattle.af_runs.specs.Index.{CanKeep, HasRoomFor, IsIndex}
 use Rattle.af_runs.specs.Places.{IsMetAt, IsMetNowhere}
 use Rattle.af_runs.specs.Runs.{AreRuns, HasKeyOf, is_run, run_of, same_ids}
 use Rattle.af_runs.specs.Wanted.{meets}
 use Rattle.af_runs.specs.declared.index.Index.{Index}
 use Rattle.af_runs.specs.declared.run.Run.{Run}
 use Rattle.af_runs.specs.declared.wanted.Wanted.{Wanted}
-use Rattle.af_runs.proofs.BusyLemmas.{busy-set}
+use Rattle.af_runs.proofs.BusyLemmas.{numbers-set}
 use Rattle.af_runs.proofs.ChainLemmas.{length-earlier_after}
-use Rattle.af_runs.proofs.IndexLemmas.{busy-few, length_set}
+use Rattle.af_runs.proofs.IndexLemmas.{numbers-few, length_set}
 use Rattle.af_runs.proofs.RunLemmas.{same_ids_laws}
 
 -- ---- one that is looked up
@@ -52,14 +52,27 @@ module _ (dag_id run_id : List ℕ) (runs : List Run) (next : ℕ) (are : AreRun
 
 -- ---- one that changes, and keeps its number, its ids and its date
 module _ (runs : List Run) (next : ℕ) (are : AreRuns runs next) (index : Index) (is : IsIndex runs index) where
-  pub busy_order : IsStrictlySortedBy nat_cmp index.busy.items
-  busy_order = subst (IsStrictlySortedBy nat_cmp) (sym is.busy) (order-filter (λ (run : Run). run.number) nat_cmp_total is_busy runs are.in_order)
+  -- of the runs that pass a test
+  module _ (p : Run → Bool) (numbers : List ℕ) (are_of : numbers ≡ map (λ (run : Run). run.number) (filter p runs)) where
+    numbers_rise : IsStrictlySortedBy nat_cmp numbers
+    numbers_rise = subst (IsStrictlySortedBy nat_cmp) (sym are_of) (order-filter (λ (run : Run). run.number) nat_cmp_total p runs are.in_order)
 
-  pub busy_room : (spare place : ℕ) (run d : Run) → HasRoomFor spare index → place < length runs → HasKeyOf (get_or runs place d) run → length (with_number run.number (is_busy run) index.busy.items) ≤ vec_capacity index.busy
-  busy_room spare place run d has within same =
-      let kept : with_number run.number (is_busy run) index.busy.items ≡ busy_numbers (set runs place run) =
-      ap (with_number run.number (is_busy run)) is.busy ∙ sym (busy-set runs place run d are.in_order within same.number) in
-      omega (arith, ap length kept, busy-few (set runs place run), length_set runs place run, ap length is.ids.earlier, length-earlier_after no_row (map by_ids runs), length-map runs by_ids, has.busy, index.ids.earlier.ok)
+    numbers_fit : (place : ℕ) (run d : Run) → place < length runs → HasKeyOf (get_or runs place d) run → length (with_number run.number (p run) numbers) ≤ length runs
+    numbers_fit place run d within same =
+        let kept = ap (with_number run.number (p run)) are_of ∙ sym (numbers-set p runs place run d are.in_order within same.number) in
+        omega (arith, ap length kept, numbers-few p (set runs place run), length_set runs place run)
+
+  pub can_keep : (spare place : ℕ) (run d : Run) → HasRoomFor spare index → place < length runs → HasKeyOf (get_or runs place d) run → CanKeep run index
+  can_keep spare place run d has within same =
+      let chained : length index.ids.earlier.items ≡ length runs = ap length is.ids.earlier ∙ length-earlier_after no_row (map by_ids runs) ∙ length-map runs by_ids in
+      let busy_few = numbers_fit is_busy index.busy.items is.busy place run d within same in
+      let holders_few = numbers_fit holds_any index.holders.items is.holders place run d within same in
+      record {
+        busy_order = numbers_rise is_busy index.busy.items is.busy;
+        busy_room = omega (arith, busy_few, chained, has.busy, index.ids.earlier.ok);
+        holders_order = numbers_rise holds_any index.holders.items is.holders;
+        holders_room = omega (arith, holders_few, chained, has.holders, index.ids.earlier.ok);
+      }
 
   pub changed : (place : ℕ) (row run old e : Run) → place < length runs → run ≡ get_or (set runs place row) place e → HasKeyOf old row → old ≡ get_or runs place old → (d : Run) → HasKeyOf (get_or runs place d) run
   changed place row run old e within is_row same is_old d =

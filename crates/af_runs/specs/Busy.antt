@@ -30,6 +30,14 @@ busy_of runs = filter is_busy runs
 abbrev pub busy_numbers : List Run → List ℕ
 busy_numbers runs = map (λ run. run.number) (busy_of runs)
 
+-- those of these runs that hold slots: an instance of each is queued or running
+abbrev pub holders_of : List Run → List Run
+holders_of runs = filter holds_any runs
+
+-- the numbers of those of these runs that hold slots
+abbrev pub holder_numbers : List Run → List ℕ
+holder_numbers runs = map (λ run. run.number) (holders_of runs)
+
 -- rising numbers, this one among them or not
 abbrev pub with_number : ℕ → Bool → List ℕ → List ℕ
 with_number number among numbers =

@@ -1,13 +1,12 @@
-ghost use Rattle.std.specs.Prelude.{◌≡◌, ℕ, ◌+◌, ◌<◌, ◌≤◌, List, [], ◌∷◌, ◌++◌, OnOk, length, map, slice_index_or, slice_set, vec_capacity, vec_len};
+ghost use Rattle.std.specs.Prelude.{◌≡◌, ℕ, ◌+◌, ◌<◌, List, [], ◌∷◌, ◌++◌, OnOk, length, map, slice_index_or, slice_set};
 ghost use Rattle.std.specs.List.{remove};
 ghost use Rattle.std.specs.List.Sorted.{IsStrictlySortedBy};
 ghost use Rattle.std.specs.Ordering.{nat_cmp};
-ghost use Rattle.af_runs.specs.Busy.{is_busy, with_number};
-ghost use Rattle.af_runs.specs.Index.{HasRoomFor, IsIndex};
+ghost use Rattle.af_runs.specs.Index.{CanKeep, HasRoomFor, IsIndex};
 ghost use Rattle.af_runs.specs.Runs.{HasKeyOf};
 ghost use Rattle.af_runs.specs.declared.run.Run.{Run};
 
-use crate::busy::{keep, put_last, take_out};
+use crate::busy::{keep, put_last, reserve_all, take_out};
 use crate::chains::Chains;
 use crate::codes::{date_code, ids_code};
 use crate::dag_lists::DagLists;
@@ -25,6 +24,8 @@ pub(crate) struct Index {
     pub(crate) dags: DagLists,
     /// The numbers of the busy runs, in order.
     pub(crate) busy: Vec<u64>,
+    /// The numbers of the runs that hold slots, in order.
+    pub(crate) holders: Vec<u64>,
 }
 
 impl Index {
@@ -38,6 +39,7 @@ impl Index {
             dates: Chains::new(alloc),
             dags: DagLists::new(alloc),
             busy: Vec::new(alloc),
+            holders: Vec::new(alloc),
         }
     }
 
@@ -49,9 +51,9 @@ impl Index {
     {
         self.ids.reserve(additional)?;
         self.dates.reserve(additional)?;
-        let idle = self.ids.len().saturating_sub(self.busy.len());
-        let room = idle.checked_add(additional).ok_or(AllocError)?;
-        self.busy.reserve(room)
+        let rows = self.ids.len();
+        reserve_all(&mut self.busy, rows, additional)?;
+        reserve_all(&mut self.holders, rows, additional)
     }
 
     /// Lists those of these runs by DAG that are not listed yet, as far as there is memory for it.
@@ -69,6 +71,7 @@ impl Index {
         ensures room { (rows : ℕ) → HasRoomFor (rows + 1) self.old → HasRoomFor rows self.new }
     {
         put_last(&mut self.busy, run.number, run.is_busy());
+        put_last(&mut self.holders, run.number, run.holds_any());
         self.ids
             .push(run.number, ids_code(&run.dag_id, run.run_id.as_str()));
         self.dates
@@ -100,15 +103,17 @@ impl Index {
             .remove(place, number, date_code(&run.dag_id, run.logical_date));
         self.dags.remove(place, run);
         take_out(&mut self.busy, number);
+        take_out(&mut self.holders, number);
     }
 
-    /// Sees to it that a run is among the busy ones, or not, after a change that keeps its number, its ids and its date.
-    pub(crate) fn keep_busy(&mut self, run: &Run)
-        requires in_order { IsStrictlySortedBy nat_cmp self.old.busy.items }
-        requires room { length (with_number run.now.number (is_busy run.now) self.old.busy.items) ≤ vec_capacity self.old.busy }
+    /// Sees to it that a run is among the busy ones, or not, and among those that hold slots, or not, after a change that keeps
+    /// its number, its ids and its date.
+    pub(crate) fn keep_numbers(&mut self, run: &Run)
+        requires { CanKeep run.now self.old }
         ensures runs { (runs : List Run) (place : ℕ) → IsIndex runs self.old → place < length runs → ((d : Run) → HasKeyOf (slice_index_or runs place d) run.now) → IsStrictlySortedBy nat_cmp (map (λ run. run.number) runs) → IsIndex (slice_set runs place run.now) self.new }
         ensures room { (rows : ℕ) → HasRoomFor rows self.old → HasRoomFor rows self.new }
     {
         keep(&mut self.busy, run.number, run.is_busy());
+        keep(&mut self.holders, run.number, run.holds_any());
     }
 }

@@ -36,7 +36,7 @@ impl Runs {
             run.state = state;
             run.start_date = start_date;
             run.end_date = end_date;
-            self.index.keep_busy(&self.rows[place]);
+            self.index.keep_numbers(&self.rows[place]);
         }
     }
 
@@ -48,7 +48,7 @@ impl Runs {
     {
         if let Some(row) = self.place_of(number) {
             self.rows[row].instances.set(place, instance);
-            self.index.keep_busy(&self.rows[row]);
+            self.index.keep_numbers(&self.rows[row]);
         }
     }
 
@@ -63,7 +63,7 @@ impl Runs {
             earlier.start_date = later.start_date;
             earlier.end_date = later.end_date;
             earlier.instances = later.instances;
-            self.index.keep_busy(&self.rows[place]);
+            self.index.keep_numbers(&self.rows[place]);
         }
     }
 }

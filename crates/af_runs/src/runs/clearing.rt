@@ -16,7 +16,7 @@ impl Runs {
     {
         if let Some(row) = self.place_of(number) {
             self.rows[row].clear(selection);
-            self.index.keep_busy(&self.rows[row]);
+            self.index.keep_numbers(&self.rows[row]);
         }
     }
 
@@ -57,7 +57,7 @@ impl Runs {
     {
         if filter.admits(&self.rows[place]) {
             self.rows[place].clear(selection);
-            self.index.keep_busy(&self.rows[place]);
+            self.index.keep_numbers(&self.rows[place]);
         }
     }
 }

@@ -1,10 +1,11 @@
 ghost use Rattle.std.specs.Prelude.{◌≡◌, ◌≤◌, MatchOption, drop, length, option_copied, slice_get};
 ghost use Rattle.std.specs.List.{list_any};
-ghost use Rattle.af_runs.specs.Busy.{busy_of};
+ghost use Rattle.af_runs.specs.Busy.{busy_of, holders_of};
 ghost use Rattle.af_runs.specs.Places.{IsMetAt, IsMetNowhere, IsNthOf};
 ghost use Rattle.af_runs.specs.Runs.{AreRuns, instances_of, is_dated, is_run, run_at, run_of, runs_of};
 
 use crate::busy_runs::BusyRuns;
+use crate::holders::Holders;
 use crate::instance::Instance;
 use crate::places::find_place;
 use crate::run::{Run, count_of, nth_of};
@@ -49,6 +50,30 @@ impl Runs {
         ensures { option_copied result ≡ slice_get (busy_of self.now.rows) place }
     {
         match self.index.busy.get(place) {
+            Some(number) => self.get(*number),
+            None => None,
+        }
+    }
+
+    /// The runs that hold slots, in order of number: an instance of each is queued or running.
+    pub fn holders(&self) -> Holders<'_>
+        ensures { result ≡ holders_of self.now.rows }
+    {
+        Holders::of(self)
+    }
+
+    /// How many runs hold slots.
+    pub(crate) fn holder_count(&self) -> usize
+        ensures { result ≡ length (holders_of self.now.rows) }
+    {
+        self.index.holders.len()
+    }
+
+    /// The run at this place among those that hold slots, which are in order of number.
+    pub(crate) fn holder_at(&self, place: usize) -> Option<&Run>
+        ensures { option_copied result ≡ slice_get (holders_of self.now.rows) place }
+    {
+        match self.index.holders.get(place) {
             Some(number) => self.get(*number),
             None => None,
         }

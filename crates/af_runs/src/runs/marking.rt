@@ -13,7 +13,7 @@ impl Runs {
     {
         if let Some(place) = self.place_of(number) {
             self.rows[place].mark(mark, at);
-            self.index.keep_busy(&self.rows[place]);
+            self.index.keep_numbers(&self.rows[place]);
         }
     }
 }

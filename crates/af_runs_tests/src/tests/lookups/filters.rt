@@ -34,6 +34,17 @@ fn are_busy(runs: &Runs, plain: &[Plain]) -> bool {
     wanted.next().is_none()
 }
 
+/// Whether the runs that hold slots are those of a filter.
+fn are_holders(runs: &Runs, plain: &[Plain]) -> bool {
+    let mut wanted = plain.iter().filter(|row| row.held);
+    for run in runs.holders() {
+        if !is_it(Some(run), wanted.next()) {
+            return false;
+        }
+    }
+    wanted.next().is_none()
+}
+
 /// Whether the look-ups of a run of a DAG answer what a filter over the plain list answers.
 pub fn agrees_of_dag(
     runs: &Runs,
@@ -54,7 +65,8 @@ pub fn agrees_of_dag(
         && is_page(runs, plain, dag.0, dag.1, (key % 300) as usize)
 }
 
-/// Whether the look-ups by number, and among the busy runs, answer what a filter over the plain list answers.
+/// Whether the look-ups by number, among the busy runs, and among those that hold slots answer what a filter over the plain list
+/// answers.
 pub fn agrees_at(runs: &Runs, plain: &[Plain], key: u64) -> bool {
     let number = key.saturating_add(1);
     let numbered = plain.iter().find(|row| row.number == number);
@@ -65,5 +77,5 @@ pub fn agrees_at(runs: &Runs, plain: &[Plain], key: u64) -> bool {
         && is_it(runs.get(number), numbered)
         && runs.busy_count() == count
         && is_it(runs.busy_at(place), busy)
-        && (key % 16 != 0 || are_busy(runs, plain))
+        && (key % 16 != 0 || (are_busy(runs, plain) && are_holders(runs, plain)))
 }

@@ -1,6 +1,6 @@
 use Rattle.std.proofs.Common.{◌≡◌, sym, ◌+◌, set, refl}
 use Rattle.af_runs.specs.Runs.{advanced, with_advanced}
-use Rattle.af_runs.proofs.RunsLemmas.{busy_order, busy_room, changed, changed_index}
+use Rattle.af_runs.proofs.RunsLemmas.{can_keep, changed, changed_index}
 use Rattle.af_runs.proofs.RunLemmas.{with_advanced-is_set, with_advanced-same, AreRuns-set}
 use Rattle.af_runs.proofs.runs.Runs.advance.Goals as goal
 
@@ -9,22 +9,19 @@ invariant_of-self c =
     let stands = rw (← c.self.view_is) at c.in-Some.ensures in
     let is = c.self.invariant in
     let same = changed c.self.inside.rows.items (c.self.inside.last + 1) is.0 c.self.inside.index is.1 c.in-Some.place _ c.index.result.now c.index_mut-earlier.result.now _ stands.within c.index.ensures (record { number = refl; dag_id = refl; run_id = refl; date = refl }) c.index_mut-earlier.ensures.value in
-    let kept = c.keep_busy.ensures.runs c.self.inside.rows.items c.in-Some.place is.1 stands.within same is.0.in_order in (
+    let kept = c.keep_numbers.ensures.runs c.self.inside.rows.items c.in-Some.place is.1 stands.within same is.0.in_order in (
       rw c.index_mut-earlier.ensures.value (AreRuns-set _ _ _ _ _ refl refl refl refl stands.within is.0),
-      changed_index c.self.inside.rows.items (c.self.inside.last + 1) is.0 c.self.inside.index is.1 c.in-Some.place _ c.index.result.now _ c.keep_busy.new.self stands.within c.index.ensures kept,
-      c.keep_busy.ensures.room c.self.inside.spare is.2,
+      changed_index c.self.inside.rows.items (c.self.inside.last + 1) is.0 c.self.inside.index is.1 c.in-Some.place _ c.index.result.now _ c.keep_numbers.new.self stands.within c.index.ensures kept,
+      c.keep_numbers.ensures.room c.self.inside.spare is.2,
       is.3,
     )
 
-pub keep_busy-requires-clause-in_order : goal.keep_busy-requires-clause-in_order
-keep_busy-requires-clause-in_order c = let is = c.self.invariant in busy_order c.self.inside.rows.items (c.self.inside.last + 1) is.0 c.self.inside.index is.1
-
-pub keep_busy-requires-clause-room : goal.keep_busy-requires-clause-room
-keep_busy-requires-clause-room c =
+pub keep_numbers-requires : goal.keep_numbers-requires
+keep_numbers-requires c =
     let stands = rw (← c.self.view_is) at c.in-Some.ensures in
     let is = c.self.invariant in
     let same = changed c.self.inside.rows.items (c.self.inside.last + 1) is.0 c.self.inside.index is.1 c.in-Some.place _ c.index.result.now c.index_mut-earlier.result.now _ stands.within c.index.ensures (record { number = refl; dag_id = refl; run_id = refl; date = refl }) c.index_mut-earlier.ensures.value in
-    busy_room c.self.inside.rows.items (c.self.inside.last + 1) is.0 c.self.inside.index is.1 c.self.inside.spare c.in-Some.place c.index.result.now c.index.result.now is.2 stands.within (same c.index.result.now)
+    can_keep c.self.inside.rows.items (c.self.inside.last + 1) is.0 c.self.inside.index is.1 c.self.inside.spare c.in-Some.place c.index.result.now c.index.result.now is.2 stands.within (same c.index.result.now)
 
 pub returns-in-Some : goal.returns-in-Some
 returns-in-Some c =

@@ -2,7 +2,7 @@ use Rattle.std.proofs.Common.{◌≡◌, sym, ◌+◌, set, refl}
 use Rattle.af_runs.specs.Marks.{with_marked}
 use Rattle.af_runs.specs.Runs.{HasKeyOf}
 use Rattle.af_runs.proofs.ChangeLemmas.{with_marked-is_set, with_marked-same}
-use Rattle.af_runs.proofs.RunsLemmas.{busy_order, busy_room, changed, changed_index}
+use Rattle.af_runs.proofs.RunsLemmas.{can_keep, changed, changed_index}
 use Rattle.af_runs.proofs.RunLemmas.{AreRuns-set}
 use Rattle.af_runs.proofs.runs.Runs.mark.Goals as goal
 
@@ -12,23 +12,20 @@ invariant_of-self c =
     let is = c.self.invariant in
     let key : HasKeyOf c.index_mut.result.now c.mark.new.self = rw c.mark.ensures (record { number = refl; dag_id = refl; run_id = refl; date = refl }) in
     let same = changed c.self.inside.rows.items (c.self.inside.last + 1) is.0 c.self.inside.index is.1 c.in-Some.place _ c.index.result.now c.index_mut.result.now _ stands.within c.index.ensures key c.index_mut.ensures.value in
-    let kept = c.keep_busy.ensures.runs c.self.inside.rows.items c.in-Some.place is.1 stands.within same is.0.in_order in (
+    let kept = c.keep_numbers.ensures.runs c.self.inside.rows.items c.in-Some.place is.1 stands.within same is.0.in_order in (
       rw (c.mark.ensures, c.index_mut.ensures.value) (AreRuns-set _ _ _ _ _ refl refl refl refl stands.within is.0),
-      changed_index c.self.inside.rows.items (c.self.inside.last + 1) is.0 c.self.inside.index is.1 c.in-Some.place _ c.index.result.now _ c.keep_busy.new.self stands.within c.index.ensures kept,
-      c.keep_busy.ensures.room c.self.inside.spare is.2,
+      changed_index c.self.inside.rows.items (c.self.inside.last + 1) is.0 c.self.inside.index is.1 c.in-Some.place _ c.index.result.now _ c.keep_numbers.new.self stands.within c.index.ensures kept,
+      c.keep_numbers.ensures.room c.self.inside.spare is.2,
       is.3,
     )
 
-pub keep_busy-requires-clause-in_order : goal.keep_busy-requires-clause-in_order
-keep_busy-requires-clause-in_order c = let is = c.self.invariant in busy_order c.self.inside.rows.items (c.self.inside.last + 1) is.0 c.self.inside.index is.1
-
-pub keep_busy-requires-clause-room : goal.keep_busy-requires-clause-room
-keep_busy-requires-clause-room c =
+pub keep_numbers-requires : goal.keep_numbers-requires
+keep_numbers-requires c =
     let stands = rw (← c.self.view_is) at c.in-Some.ensures in
     let is = c.self.invariant in
     let key : HasKeyOf c.index_mut.result.now c.mark.new.self = rw c.mark.ensures (record { number = refl; dag_id = refl; run_id = refl; date = refl }) in
     let same = changed c.self.inside.rows.items (c.self.inside.last + 1) is.0 c.self.inside.index is.1 c.in-Some.place _ c.index.result.now c.index_mut.result.now _ stands.within c.index.ensures key c.index_mut.ensures.value in
-    busy_room c.self.inside.rows.items (c.self.inside.last + 1) is.0 c.self.inside.index is.1 c.self.inside.spare c.in-Some.place c.index.result.now c.index.result.now is.2 stands.within (same c.index.result.now)
+    can_keep c.self.inside.rows.items (c.self.inside.last + 1) is.0 c.self.inside.index is.1 c.self.inside.spare c.in-Some.place c.index.result.now c.index.result.now is.2 stands.within (same c.index.result.now)
 
 pub returns-in-Some : goal.returns-in-Some
 returns-in-Some c =
