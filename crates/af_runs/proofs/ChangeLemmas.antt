@@ -68,7 +68,7 @@ module _ {X Y : Type 0} (p : X → Bool) (f : X → Y) where
       ∙ ap (λ (l : List Y). map f (filter p (take k xs)) ++ l) (one_kept (p x) x)
 
 module _ (asked : RunFilter) (selection : Selection) where
-  one_listed : (b : Bool) (run : Run) → flat_map (chosen_of selection) (cond b (run ∷ []) []) ≡ cond b (chosen_of selection run) []
+  pub one_listed : (b : Bool) (run : Run) → flat_map (chosen_of selection) (cond b (run ∷ []) []) ≡ cond b (chosen_of selection run) []
   one_listed true run = append-nil (chosen_of selection run)
   one_listed false run = refl
 

@@ -10,6 +10,7 @@ pub mod IndexLemmas
 pub mod MarkLemmas
 pub mod NthLemmas
 pub mod OkLemmas
+pub mod OneRunLemmas
 pub mod PlaceLemmas
 pub mod RunLemmas
 pub mod RunsLemmas

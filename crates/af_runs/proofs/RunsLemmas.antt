@@ -13,7 +13,7 @@ use Rattle.af_runs.specs.Busy.{holds_any, is_busy, with_number}
 use Rattle.af_runs.specs.Chains.{no_row}
 use Rattle.af_runs.specs.Codes.{by_ids}
 use Rattle.af_runs.specs.Index.{CanKeep, HasRoomFor, IsIndex}
-use Rattle.af_runs.specs.Places.{IsMetAt, IsMetNowhere}
+use Rattle.af_runs.specs.Places.{IsMetAt, IsMetNowhere, IsRunAt, IsRunNowhere}
 use Rattle.af_runs.specs.Runs.{AreRuns, HasKeyOf, is_run, run_of, same_ids}
 use Rattle.af_runs.specs.Wanted.{meets}
 use Rattle.af_runs.specs.declared.index.Index.{Index}
@@ -49,6 +49,12 @@ module _ (dag_id run_id : List ℕ) (runs : List Run) (next : ℕ) (are : AreRun
 
   pub found_there : (place : ℕ) (d : Run) → place < length runs → ((e : Run) → is_run dag_id run_id (get_or runs place e) ≡ true) → run_of runs dag_id run_id ≡ Some (get_or runs place d)
   found_there place d within here = find-only (is_run dag_id run_id) runs place d within here (alone place within here)
+
+  pub run_placed : (wanted : Wanted) (found : Option ℕ) → MatchOption found (IsMetNowhere wanted runs) (IsMetAt wanted runs) → ((run : Run) → meets wanted run ≡ is_run dag_id run_id run) → MatchOption found (IsRunNowhere runs dag_id run_id) (IsRunAt runs dag_id run_id)
+  run_placed wanted None nowhere same = record { none = λ j d inside. sym (same (get_or runs j d)) ∙ nowhere.none j d inside }
+  run_placed wanted (Some place) at same =
+      let here : (d : Run) → is_run dag_id run_id (get_or runs place d) ≡ true = λ d. sym (same (get_or runs place d)) ∙ at.here d in
+      record { within = at.within; here = here; alone = alone place at.within here }
 
 -- ---- one that changes, and keeps its number, its ids and its date
 module _ (runs : List Run) (next : ℕ) (are : AreRuns runs next) (index : Index) (is : IsIndex runs index) where

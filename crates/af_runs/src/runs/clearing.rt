@@ -1,4 +1,4 @@
-ghost use Rattle.std.specs.Prelude.{◌≡◌, ◌↔◌, ◌<◌, ◌++◌, ◌||◌, [], IfOk, OnOk, length, not, slice_index_or, slice_set, true, if◌then◌else◌};
+ghost use Rattle.std.specs.Prelude.{◌≡◌, ◌↔◌, ◌<◌, ◌++◌, ◌||◌, [], IfOk, OnOk, Some, length, not, slice_index_or, slice_set, true, if◌then◌else◌};
 ghost use Rattle.af_runs.specs.Clears.{admits, are_left_by, chosen_in, chosen_of, is_left_by, run_after, with_cleared, with_cleared_run};
 
 use crate::chosen_instance::ChosenInstance;
@@ -6,6 +6,7 @@ use crate::run::{Run, list_chosen};
 use crate::run_filter::RunFilter;
 use crate::runs::Runs;
 use crate::selection::Selection;
+use af_names::RunId;
 use std::alloc::{AllocError, Global};
 
 impl Runs {
@@ -62,8 +63,28 @@ impl Runs {
     }
 }
 
-/// Clears the chosen instances of those of these runs that the filter admits. It goes over the runs of the filter's DAG.
+/// Clears the chosen instances of those of these runs that the filter admits.
 fn clear_all(runs: &mut Runs, filter: &RunFilter, selection: &Selection)
+    ensures { runs.new ≡ record runs.old { rows = with_cleared runs.old.rows filter.now selection.now } }
+{
+    match &filter.run_id {
+        Some(run_id) => clear_one(runs, run_id, filter, selection),
+        None => clear_each(runs, filter, selection),
+    }
+}
+
+/// Clears the chosen instances of the run of this id, which alone the filter may admit.
+fn clear_one(runs: &mut Runs, run_id: &RunId, filter: &RunFilter, selection: &Selection)
+    requires { filter.now.run_id ≡ Some run_id.now }
+    ensures { runs.new ≡ record runs.old { rows = with_cleared runs.old.rows filter.now selection.now } }
+{
+    if let Some(place) = runs.place_of_run(&filter.dag_id, run_id) {
+        runs.clear_at(place, filter, selection);
+    }
+}
+
+/// Clears the chosen instances of those of these runs that the filter admits. It goes over the runs of the filter's DAG.
+fn clear_each(runs: &mut Runs, filter: &RunFilter, selection: &Selection)
     ensures { runs.new ≡ record runs.old { rows = with_cleared runs.old.rows filter.now selection.now } }
 {
     let count = runs.count_of(&filter.dag_id);
@@ -74,9 +95,30 @@ fn clear_all(runs: &mut Runs, filter: &RunFilter, selection: &Selection)
     }
 }
 
+/// Whether clearing the chosen instances of those of these runs that the filter admits leaves all as they are.
+fn are_left(runs: &Runs, filter: &RunFilter, selection: &Selection) -> bool
+    ensures { result ≡ are_left_by filter.now selection.now runs.now.rows }
+{
+    match &filter.run_id {
+        Some(run_id) => is_one_left(runs, run_id, filter, selection),
+        None => is_each_left(runs, filter, selection),
+    }
+}
+
+/// Whether clearing the chosen instances of the run of this id, which alone the filter may admit, leaves it as it is.
+fn is_one_left(runs: &Runs, run_id: &RunId, filter: &RunFilter, selection: &Selection) -> bool
+    requires { filter.now.run_id ≡ Some run_id.now }
+    ensures { result ≡ are_left_by filter.now selection.now runs.now.rows }
+{
+    match runs.place_of_run(&filter.dag_id, run_id) {
+        Some(place) => is_left(&runs.rows()[place], filter, selection),
+        None => true,
+    }
+}
+
 /// Whether clearing the chosen instances of those of these runs that the filter admits leaves all as they are. It goes over
 /// the runs of the filter's DAG.
-fn are_left(runs: &Runs, filter: &RunFilter, selection: &Selection) -> bool
+fn is_each_left(runs: &Runs, filter: &RunFilter, selection: &Selection) -> bool
     ensures { result ≡ are_left_by filter.now selection.now runs.now.rows }
 {
     for run in runs.of_dag(&filter.dag_id, 0) {
@@ -94,9 +136,42 @@ fn is_left(run: &Run, filter: &RunFilter, selection: &Selection) -> bool
     !filter.admits(run) || run.is_left_by(selection)
 }
 
+/// The chosen instances of those of these runs that the filter admits. `AllocError` only where a growth was refused.
+fn chosen_in<'a>(
+    alloc: Global,
+    runs: &'a Runs,
+    filter: &RunFilter,
+    selection: &Selection,
+) -> Result<Vec<ChosenInstance<'a>>, AllocError>
+    ensures { IfOk result (λ all. all.items ≡ chosen_in runs.now.rows filter.now selection.now) }
+{
+    match &filter.run_id {
+        Some(run_id) => chosen_in_one(alloc, runs, run_id, filter, selection),
+        None => chosen_in_each(alloc, runs, filter, selection),
+    }
+}
+
+/// The chosen instances of the run of this id, which alone the filter may admit. `AllocError` only where a growth was refused.
+fn chosen_in_one<'a>(
+    alloc: Global,
+    runs: &'a Runs,
+    run_id: &RunId,
+    filter: &RunFilter,
+    selection: &Selection,
+) -> Result<Vec<ChosenInstance<'a>>, AllocError>
+    requires { filter.now.run_id ≡ Some run_id.now }
+    ensures { IfOk result (λ all. all.items ≡ chosen_in runs.now.rows filter.now selection.now) }
+{
+    let mut all = Vec::new(alloc);
+    if let Some(place) = runs.place_of_run(&filter.dag_id, run_id) {
+        list_admitted(filter, &runs.rows()[place], selection, &mut all)?;
+    }
+    Ok(all)
+}
+
 /// The chosen instances of those of these runs that the filter admits. It goes over the runs of the filter's DAG.
 /// `AllocError` only where a growth was refused.
-fn chosen_in<'a>(
+fn chosen_in_each<'a>(
     alloc: Global,
     runs: &'a Runs,
     filter: &RunFilter,

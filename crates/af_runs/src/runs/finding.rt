@@ -1,7 +1,7 @@
 ghost use Rattle.std.specs.Prelude.{◌≡◌, ◌≤◌, MatchOption, drop, length, option_copied, slice_get};
 ghost use Rattle.std.specs.List.{list_any};
 ghost use Rattle.af_runs.specs.Busy.{busy_of, holders_of};
-ghost use Rattle.af_runs.specs.Places.{IsMetAt, IsMetNowhere, IsNthOf};
+ghost use Rattle.af_runs.specs.Places.{IsMetAt, IsMetNowhere, IsNthOf, IsRunAt, IsRunNowhere};
 ghost use Rattle.af_runs.specs.Runs.{AreRuns, instances_of, is_dated, is_run, run_at, run_of, runs_of};
 
 use crate::busy_runs::BusyRuns;
@@ -21,6 +21,15 @@ impl Runs {
     {
         let place = self.place_by(&Wanted::Ids(dag_id, run_id.as_str()))?;
         Some(&self.rows[place])
+    }
+
+    /// Where the run of these ids stands among all rows.
+    pub(crate) fn place_of_run(&self, dag_id: &DagId, run_id: &RunId) -> Option<usize>
+        ensures { MatchOption result (IsRunNowhere self.now.rows dag_id.now run_id.now) (IsRunAt self.now.rows dag_id.now run_id.now) }
+    {
+        // No two runs of a DAG have one id.
+        let _rows = self.rows();
+        self.place_by(&Wanted::Ids(dag_id, run_id.as_str()))
     }
 
     /// The run of this number.

@@ -1,8 +1,8 @@
 use Rattle.std.proofs.Common.{refl, sym, subst, arith, ◌+◌}
 use Rattle.af_runs.specs.Runs.{RunRows}
 use Rattle.af_runs.proofs.DagClearLemmas.{HaveCleared, cleared_all, cleared_more, none_missed}
-use Rattle.af_runs.proofs.runs.clearing.clear_all.Goals as goal
-use Rattle.af_runs.proofs.runs.clearing.clear_all.Goals.{in-Some, in_default}
+use Rattle.af_runs.proofs.runs.clearing.clear_each.Goals as goal
+use Rattle.af_runs.proofs.runs.clearing.clear_each.Goals.{in-Some, in_default}
 
 pub loop-nth-init : goal.loop-nth-init
 loop-nth-init c = (0, (refl, λ k d low. absurd (omega (arith, low)), λ k d high. refl, refl), omega arith, refl)

@@ -5,7 +5,7 @@ use Rattle.af_runs.specs.Runs.{runs_of}
 use Rattle.af_runs.specs.declared.run.Run.{Run}
 use Rattle.af_runs.proofs.ChangeLemmas.{admitted_of_dag}
 use Rattle.af_runs.proofs.ClearLemmas.{left_fails, left_more}
-use Rattle.af_runs.proofs.runs.clearing.are_left.Goals as goal
+use Rattle.af_runs.proofs.runs.clearing.is_each_left.Goals as goal
 
 pub loop-run-init : goal.loop-run-init
 loop-run-init c = rw c.into_iter-run-iterator.ensures.into_iter_gives ([], c.of_dag-run-items.ensures, refl)

@@ -4,7 +4,7 @@ use Rattle.af_runs.specs.Clears.{ChosenRow, admits, chosen_in, chosen_of}
 use Rattle.af_runs.specs.Runs.{runs_of}
 use Rattle.af_runs.specs.declared.run.Run.{Run}
 use Rattle.af_runs.proofs.ChangeLemmas.{admitted_of_dag, chosen-more}
-use Rattle.af_runs.proofs.runs.clearing.chosen_in.Goals as goal
+use Rattle.af_runs.proofs.runs.clearing.chosen_in_each.Goals as goal
 
 pub loop-run-init : goal.loop-run-init
 loop-run-init c = rw c.into_iter-run-iterator.ensures.into_iter_gives ([], c.of_dag-run-items.ensures, search rules)

@@ -2,7 +2,7 @@ use Rattle.std.proofs.Common.{◌≡◌, ◌++◌, List}
 use Rattle.af_runs.specs.Clears.{chosen_in}
 use Rattle.af_runs.specs.Runs.{runs_of}
 use Rattle.af_runs.specs.declared.run.Run.{Run}
-use Rattle.af_runs.proofs.runs.clearing.chosen_in.Given as goal
+use Rattle.af_runs.proofs.runs.clearing.chosen_in_each.Given as goal
 
 abbrev pub invariant-loop-run : goal.invariant-loop-run
 invariant-loop-run l =
