@@ -1,4 +1,4 @@
--- What instances hold of pools, counted one after another. Runs that are not busy hold nothing.
+-- What instances hold of pools, counted one after another. Runs of which none is queued or running hold nothing.
 use Rattle.std.proofs.Common.{◌≡◌, ◌≢◌, ◌<◌, ◌+◌, ◌-◌, ◌∙◌, ℕ, List, [], ◌∷◌, ◌++◌, length, map, get_or, set, take, drop, refl, sym, ap, arith, zero, suc, Bool, true, false, cond, ◌&&◌, ⊎_elim, nat_eq}
 use Rattle.std.specs.Prelude.{◌^◌, ◌||◌, All, Contains, Option, Some, None, filter, find, min}
 use Rattle.std.specs.List.{list_any}
@@ -20,7 +20,7 @@ use Rattle.af_pool.specs.Occupants.{OccupantRow, holds_slots, is_there_in, slots
 use Rattle.af_pool.specs.Pools.{has_pool, name_of, pool_of}
 use Rattle.af_pool.specs.declared.pool.Pool.{Pool}
 use Rattle.af_graph.specs.declared.task_spec.TaskSpec.{TaskSpec}
-use Rattle.af_runs.specs.Busy.{busy_of, holds_any, is_busy, is_held}
+use Rattle.af_runs.specs.Busy.{busy_of, holders_of, holds_any, is_busy, is_held}
 use Rattle.af_runs.specs.declared.instance.Instance.{Instance}
 use Rattle.af_runs.specs.declared.run.Run.{Run}
 use Rattle.af_sched.specs.Counting.{CountsMore, count_of, counts_of, with_slots}
@@ -176,7 +176,7 @@ module _ (x : Placed) (pools : List Pool) (counts : List Held) where
       ap (λ (all : List Held). set all place (with_slots x.instance.state x.task.pool_slots (get_or all place d))) are
       ∙ push_some seen x pools place d stands.within stands.here stands.alone
 
--- ---- runs that are not busy
+-- ---- runs of which no instance is queued or running
 not_state : (s : TaskState) → is_held s ≡ false → (same_state s task_state.Queued ≡ false) × (same_state s task_state.Running ≡ false)
 not_state task_state.NoStatus not = (refl, refl)
 not_state task_state.Scheduled not = (refl, refl)
@@ -188,54 +188,37 @@ not_state task_state.Skipped not = (refl, refl)
 not_state task_state.UpstreamFailed not = (refl, refl)
 not_state task_state.UpForRetry not = (refl, refl)
 
--- a run of which no instance is queued or running
-pub nothing_held : (tasks : List TaskSpec) (run : Run) (pools : List Pool) (counts : List Held) → holds_any run ≡ false → CountsMore (placed_of tasks run) pools counts counts
-nothing_held tasks run pools counts none seen are = are ∙ sym (all pools)
-  where
-    apart : (x : Placed) → Contains (placed_of tasks run) x → is_held x.instance.state ≡ false
-    apart x has = none_placed (λ (instance : Instance). is_held instance.state) tasks run none x has
-
-    same : (state : TaskState) (name : List ℕ) → ((s : TaskState) → is_held s ≡ false → same_state s state ≡ false) → slots_in state name (map occupant_of (seen ++ placed_of tasks run)) ≡ slots_in state name (map occupant_of seen)
-    same state name other =
-        let both = slots_append state name seen (placed_of tasks run) in
-        let nothing = slots_none state name (placed_of tasks run) (λ x has. other x.instance.state (apart x has)) in
-        omega (arith, both, nothing)
-
-    all : (ps : List Pool) → counts_of (seen ++ placed_of tasks run) ps ≡ counts_of seen ps
-    all [] = refl
-    all (pool ∷ ps) =
-        λ i. told (same task_state.Queued pool.name (λ s not. (not_state s not).0) i) (same task_state.Running pool.name (λ s not. (not_state s not).1) i) ∷ all ps i
-
-module _ (dags : List DagRow) (name : List ℕ) where
+-- where each run that fails a test holds nothing, those that pass hold all
+module _ (test : Run → Bool) (still : (run : Run) → test run ≡ false → holds_any run ≡ false) (dags : List DagRow) (name : List ℕ) where
   abbrev of_run : Run → List Placed
   of_run run = placed_of (tasks_of dags run.dag_id) run
 
-  not_held : (run : Run) → is_busy run ≡ false → (x : Placed) → Contains (of_run run) x → is_held x.instance.state ≡ false
-  not_held run still x has = none_placed (λ (instance : Instance). is_held instance.state) (tasks_of dags run.dag_id) run (idle_not_held run still) x has
+  not_held : (run : Run) → test run ≡ false → (x : Placed) → Contains (of_run run) x → is_held x.instance.state ≡ false
+  not_held run fails x has = none_placed (λ (instance : Instance). is_held instance.state) (tasks_of dags run.dag_id) run (still run fails) x has
 
   module _ (state : TaskState) (apart : (s : TaskState) → is_held s ≡ false → same_state s state ≡ false) where
     abbrev slots : List Placed → ℕ
     slots xs = slots_in state name (map occupant_of xs)
 
-    with_run : (run : Run) (runs : List Run) (b : Bool) → is_busy run ≡ b → slots (placed_in dags (busy_of runs)) ≡ slots (placed_in dags runs) → slots (placed_in dags (cond b (run ∷ busy_of runs) (busy_of runs))) ≡ slots (of_run run ++ placed_in dags runs)
+    with_run : (run : Run) (runs : List Run) (b : Bool) → test run ≡ b → slots (placed_in dags (filter test runs)) ≡ slots (placed_in dags runs) → slots (placed_in dags (cond b (run ∷ filter test runs) (filter test runs))) ≡ slots (of_run run ++ placed_in dags runs)
     with_run run runs true is same =
-        slots_append state name (of_run run) (placed_in dags (busy_of runs)) ∙ ap (λ n. slots (of_run run) + n) same ∙ sym (slots_append state name (of_run run) (placed_in dags runs))
-    with_run run runs false still same =
-        let none = slots_none state name (of_run run) (λ x has. apart x.instance.state (not_held run still x has)) in
+        slots_append state name (of_run run) (placed_in dags (filter test runs)) ∙ ap (λ n. slots (of_run run) + n) same ∙ sym (slots_append state name (of_run run) (placed_in dags runs))
+    with_run run runs false fails same =
+        let none = slots_none state name (of_run run) (λ x has. apart x.instance.state (not_held run fails x has)) in
         let both = slots_append state name (of_run run) (placed_in dags runs) in
         omega (arith, none, both, same)
 
-    slots_busy : (runs : List Run) → slots (placed_in dags (busy_of runs)) ≡ slots (placed_in dags runs)
-    slots_busy [] = refl
-    slots_busy (run ∷ runs) = with_run run runs (is_busy run) refl (slots_busy runs)
+    slots_those : (runs : List Run) → slots (placed_in dags (filter test runs)) ≡ slots (placed_in dags runs)
+    slots_those [] = refl
+    slots_those (run ∷ runs) = with_run run runs (test run) refl (slots_those runs)
 
-  pub count_busy : (runs : List Run) → count_of (placed_in dags (busy_of runs)) name ≡ count_of (placed_in dags runs) name
-  count_busy runs =
-      λ i. told (slots_busy task_state.Queued (λ s not. (not_state s not).0) runs i) (slots_busy task_state.Running (λ s not. (not_state s not).1) runs i)
+  count_those : (runs : List Run) → count_of (placed_in dags (filter test runs)) name ≡ count_of (placed_in dags runs) name
+  count_those runs =
+      λ i. told (slots_those task_state.Queued (λ s not. (not_state s not).0) runs i) (slots_those task_state.Running (λ s not. (not_state s not).1) runs i)
 
-pub counts_busy : (dags : List DagRow) (runs : List Run) (pools : List Pool) → counts_of (placed_in dags (busy_of runs)) pools ≡ counts_of (placed_in dags runs) pools
-counts_busy dags runs [] = refl
-counts_busy dags runs (pool ∷ pools) = λ i. count_busy dags pool.name runs i ∷ counts_busy dags runs pools i
+pub counts_holders : (dags : List DagRow) (runs : List Run) (pools : List Pool) → counts_of (placed_in dags (holders_of runs)) pools ≡ counts_of (placed_in dags runs) pools
+counts_holders dags runs [] = refl
+counts_holders dags runs (pool ∷ pools) = λ i. count_those holds_any (λ run fails. fails) dags pool.name runs i ∷ counts_holders dags runs pools i
 
 -- ---- pools that are there
 module _ (state : StateRows) where
@@ -252,6 +235,9 @@ module _ (state : StateRows) where
       absent : (pools : List Pool) → pool_of pools name ≡ None → has_pool pools name ≡ false
       absent [] none = refl
       absent (pool ∷ pools) none = by pool (has_key name_of name pool) (has_pool pools name) (pool_of pools name) (absent pools) none
+
+  none_there : (name : List ℕ) → has_pool state.pools name ≡ false → held_of state name ≡ record { queued = 0; running = 0 }
+  none_there name absent = rw absent refl
 
   -- what is found by a name has it, and is there
   found : (name : List ℕ) (pools : List Pool) (pool : Pool) → pool_of pools name ≡ Some pool → (pool.name ≡ name) × (has_pool pools name ≡ true)
@@ -283,6 +269,20 @@ module _ (state : StateRows) where
   page_counts limit offset =
       all_held (take limit (drop offset state.pools))
       (All-take (λ (pool : Pool). has_pool state.pools pool.name ≡ true) limit (drop offset state.pools) (All-drop (λ (pool : Pool). has_pool state.pools pool.name ≡ true) offset state.pools each_there))
+
+-- ---- the runs that pass such a test hold all that is told
+held_those : (test : Run → Bool) → ((run : Run) → test run ≡ false → holds_any run ≡ false) → (state : StateRows) (name : List ℕ) → held_of (record state { runs = filter test state.runs }) name ≡ held_of state name
+held_those test still state name =
+    ⊎_elim
+    (λ (there : has_pool state.pools name ≡ true). sym (held_there (record state { runs = filter test state.runs }) name there) ∙ count_those test still state.dags name state.runs ∙ held_there state name there)
+    (λ (absent : has_pool state.pools name ≡ false). none_there (record state { runs = filter test state.runs }) name absent ∙ sym (none_there state name absent))
+    (cases_Bool (has_pool state.pools name))
+
+pub held_busy : (state : StateRows) (name : List ℕ) → held_of (record state { runs = busy_of state.runs }) name ≡ held_of state name
+held_busy = held_those is_busy idle_not_held
+
+pub held_holders : (state : StateRows) (name : List ℕ) → held_of (record state { runs = holders_of state.runs }) name ≡ held_of state name
+held_holders = held_those holds_any (λ run fails. fails)
 
 -- ---- a page of pools in order is in order
 order_drop : (n : ℕ) (pools : List Pool) → AreInOrder name_of pools → AreInOrder name_of (drop n pools)

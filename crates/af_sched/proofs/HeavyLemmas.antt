@@ -1,5 +1,5 @@
 -- No instance of a later run comes before one of a task that is as heavy as any.
-use Rattle.std.proofs.Common.{◌≡◌, ◌+◌, ◌∙◌, ℕ, ℤ, List, [], ◌∷◌, ◌++◌, map, get_or, refl, sym, ap, subst, arith, zero, suc, false, true, ⊎_elim, append-nil}
+use Rattle.std.proofs.Common.{◌≡◌, ◌+◌, ◌∙◌, ℕ, ℤ, List, [], ◌∷◌, ◌++◌, map, get_or, refl, sym, ap, subst, arith, zero, suc, false, true, ⊎_elim}
 use Rattle.std.specs.Prelude.{Contains, insert, Option, Some, None, zip}
 use Rattle.std.specs.Int.Signed.{◌≤ℤ◌, ◌<ℤ◌, <ℤ-≤ℤ_trans, clash_ℤ}
 use Rattle.std.specs.List.{AllByRecursion, enumerate_from}
@@ -13,10 +13,10 @@ use Rattle.std.proofs.lemmas.Cmp.{int_ranked}
 use Rattle.std.proofs.lemmas.Int.{by_lt_z}
 use Rattle.std.proofs.lemmas.Grind.{flat_map-append}
 use Rattle.std.proofs.lemmas.List.Elements.{All-nil, All-cons, Contains-append_left, Contains-append_cases}
-use Rattle.af_names.proofs.OrderLemmas.{All-inserted}
+use Rattle.af_names.proofs.OrderLemmas.{All-inserted, order-filter}
 use Rattle.af_graph.specs.declared.dag_spec.DagSpec.{DagSpec}
 use Rattle.af_graph.specs.declared.task_spec.TaskSpec.{TaskSpec}
-use Rattle.af_runs.specs.Busy.{busy_of}
+use Rattle.af_runs.specs.Busy.{holders_of, holds_any}
 use Rattle.af_runs.specs.declared.instance.Instance.{Instance}
 use Rattle.af_runs.specs.declared.run.Run.{Run}
 use Rattle.af_sched.specs.Claims.{is_claimable}
@@ -24,8 +24,7 @@ use Rattle.af_sched.specs.Placed.{Placed, IsFirst, IsFirstOf, comes_before, plac
 use Rattle.af_sched.specs.State.{is_of_id, tasks_of}
 use Rattle.af_sched.specs.Weights.{IsAsHeavy, NoTaskIsHeavier, NoneIsHeavier}
 use Rattle.af_sched.specs.declared.dag_row.DagRow.{DagRow}
-use Rattle.af_sched.proofs.BusyLemmas.{order_busy}
-use Rattle.af_sched.proofs.BusyPlacedLemmas.{first_of_busy}
+use Rattle.af_sched.proofs.HolderPlacedLemmas.{first_of_holders}
 use Rattle.af_sched.proofs.LikeLemmas.{SameDags}
 use Rattle.af_sched.proofs.PlacedLemmas.{run_of_placed}
 
@@ -136,11 +135,11 @@ heavy_first weight dags seen rest first light order heavy is =
           (Contains-append_cases (placed_in dags seen) (placed_in dags rest) other has);
     })
 
--- such an instance comes first among those of all runs, where it does among the first of the busy ones
-pub ends_early : (weight : ℤ) (dags : List DagRow) (runs seen rest : List Run) (first : Option Placed) → NoneIsHeavier weight dags → IsStrictlySortedBy nat_cmp (numbers runs) → seen ++ rest ≡ busy_of runs → IsAsHeavy weight first → IsFirstOf is_claimable (placed_in dags seen) first → IsFirstOf is_claimable (placed_in dags runs) first
+-- such an instance comes first among those of all runs, where it does among the first of those that hold slots
+pub ends_early : (weight : ℤ) (dags : List DagRow) (runs seen rest : List Run) (first : Option Placed) → NoneIsHeavier weight dags → IsStrictlySortedBy nat_cmp (numbers runs) → seen ++ rest ≡ holders_of runs → IsAsHeavy weight first → IsFirstOf is_claimable (placed_in dags seen) first → IsFirstOf is_claimable (placed_in dags runs) first
 ends_early weight dags runs seen rest None light order whole heavy is = absurd heavy
 ends_early weight dags runs seen rest (Some first) light order whole heavy is =
-    let busy : IsStrictlySortedBy nat_cmp (numbers (busy_of runs ++ [])) = order_busy runs [] (subst (λ (all : List Run). IsStrictlySortedBy nat_cmp (numbers all)) (sym (append-nil runs)) order) in
-    let sorted : IsStrictlySortedBy nat_cmp (numbers (seen ++ rest)) = subst (λ (all : List Run). IsStrictlySortedBy nat_cmp (numbers all)) (append-nil (busy_of runs) ∙ sym whole) busy in
-    first_of_busy dags runs (Some first)
+    let holders : IsStrictlySortedBy nat_cmp (numbers (holders_of runs)) = order-filter (λ (run : Run). run.number) nat_cmp_total holds_any runs order in
+    let sorted : IsStrictlySortedBy nat_cmp (numbers (seen ++ rest)) = subst (λ (all : List Run). IsStrictlySortedBy nat_cmp (numbers all)) (sym whole) holders in
+    first_of_holders dags runs (Some first)
     (subst (λ (all : List Run). IsFirst is_claimable (placed_in dags all) first) whole (heavy_first weight dags seen rest first light sorted heavy is))

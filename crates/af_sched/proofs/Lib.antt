@@ -1,6 +1,5 @@
 mod AdvanceLemmas
 mod BusyLemmas
-mod BusyPlacedLemmas
 mod CandidateLemmas
 mod ChoosingLemmas
 mod ClaimLemmas
@@ -12,6 +11,7 @@ mod FillLemmas
 mod FittingLemmas
 mod FrameLemmas
 mod HeavyLemmas
+mod HolderPlacedLemmas
 mod IdleLemmas
 mod KeyLemmas
 mod LikeLemmas

@@ -3,6 +3,7 @@ use Rattle.std.specs.Prelude.{ℕ, ◌≡◌, ◌≤◌, ◌↔◌, ◌&&◌, Li
 use Rattle.af_graph.specs.Definition.{fault_of}
 use Rattle.af_graph.specs.declared.task_spec.TaskSpec.{TaskSpec}
 use Rattle.af_pool.specs.Pools.{slots_of}
+use Rattle.af_runs.specs.Busy.{busy_of, holders_of}
 use Rattle.af_runs.specs.Runs.{AreRuns, is_finished, without_run}
 use Rattle.af_runs.specs.declared.instance.Instance.{Instance}
 use Rattle.af_runs.specs.declared.run.Run.{Run}
@@ -11,6 +12,7 @@ use Rattle.af_sched.specs.Create.{runs_of_row}
 use Rattle.af_sched.specs.Due.{moved_cursor, taken_points}
 use Rattle.af_sched.specs.Finish.{ends}
 use Rattle.af_sched.specs.Placed.{Placed, placed_in}
+use Rattle.af_sched.specs.Holding.{held_of}
 use Rattle.af_sched.specs.Queue.{Queues, finds_room, may_queue, occupied}
 use Rattle.af_sched.specs.Reports.{report_fault}
 use Rattle.af_sched.specs.Settle.{SettlesInstances, Settles, is_live}
@@ -88,3 +90,9 @@ ClaimIsOne =
 abbrev pub ClaimTellsTheNext : Type 0
 ClaimTellsTheNext =
     (t : ℕ) (old new : StateRows) (next told : Option Claim) → AreRuns old.runs old.next_run → IsNextClaim old next → IsClaim t old new told → next ≡ told
+
+-- the slots that are held are those which the runs hold of which an instance is queued or running, and those which the busy runs
+-- hold: no other run holds any
+abbrev pub HoldersHoldAllSlots : Type 0
+HoldersHoldAllSlots =
+    (state : StateRows) (name : List ℕ) → (held_of (record state { runs = holders_of state.runs }) name ≡ held_of state name) × (held_of (record state { runs = busy_of state.runs }) name ≡ held_of state name)

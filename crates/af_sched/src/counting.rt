@@ -4,7 +4,6 @@ ghost use Rattle.af_pool.specs.Occupants.{holds_slots};
 ghost use Rattle.af_pool.specs.Pools.{name_of};
 ghost use Rattle.af_sched.specs.Counting.{CountsMore, counts_of, with_slots};
 ghost use Rattle.af_sched.specs.Placed.{placed_in, placed_of};
-ghost use Rattle.af_sched.specs.State.{tasks_of};
 
 use crate::dags::Dags;
 use crate::held::Held;
@@ -16,7 +15,7 @@ use af_runs::{Run, Runs};
 use std::alloc::{AllocError, Global};
 
 /// What the instances of these runs hold of each of these pools. `AllocError` only where a growth was refused. It goes over
-/// the busy runs once, and finds the pool of each queued or running instance by binary search.
+/// the runs that hold slots once, and finds the pool of each queued or running instance by binary search.
 pub(crate) fn counts_of(
     alloc: Global,
     dags: &Dags<'_>,
@@ -38,25 +37,13 @@ fn no_counts(alloc: Global, pools: &[Pool]) -> Result<Vec<Held>, AllocError>
     pools.iter().map(|_pool| Held::NONE).collect(alloc)
 }
 
-/// Counts the instances of these runs, where none was counted. Those of runs that are not busy hold nothing.
+/// Counts the instances of these runs, where none was counted. It goes over the runs that hold slots alone.
 pub(crate) fn count_runs(dags: &Dags<'_>, runs: &Runs, pools: &[Pool], counts: &mut [Held])
     requires in_order { AreInOrder name_of pools.now }
     requires none { counts.old ≡ counts_of [] pools.now }
     ensures { counts.new ≡ counts_of (placed_in dags.now runs.now.rows) pools.now }
 {
-    for run in runs.busy() {
-        count_busy(dags, run, pools, counts);
-    }
-}
-
-/// Counts the instances of a run. Its DAG is looked up only where one of them holds slots.
-fn count_busy(dags: &Dags<'_>, run: &Run, pools: &[Pool], counts: &mut [Held])
-    requires in_order { AreInOrder name_of pools.now }
-    requires long { length counts.old ≡ length pools.now }
-    ensures counts { CountsMore (placed_of (tasks_of dags.now run.now.dag_id) run.now) pools.now counts.old counts.new }
-    ensures long { length counts.new ≡ length pools.now }
-{
-    if run.holds_any() {
+    for run in runs.holders() {
         count_run(dags.tasks_of(&run.dag_id), run, pools, counts);
     }
 }

@@ -1,4 +1,4 @@
-ghost use Rattle.af_sched.specs.Laws.{ClaimIsOne, ClaimTellsTheNext, EndedRunsStay, NoPointIsTakenTwice, NothingChangesExactlyWhereNothingIsDue, QueuedStateIsOne, ReportsOfRemovedRunsFindNone, SettlingIsOne, SettledStateIsOne, SlotsAreKept, TickIsOne, TickKeepsRows};
+ghost use Rattle.af_sched.specs.Laws.{ClaimIsOne, ClaimTellsTheNext, EndedRunsStay, HoldersHoldAllSlots, NoPointIsTakenTwice, NothingChangesExactlyWhereNothingIsDue, QueuedStateIsOne, ReportsOfRemovedRunsFindNone, SettlingIsOne, SettledStateIsOne, SlotsAreKept, TickIsOne, TickKeepsRows};
 
 /// The trigger rules decide in one way what becomes of a run's instances, since no definition has a cycle.
 pub fn settling_is_one()
@@ -58,4 +58,9 @@ pub fn reports_of_removed_runs_find_none()
 /// A claim at any moment tells what was told before it.
 pub fn a_claim_tells_the_next()
     ensures { ClaimTellsTheNext }
+{}
+
+/// The runs of which an instance is queued or running hold all slots that are held, and so do the busy runs.
+pub fn the_holders_hold_all_slots()
+    ensures { HoldersHoldAllSlots }
 {}

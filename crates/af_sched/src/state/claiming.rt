@@ -48,15 +48,15 @@ impl State {
     }
 }
 
-/// Of the instances that may be claimed, the first in the order. Only busy runs have any, and they come by number: none comes
-/// before one that is as heavy as any task.
+/// Of the instances that may be claimed, the first in the order. Only runs that hold slots have any, and they come by
+/// number: none comes before one that is as heavy as any task.
 fn first_claimable<'a>(dags: &Dags<'a>, runs: &'a Runs) -> Option<PlacedInstance<'a>>
     ensures { IsFirstOf is_claimable (placed_in dags.now runs.now.rows) result }
 {
     // Numbers rise.
     let _rows = runs.rows();
     let mut first = None;
-    for run in runs.busy() {
+    for run in runs.holders() {
         first = first_after(first, dags, run);
         if is_as_heavy(first.as_ref(), dags.heaviest()) {
             return first;

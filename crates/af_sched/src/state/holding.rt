@@ -10,7 +10,8 @@ use std::alloc::{AllocError, Global};
 use std::slice;
 
 impl State {
-    /// The slots of the pool of this name that instances hold; none where there is no such pool. It goes over the busy runs.
+    /// The slots of the pool of this name that instances hold; none where there is no such pool. It goes over
+    /// the runs that hold slots.
     pub fn held(&self, name: &PoolName) -> Held
         ensures { result ≡ held_of self.now.rows name.now }
     {
@@ -28,7 +29,7 @@ impl State {
     }
 
     /// The slots of each pool of a page that instances hold: of so many of the pools, in order, after so many. It goes over
-    /// the busy runs once. `AllocError` only where a growth was refused.
+    /// the runs that hold slots once. `AllocError` only where a growth was refused.
     pub fn each_held(
         &self,
         alloc: Global,

@@ -1,5 +1,5 @@
 use Rattle.std.proofs.Common.{◌≡◌, ◌++◌, List}
-use Rattle.af_runs.specs.Busy.{busy_of}
+use Rattle.af_runs.specs.Busy.{holders_of}
 use Rattle.af_runs.specs.declared.run.Run.{Run}
 use Rattle.af_sched.specs.Counting.{counts_of}
 use Rattle.af_sched.specs.Placed.{placed_in}
@@ -7,4 +7,4 @@ use Rattle.af_sched.proofs.counting.count_runs.Given as goal
 
 abbrev pub invariant-loop-run : goal.invariant-loop-run
 invariant-loop-run l =
-    (seen : List Run) × (seen ++ l.run-iterator ≡ busy_of l.runs.rows) × (l.counts ≡ counts_of (placed_in l.dags seen) l.pools)
+    (seen : List Run) × (seen ++ l.run-iterator ≡ holders_of l.runs.rows) × (l.counts ≡ counts_of (placed_in l.dags seen) l.pools)
