@@ -8,6 +8,7 @@ use Rattle.std.specs.declared.cmp.Ordering.{Ordering}
 use Rattle.std.specs.declared.cmp.Ordering.TheVariants.{Less, Equal, Greater}
 use Rattle.std.specs.Cmp.Lexicographic.{slice_cmp, texts_ties}
 use Rattle.std.proofs.lemmas.Cmp.{nat_list_cmp_total}
+use Rattle.std.proofs.lemmas.List.{append_assoc}
 use Rattle.std.proofs.lemmas.List.Folds.{find-append}
 use Rattle.std.proofs.lemmas.List.Elements.{filter-append}
 use Rattle.std.proofs.lemmas.Map.Lookups.{exact_bytes}
@@ -58,6 +59,10 @@ all_filter P p (x ∷ xs) all = step (p x) (all_filter P p xs all.1)
     step true later = (all.0, later)
     step false later = later
 
+pub append_nil : {X : Type 0} (xs : List X) → xs ++ [] ≡ xs
+append_nil [] = refl
+append_nil (x ∷ xs) = ap (λ ys. x ∷ ys) (append_nil xs)
+
 option_or-None : {X : Type 0} (o : Option X) → option_or o None ≡ o
 option_or-None None = refl
 option_or-None (Some x) = refl
@@ -88,6 +93,18 @@ module _ {T : Type 0} (key : T → List ℕ) where
         above = later.above;
         right = later.right;
       }
+
+  pub ascend_front : (l r : List T) → Ascend key (l ++ r) → Ascend key l
+  unfolding IsStrictlySortedBy
+  ascend_front [] r s = tt
+  ascend_front (y ∷ l) r s =
+      let all = all_from_map (λ k. slice_cmp nat_cmp (key y) k ≡ Less) key (l ++ r) s.0
+      in (all_map (λ k. slice_cmp nat_cmp (key y) k ≡ Less) key l (all_left (λ z. slice_cmp nat_cmp (key y) (key z) ≡ Less) l r all), ascend_front l r s.1)
+
+  pub ascend_back : (l r : List T) → Ascend key (l ++ r) → Ascend key r
+  unfolding IsStrictlySortedBy
+  ascend_back [] r s = s
+  ascend_back (y ∷ l) r s = ascend_back l r s.1
 
   -- no row has the key
   abbrev NoneHas : List ℕ → List T → Type 0
@@ -151,6 +168,30 @@ module _ {T : Type 0} (key : T → List ℕ) where
     without_right e = sym (filter-append (λ row. not (same_key k (key row))) l (x ∷ r)
         ∙ (λ i. keeps_all k l (none_on_left e) i ++ cond (not (is_other e i)) (x ∷ without key r k) (without key r k)))
 
+  -- rows that are cut at one of them
+  module _ (rows low high : List T) (x : T) (above : List T) (is : rows ≡ low ++ high) (has : high ≡ x ∷ above) (s : Ascend key rows) where
+    whole : rows ≡ low ++ x ∷ above
+    whole = is ∙ ap (λ rs. low ++ rs) has
+
+    cut : Stands low x above
+    cut = stands low x above (subst (Ascend key) whole s)
+
+    pub ascend_low : Ascend key low
+    ascend_low = cut.left
+
+    pub ascend_above : Ascend key above
+    ascend_above = cut.right
+
+    module _ (k : List ℕ) where
+      pub found_low : slice_cmp nat_cmp k (key x) ≡ Less → found key low k ≡ found key rows k
+      found_low e = found_left low x above cut k e ∙ ap (λ rs. found key rs k) (sym whole)
+
+      pub found_at_cut : slice_cmp nat_cmp k (key x) ≡ Equal → Some x ≡ found key rows k
+      found_at_cut e = found_here low x above cut k e ∙ ap (λ rs. found key rs k) (sym whole)
+
+      pub found_above : slice_cmp nat_cmp k (key x) ≡ Greater → found key above k ≡ found key rows k
+      found_above e = found_right low x above cut k e ∙ ap (λ rs. found key rs k) (sym whole)
+
   -- ---- one more row
 
   pub with_left : (row : T) (l : List T) (x : T) (r : List T) → slice_cmp nat_cmp (key row) (key x) ≡ Less → with_row key l row ++ x ∷ r ≡ with_row key (l ++ x ∷ r) row
@@ -163,20 +204,62 @@ module _ {T : Type 0} (key : T → List ℕ) where
       step Greater later = ap (λ ys. y ∷ ys) later
 
   -- rows that all stand before it stay in front
-  past : (row : T) (l rest : List T) → AllByRecursion (λ y. slice_cmp nat_cmp (key y) (key row) ≡ Less) l → l ++ with_row key rest row ≡ with_row key (l ++ rest) row
-  past row [] rest all = refl
-  past row (y ∷ l) rest all = sym (ap (λ o. match_ordering o (row ∷ y ∷ l ++ rest) (row ∷ l ++ rest) (y ∷ with_row key (l ++ rest) row)) (greater_from_less (key y) (key row) all.0) ∙ ap (λ ys. y ∷ ys) (sym (past row l rest all.1)))
+  pub with_past : (row : T) (l rest : List T) → AllByRecursion (λ y. slice_cmp nat_cmp (key y) (key row) ≡ Less) l → l ++ with_row key rest row ≡ with_row key (l ++ rest) row
+  with_past row [] rest all = refl
+  with_past row (y ∷ l) rest all = sym (ap (λ o. match_ordering o (row ∷ y ∷ l ++ rest) (row ∷ l ++ rest) (y ∷ with_row key (l ++ rest) row)) (greater_from_less (key y) (key row) all.0) ∙ ap (λ ys. y ∷ ys) (sym (with_past row l rest all.1)))
+
+  -- rows that all stand behind it stay behind
+  pub with_within : (row : T) (l rest : List T) → AllByRecursion (λ y. slice_cmp nat_cmp (key row) (key y) ≡ Less) rest → with_row key l row ++ rest ≡ with_row key (l ++ rest) row
+  with_within row [] [] all = refl
+  with_within row [] (x ∷ rest) all = sym (ap (λ o. match_ordering o (row ∷ x ∷ rest) (row ∷ rest) (x ∷ with_row key rest row)) all.0)
+  with_within row (y ∷ l) rest all = step (slice_cmp nat_cmp (key row) (key y)) (with_within row l rest all)
+    where
+      step : (o : Ordering) → with_row key l row ++ rest ≡ with_row key (l ++ rest) row → match_ordering o (row ∷ y ∷ l) (row ∷ l) (y ∷ with_row key l row) ++ rest ≡ match_ordering o (row ∷ y ∷ l ++ rest) (row ∷ l ++ rest) (y ∷ with_row key (l ++ rest) row)
+      step Less later = refl
+      step Equal later = refl
+      step Greater later = ap (λ ys. y ∷ ys) later
+
+  pub without_same : (k : List ℕ) (rows : List T) (x : T) (xs : List T) → rows ≡ x ∷ xs → true ≡ same_key k (key x) → without key xs k ≡ without key rows k
+  without_same k rows x xs is e = ap (λ b. cond (not b) (x ∷ without key xs k) (without key xs k)) e ∙ ap (λ rs. without key rs k) (sym is)
+
+  pub without_other : (k : List ℕ) (rows : List T) (x : T) (xs : List T) → rows ≡ x ∷ xs → false ≡ same_key k (key x) → x ∷ without key xs k ≡ without key rows k
+  without_other k rows x xs is e = ap (λ b. cond (not b) (x ∷ without key xs k) (without key xs k)) e ∙ ap (λ rs. without key rs k) (sym is)
+
+  pub without_past : (k : List ℕ) (l rest : List T) → AllByRecursion (λ y. slice_cmp nat_cmp (key y) k ≡ Less) l → l ++ without key rest k ≡ without key (l ++ rest) k
+  without_past k l rest all = sym (filter-append (λ row. not (same_key k (key row))) l rest ∙ ap (λ ys. ys ++ without key rest k) (keeps_all k l (none_from_greater k l all)))
+
+  pub without_within : (k : List ℕ) (l rest : List T) → AllByRecursion (λ y. slice_cmp nat_cmp k (key y) ≡ Less) rest → without key l k ++ rest ≡ without key (l ++ rest) k
+  without_within k l rest all = sym (filter-append (λ row. not (same_key k (key row))) l rest ∙ ap (λ ys. without key l k ++ ys) (keeps_all k rest (none_from_less k rest all)))
+
+  -- a key above the last of some rows is above all of them; else it is below all that follow
+  pub all_past : (k : List ℕ) (rows l : List T) (x : T) → rows ≡ l ++ x ∷ [] → Ascend key rows → slice_cmp nat_cmp k (key x) ≡ Greater → AllByRecursion (λ y. slice_cmp nat_cmp (key y) k ≡ Less) rows
+  all_past k rows l x is s e =
+      let at = stands l x [] (subst (Ascend key) is s)
+      in subst (λ rs. AllByRecursion (λ y. slice_cmp nat_cmp (key y) k ≡ Less) rs) (sym is)
+      (all_append (λ y. slice_cmp nat_cmp (key y) k ≡ Less) l (x ∷ [])
+      (all_imp (λ y f. nat_list_cmp_total.trans (key y) (key x) k f (less_from_greater k (key x) e)) l at.below)
+      (less_from_greater k (key x) e, tt))
+
+  module _ (k : List ℕ) (rows l : List T) (x : T) (rest : List T) (is : rows ≡ l ++ x ∷ []) (s : Ascend key (rows ++ rest)) where
+    last : Stands l x rest
+    last = stands l x rest (subst (Ascend key) (append_assoc l (x ∷ []) rest) (subst (λ rs. Ascend key (rs ++ rest)) is s))
+
+    pub all_behind_less : slice_cmp nat_cmp k (key x) ≡ Less → AllByRecursion (λ y. slice_cmp nat_cmp k (key y) ≡ Less) rest
+    all_behind_less e = all_imp (λ y f. nat_list_cmp_total.trans k (key x) (key y) e f) rest last.above
+
+    pub all_behind_equal : slice_cmp nat_cmp k (key x) ≡ Equal → AllByRecursion (λ y. slice_cmp nat_cmp k (key y) ≡ Less) rest
+    all_behind_equal e = subst (λ n. AllByRecursion (λ y. slice_cmp nat_cmp n (key y) ≡ Less) rest) (sym (exact_bytes k (key x) e)) last.above
 
   module _ (row : T) (l : List T) (x : T) (r : List T) (s : Stands l x r) where
     pub with_here : slice_cmp nat_cmp (key row) (key x) ≡ Equal → l ++ row ∷ r ≡ with_row key (l ++ x ∷ r) row
     with_here e =
         ap (λ ys. l ++ ys) (sym (ap (λ o. match_ordering o (row ∷ x ∷ r) (row ∷ r) (x ∷ with_row key r row)) e))
-        ∙ past row l (x ∷ r) (subst (λ n. AllByRecursion (λ y. slice_cmp nat_cmp (key y) n ≡ Less) l) (sym (exact_bytes (key row) (key x) e)) s.below)
+        ∙ with_past row l (x ∷ r) (subst (λ n. AllByRecursion (λ y. slice_cmp nat_cmp (key y) n ≡ Less) l) (sym (exact_bytes (key row) (key x) e)) s.below)
 
     pub with_right : slice_cmp nat_cmp (key row) (key x) ≡ Greater → l ++ x ∷ with_row key r row ≡ with_row key (l ++ x ∷ r) row
     with_right e =
         ap (λ ys. l ++ ys) (sym (ap (λ o. match_ordering o (row ∷ x ∷ r) (row ∷ r) (x ∷ with_row key r row)) e))
-        ∙ past row l (x ∷ r) (all_imp (λ y f. nat_list_cmp_total.trans (key y) (key x) (key row) f (less_from_greater (key row) (key x) e)) l s.below)
+        ∙ with_past row l (x ∷ r) (all_imp (λ y f. nat_list_cmp_total.trans (key y) (key x) (key row) f (less_from_greater (key row) (key x) e)) l s.below)
 
   -- ---- the order stays
 

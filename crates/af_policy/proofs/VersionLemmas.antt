@@ -1,5 +1,5 @@
 -- A list of versions with one more, and what a refused change is told as.
-use Rattle.std.proofs.Common.{◌≡◌, ◌⊎◌, ◌≤◌, ℕ, length, true, cond, le-leb, List, [], ◌∷◌, ◌++◌, Option, Some, None, Result, Ok, Err, refl, sym, ap, subst, ⊎_elim}
+use Rattle.std.proofs.Common.{◌≡◌, ◌⊎◌, ◌≤◌, ℕ, length, true, cond, nat_le, le-leb, List, [], ◌∷◌, ◌++◌, Option, Some, None, Result, Ok, Err, refl, sym, ap, subst, ◌∙◌, ⊎_elim}
 use Rattle.af_policy.specs.Rows.{PolicyRows}
 use Rattle.af_policy.specs.declared.submit_fault.SubmitFault.TheVariants.{Full, OutOfMemory}
 use Rattle.af_policy.specs.declared.change.Change.{Change}
@@ -12,7 +12,7 @@ use Rattle.af_role.specs.declared.need.Need.{Need}
 use Rattle.af_policy.specs.Grants.{missing}
 use Rattle.af_policy.specs.Identity.{bearer_of}
 use Rattle.af_policy.specs.Changes.{changed, may_want_memory, needs_of, wants_memory}
-use Rattle.af_policy.specs.Versions.{Follows, IsHistory, VersionRows, asked_by, asked_kind, asked_wants, decided, decided_wants, first_of, made_or_refused, permitted, permitted_wants, refused_by, unlacked_wants, unless_lacked, within}
+use Rattle.af_policy.specs.Versions.{Follows, IsHistory, VersionRows, asked_by, asked_kind, asked_wants, decided, decided_wants, first_of, made_or_refused, permitted, permitted_wants, refused_by, submitted, unlacked_wants, unless_lacked, within}
 
 first_of-behind : (policies : List PolicyRows) (latest next : PolicyRows) → first_of (policies ++ latest ∷ []) next ≡ first_of policies latest
 first_of-behind [] latest next = refl
@@ -79,3 +79,11 @@ asked_made policy later ask (Some user) e = lacking (missing policy user (needs_
 -- so does one that is asked for
 pub decided_made : (policy later : PolicyRows) (token : Option (List ℕ)) (ask : Ask) → (Ok later ≡ decided policy token ask) ⊎ (Ok later ≡ Err OutOfMemory) → decided_wants policy token ask ≡ true
 decided_made policy later token ask told = ⊎_elim (λ e. asked_made policy later ask (bearer_of policy token) (sym e)) (λ e. cc) told
+
+no_room : (versions : VersionRows) (later : PolicyRows) → nat_le versions.last (length versions.earlier) ≡ true → within versions (Ok later) ≡ Err Full
+no_room versions later full = ap (λ b. cond b (Err Full) (Ok later)) full
+
+-- a change that is permitted comes to nothing where the last version is made
+pub made_full : (versions : VersionRows) (token : Option (List ℕ)) (ask : Ask) (later : PolicyRows) → nat_le versions.last (length versions.earlier) ≡ true → (Ok later ≡ decided versions.latest token ask) ⊎ (Ok later ≡ Err OutOfMemory) → Err Full ≡ submitted versions token ask
+made_full versions token ask later full told =
+    ⊎_elim (λ e. sym (no_room versions later full) ∙ ap (λ comes. within versions comes) e) (λ e. cc) told

@@ -5,7 +5,7 @@ use Rattle.af_policy.specs.declared.shared.node.Node.{Node, Node', Held-Node-lef
 
 abbrev mutual
   pub rows : {T : Type 0} → Node T → List T
-  rows (Node' row left right height) = rows_behind left ++ row ∷ rows_behind right
+  rows (Node' low rest left right height) = rows_behind left ++ low ∷ (rest ++ rows_behind right)
 
   pub rows_behind : {T : Type 0} → Held-Node-left T → List T
   rows_behind None' = []

@@ -1,9 +1,14 @@
 //! Tables of rows that share what did not change.
+mod balance;
 mod building;
+mod change;
 mod fronts;
 mod listing;
 pub(crate) mod node;
+mod rest;
 mod row;
+mod run;
+mod search;
 mod sought;
 mod table;
 

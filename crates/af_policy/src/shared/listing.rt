@@ -1,4 +1,5 @@
 ghost use Rattle.std.specs.Prelude.{◌≡◌, [], ◌∷◌, ◌++◌, OnOk, map};
+ghost use Rattle.af_policy.specs.declared.shared.node.Node.{out-Node};
 ghost use Rattle.af_policy.specs.SharedTrees.{rows};
 ghost use Rattle.af_policy.specs.SharedRows.{seen};
 ghost use Rattle.af_policy.specs.Shown.{filled};
@@ -14,15 +15,25 @@ pub(crate) fn list<'a, T: Row>(node: &'a Node<T>, into: &mut Vec<&'a T>) -> Resu
     if let Some(left) = &node.left {
         list(left, into)?;
     }
-    into.push(&node.row)?;
+    into.push(&node.low)?;
+    list_all(node.rest.as_slice(), into)?;
     if let Some(right) = &node.right {
         list(right, into)?;
     }
     Ok(())
 }
 
+/// Lists rows behind those that are listed.
+fn list_all<'a, T: Row>(rows: &'a [T], into: &mut Vec<&'a T>) -> Result<(), AllocError>
+    ensures { OnOk result (seen into.new.items ≡ seen into.old.items ++ rows.now) }
+{
+    for row in rows {
+        into.push(row)?;
+    }
+    Ok(())
+}
+
 /// Lists rows of a node behind those that are listed, in the order of their keys, until so many are listed in all.
-#[tactic(auto, using(crate::proofs::ShownLemmas::filled_node, crate::proofs::ShownLemmas::filled_none, crate::proofs::ShownLemmas::filled_full))]
 pub(crate) fn fill<'a, T: Row>(
     node: &'a Node<T>,
     bound: usize,
@@ -36,9 +47,36 @@ pub(crate) fn fill<'a, T: Row>(
     if let Some(left) = &node.left {
         fill(left, bound, into)?;
     }
-    fill_one(&node.row, bound, into)?;
+    fill_own(node, bound, into)?;
     if let Some(right) = &node.right {
         fill(right, bound, into)?;
+    }
+    Ok(())
+}
+
+/// Lists the rows of a node itself behind those that are listed, until so many are listed in all.
+fn fill_own<'a, T: Row>(
+    node: &'a Node<T>,
+    bound: usize,
+    into: &mut Vec<&'a T>,
+) -> Result<(), AllocError>
+    ensures { OnOk result (seen into.new.items ≡ filled bound (seen into.old.items) ((out-Node _ node.now).low ∷ (out-Node _ node.now).rest)) }
+{
+    fill_one(&node.low, bound, into)?;
+    fill_all(node.rest.as_slice(), bound, into)?;
+    Ok(())
+}
+
+/// Lists rows behind those that are listed, until so many are listed in all.
+fn fill_all<'a, T: Row>(
+    rows: &'a [T],
+    bound: usize,
+    into: &mut Vec<&'a T>,
+) -> Result<(), AllocError>
+    ensures { OnOk result (seen into.new.items ≡ filled bound (seen into.old.items) rows.now) }
+{
+    for row in rows {
+        fill_one(row, bound, into)?;
     }
     Ok(())
 }

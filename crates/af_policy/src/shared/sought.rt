@@ -1,6 +1,7 @@
 ghost use Rattle.std.specs.Prelude.{◌≡◌};
 ghost use Rattle.std.specs.Ordering.{nat_cmp};
 ghost use Rattle.std.specs.Cmp.Lexicographic.{slice_cmp};
+ghost use Rattle.af_policy.specs.SharedRows.{same_key};
 
 use crate::shared::Row;
 use crate::shared::fronts::{front, order};
@@ -33,6 +34,27 @@ impl<'a> Sought<'a> {
         Sought {
             front: front(bytes),
             bytes,
+        }
+    }
+
+    /// The key of a row.
+    pub(crate) fn of_row<T: Row>(row: &'a T) -> Sought<'a>
+        ensures { result ≡ T.key row.now }
+    {
+        Sought {
+            front: row.front(),
+            bytes: row.key(),
+        }
+    }
+
+    /// Whether it is the key of a row.
+    pub(crate) fn is_of<T: Row>(&self, row: &T) -> bool
+        ensures { result ≡ same_key self.now (T.key row.now) }
+    {
+        match self.order(row) {
+            Ordering::Less => false,
+            Ordering::Equal => true,
+            Ordering::Greater => false,
         }
     }
 

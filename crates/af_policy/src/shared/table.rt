@@ -4,7 +4,7 @@ ghost use Rattle.af_policy.specs.SharedRows.{Ascend, found, seen, with_row, with
 
 use crate::shared::node::{self, Link};
 use crate::shared::sought::Sought;
-use crate::shared::{Row, building, listing};
+use crate::shared::{Row, building, change, listing, search};
 use std::alloc::{AllocError, Global};
 use std::marker::Model;
 
@@ -59,7 +59,7 @@ impl<T: Row> Table<T> {
         ensures { option_copied result ≡ found T.key self.now key.now }
     {
         match &self.root {
-            Some(root) => node::find(root, &Sought::new(key)),
+            Some(root) => search::find(&[], root, &Sought::new(key)),
             None => None,
         }
     }
@@ -86,7 +86,7 @@ impl<T: Row> Table<T> {
         ensures { IfOk result (λ table. table ≡ with_row T.key self.now row) }
     {
         let len = self.len_with(row.key())?;
-        let root = node::with_link(alloc, &self.root, row)?;
+        let root = change::with_link(alloc, &self.root, row)?;
         Ok(Table { root, len })
     }
 
@@ -108,7 +108,7 @@ impl<T: Row> Table<T> {
         ensures { IfOk result (λ table. table ≡ without T.key self.now key.now) }
     {
         if self.has(key) {
-            let root = node::without_link(alloc, &self.root, &Sought::new(key))?;
+            let root = change::without_link(alloc, &self.root, &Sought::new(key))?;
             let len = self.len - 1;
             Ok(Table { root, len })
         } else {
@@ -157,7 +157,7 @@ impl<T: Row> Table<T> {
         Ok(list)
     }
 
-    /// How many rows a search looks at, at most.
+    /// How many nodes a search looks at, at most. Each has some tens of rows.
     pub fn height(&self) -> usize {
         usize::from(node::height(&self.root))
     }
