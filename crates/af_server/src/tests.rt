@@ -76,7 +76,7 @@ impl Write for Paper {
 }
 
 /// Nothing was written yet.
-fn paper(alloc: Global) -> Counted<Paper> {
+fn blank_paper(alloc: Global) -> Counted<Paper> {
     Counted::new(Paper {
         bytes: Vec::new(alloc),
     })
@@ -92,7 +92,7 @@ fn run(
 ) -> Result<(Result<Ended, Reason>, Vec<u8>), Fail> {
     let now = Instant::read("2024-01-01T00:00:00Z")?;
     let mut reader = Counted::new(Pieces { rest: input, size });
-    let mut writer = paper(alloc);
+    let mut writer = blank_paper(alloc);
     let ended = once(alloc, config.as_bytes(), now, &mut reader, &mut writer);
     Ok((ended, writer.into_inner().bytes))
 }

@@ -1,4 +1,4 @@
-use super::{BASE, Pieces, paper};
+use super::{BASE, Pieces, blank_paper};
 use crate::command::Command;
 use crate::console::Console;
 use crate::files::read_whole;
@@ -136,8 +136,8 @@ fn called(
     let now = Instant::read("2024-01-01T00:00:00Z")?;
     let mut console = Console {
         input: pieces(input),
-        output: paper(alloc),
-        errors: paper(alloc),
+        output: blank_paper(alloc),
+        errors: blank_paper(alloc),
     };
     let status = run_once(alloc, &mut pieces(config), now, &mut console);
     let Console { output, errors, .. } = console;
@@ -160,7 +160,7 @@ fn what_the_program_says(rt: HostRuntime) -> Result<(), Fail> {
 }
 
 /// How a file that fails after so many bytes is refused.
-fn failing(alloc: Global, left: usize) -> Option<Reason> {
+fn refused_after(alloc: Global, left: usize) -> Option<Reason> {
     let mut file = Counted::new(Failing { left });
     read_whole(alloc, &mut file).err()
 }
@@ -179,7 +179,7 @@ fn spaces(alloc: Global, length: usize) -> Result<Option<Reason>, Fail> {
 fn files_that_fail_are_refused(rt: HostRuntime) -> Result<(), Fail> {
     for left in [0usize, 70_000] {
         assert_eq!(rt;
-            failing(rt.alloc(), left),
+            refused_after(rt.alloc(), left),
             Some(Reason::Unreadable),
             "{left}"
         );
@@ -210,7 +210,7 @@ const WORDS: [(Reason, &str); 14] = [
 
 /// Whether a reason is told by this word.
 fn is_word(alloc: Global, reason: Reason, word: &str) -> Result<bool, Fail> {
-    let mut errors = paper(alloc);
+    let mut errors = blank_paper(alloc);
     let status = ended(&mut errors, Err(reason));
     let line = format!(in alloc; "afplane: configuration refused: {word}\n")?;
     Ok(status == 3 && errors.into_inner().bytes.as_slice() == line.as_bytes())
@@ -228,7 +228,7 @@ const USAGE: &[u8] = b"usage: afplane once CONFIG NOW | serve CONFIG PORT WORKER
 
 #[test]
 fn the_line_of_the_usage(rt: HostRuntime) -> Result<(), Fail> {
-    let mut errors = paper(rt.alloc());
+    let mut errors = blank_paper(rt.alloc());
     assert_eq!(rt; usage(&mut errors), 2);
     assert_eq!(rt; errors.into_inner().bytes.as_slice(), USAGE);
     Ok(())
