@@ -1,4 +1,5 @@
 mod answers;
+mod asserts;
 mod cases;
 mod cut;
 mod faults;

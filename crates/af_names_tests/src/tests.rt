@@ -143,9 +143,13 @@ fn instants_read(rt: HostRuntime) {
         ("2024-01-01T00:00:00Z ", bad),
         ("", bad),
     ] {
-        let read = Instant::read(text).map(|instant| instant.micros());
-        assert_eq!(rt; read, micros, "{text}");
+        assert_eq!(rt; read_micros(text), micros, "{text}");
     }
+}
+
+/// The moment of a text in microseconds.
+fn read_micros(text: &str) -> Result<u64, InstantError> {
+    Ok(Instant::read(text)?.micros())
 }
 
 #[test]
@@ -182,6 +186,13 @@ fn instants_written(rt: HostRuntime) -> Result<(), Fail> {
     Ok(())
 }
 
+fn micros_of(instant: Option<Instant>) -> Option<u64> {
+    match instant {
+        Some(instant) => Some(instant.micros()),
+        None => None,
+    }
+}
+
 #[test]
 fn instants_by_number(rt: HostRuntime) -> Result<(), Fail> {
     for (micros, seconds, later) in [
@@ -194,7 +205,7 @@ fn instants_by_number(rt: HostRuntime) -> Result<(), Fail> {
     ] {
         let instant = Instant::of_micros(micros).ok_or(InstantError::OutOfRange)?;
         assert_eq!(rt; instant.micros(), micros);
-        let sum = instant.plus_seconds(seconds).map(|sum| sum.micros());
+        let sum = micros_of(instant.plus_seconds(seconds));
         assert_eq!(rt; sum, later, "{micros} and {seconds}");
     }
     assert_eq!(rt; Instant::of_micros(253_370_764_800_000_000), None);
@@ -216,7 +227,9 @@ fn texts_of_presets(rt: HostRuntime) {
     ] {
         let read = Preset::read(text);
         assert_eq!(rt; read, preset, "{text}");
-        assert_eq!(rt; read.map_or(text, |preset| preset.as_str()), text);
+        if let Some(preset) = read {
+            assert_eq!(rt; preset.as_str(), text);
+        }
     }
 }
 

@@ -1,3 +1,4 @@
+mod asserts;
 mod changes;
 mod grants;
 mod openings;

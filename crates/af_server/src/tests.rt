@@ -1,4 +1,5 @@
 //! Whole connections under the sample configuration, byte for byte, and each reason for which a configuration is refused.
+mod asserts;
 mod calls;
 mod clears;
 mod configurations;

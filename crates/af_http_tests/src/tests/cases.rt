@@ -19,12 +19,17 @@ pub struct Case<'a> {
 /// The first of its sizes with which a case does not go as it says.
 pub fn first_fault(alloc: Global, case: &Case<'_>) -> Result<Option<usize>, Fail> {
     for size in case.pieces {
-        let (ended, paper, _) = run(alloc, Pieces::of(case.input, *size), Paper::new(alloc)?);
-        if ended != case.ended || !is_joined(paper.bytes.as_slice(), case.written) {
+        if !goes(alloc, case, *size)? {
             return Ok(Some(*size));
         }
     }
     Ok(None)
+}
+
+/// Whether a case goes as it says with pieces of a size.
+fn goes(alloc: Global, case: &Case<'_>, size: usize) -> Result<bool, Fail> {
+    let (ended, paper, _) = run(alloc, Pieces::of(case.input, size), Paper::new(alloc)?);
+    Ok(ended == case.ended && is_joined(paper.bytes.as_slice(), case.written))
 }
 
 /// Whether a text is these two parts.

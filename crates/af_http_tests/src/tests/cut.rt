@@ -1,7 +1,9 @@
 use crate::tests::answers::{BAD_METHOD, INCOMPLETE, VERSION};
+use crate::tests::asserts::number_holds;
 use crate::tests::cases::{Case, first_fault};
 use af_http::Ended;
 use af_ops::Status;
+use std::alloc::Global;
 use std::test::Fail;
 
 /// A request of 41 bytes.
@@ -26,19 +28,35 @@ const CUTS: [(&[u8], usize, usize, Ended, &str, &str); 8] = [
     (ASKS_TWICE, 108, 108, Ended::Closed, BAD_METHOD, VERSION),
 ];
 
+/// Whether an input of which the first so many bytes alone come ends so, and these two parts are written, in pieces of each size.
+fn goes_cut<'x>(
+    alloc: Global,
+    input: &'x [u8],
+    cut: usize,
+    ended: Ended,
+    written: [&'x str; 2],
+) -> Result<bool, Fail> {
+    let (front, _) = input.split_at(cut.min(input.len()));
+    let case = Case {
+        input: front,
+        pieces: &[1, 100],
+        ended,
+        written,
+    };
+    let fault = first_fault(alloc, &case)?;
+    Ok(fault.is_none())
+}
+
 #[test]
 fn cut_after_each_byte(rt: HostRuntime) -> Result<(), Fail> {
-    assert_eq!(rt; (ASKS_VERSION.len(), ASKS_TWICE.len()), (41, 108));
+    assert!(rt;
+        ASKS_VERSION.len() == 41 && ASKS_TWICE.len() == 108,
+        "the inputs"
+    );
     for (input, least, most, ended, first, second) in CUTS {
         for cut in least..=most {
-            let (front, _) = input.split_at(cut.min(input.len()));
-            let case = Case {
-                input: front,
-                pieces: &[1, 100],
-                ended,
-                written: [first, second],
-            };
-            assert_eq!(rt; first_fault(rt.alloc(), &case)?, None, "cut after {cut}");
+            let goes = goes_cut(rt.alloc(), input, cut, ended, [first, second])?;
+            number_holds(&rt, goes, "cut after", cut);
         }
     }
     Ok(())

@@ -1,6 +1,7 @@
 use crate::tests::answers::{
     BAD_METHOD, BAD_METHOD_OF_HEAD, DAGS, LAST_VERSION, NO_PATH, NO_TOKEN, VERSION,
 };
+use crate::tests::asserts::row_goes;
 use crate::tests::cases::{ANY_PIECES, Case, first_fault};
 use af_http::Ended;
 use std::test::Fail;
@@ -121,7 +122,8 @@ fn messages(rt: HostRuntime) -> Result<(), Fail> {
             ended: Ended::Closed,
             written: [first, second],
         };
-        assert_eq!(rt; first_fault(rt.alloc(), &case)?, None, "row {row}");
+        let fault = first_fault(rt.alloc(), &case)?;
+        row_goes(&rt, fault, row);
     }
     Ok(())
 }

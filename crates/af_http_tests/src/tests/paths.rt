@@ -1,6 +1,7 @@
 use crate::tests::answers::{
     BAD_METHOD_OF_DAG, BAD_METHOD_OF_ROW, BAD_METHOD_OF_ROWS, NO_PATH, NO_TOKEN,
 };
+use crate::tests::asserts::{holds, number_holds};
 use crate::tests::cases::is_joined;
 use crate::tests::tools::{Paper, Pieces, run};
 use af_http::Ended;
@@ -72,51 +73,82 @@ fn is_answered(alloc: Global, asked: &str, wanted: &str) -> Result<bool, Fail> {
 
 #[test]
 fn paths(rt: HostRuntime) -> Result<(), Fail> {
-    let alloc = rt.alloc();
     for (asked, wanted) in PATHS {
-        assert!(rt; is_answered(alloc, asked, wanted)?, "{asked}");
+        let is_answered = is_answered(rt.alloc(), asked, wanted)?;
+        holds(&rt, is_answered, asked);
     }
     Ok(())
 }
 
 #[test]
 fn row_paths(rt: HostRuntime) -> Result<(), Fail> {
-    let alloc = rt.alloc();
     for (asked, wanted) in ROW_PATHS {
-        assert!(rt; is_answered(alloc, asked, wanted)?, "{asked}");
+        let is_answered = is_answered(rt.alloc(), asked, wanted)?;
+        holds(&rt, is_answered, asked);
     }
     Ok(())
 }
 
 /// Names of 249 to 251 bytes, plain and with each byte encoded: 250 are the most, of the text and not of its encoding.
+const NAMES: [(&str, usize, &str); 6] = [
+    ("x", 249, NO_TOKEN),
+    ("x", 250, NO_TOKEN),
+    ("x", 251, NO_PATH),
+    ("x", 5000, NO_PATH),
+    ("%78", 250, NO_TOKEN),
+    ("%78", 251, NO_PATH),
+];
+
+/// What stands before and after a name in a path.
+const AROUND: [(&str, &str); 5] = [
+    ("GET /api/v1/dags/", ""),
+    ("GET /api/v1/dags/", "/dagRuns"),
+    ("GET /api/v1/dags/b/dagRuns/", ""),
+    ("GET /api/v1/pools/", ""),
+    ("GET /api/v1/variables/", ""),
+];
+
+/// A text so many times.
+fn repeated(alloc: Global, letter: &str, count: usize) -> Result<String, Fail> {
+    let mut name = String::new(alloc);
+    for _ in 0..count {
+        name.push_str(letter)?;
+    }
+    Ok(name)
+}
+
+/// Whether this answers a path with a name between these two.
+fn is_name_answered(
+    alloc: Global,
+    (before, after): (&str, &str),
+    name: &str,
+    wanted: &str,
+) -> Result<bool, Fail> {
+    let asked = format!(in alloc; "{before}{name}{after}")?;
+    is_answered(alloc, asked.as_str(), wanted)
+}
+
+/// Whether this answers each path with a name of so many of these letters.
+fn is_long_name_answered(
+    alloc: Global,
+    letter: &str,
+    count: usize,
+    wanted: &str,
+) -> Result<bool, Fail> {
+    let name = repeated(alloc, letter, count)?;
+    for around in AROUND {
+        if !is_name_answered(alloc, around, name.as_str(), wanted)? {
+            return Ok(false);
+        }
+    }
+    Ok(true)
+}
+
 #[test]
 fn long_names(rt: HostRuntime) -> Result<(), Fail> {
-    let alloc = rt.alloc();
-    for (letter, count, wanted) in [
-        ("x", 249usize, NO_TOKEN),
-        ("x", 250, NO_TOKEN),
-        ("x", 251, NO_PATH),
-        ("x", 5000, NO_PATH),
-        ("%78", 250, NO_TOKEN),
-        ("%78", 251, NO_PATH),
-    ] {
-        let mut name = String::new(alloc);
-        for _ in 0..count {
-            name.push_str(letter)?;
-        }
-        let name = name.as_str();
-        for asked in [
-            format!(in alloc; "GET /api/v1/dags/{name}")?,
-            format!(in alloc; "GET /api/v1/dags/{name}/dagRuns")?,
-            format!(in alloc; "GET /api/v1/dags/b/dagRuns/{name}")?,
-            format!(in alloc; "GET /api/v1/pools/{name}")?,
-            format!(in alloc; "GET /api/v1/variables/{name}")?,
-        ] {
-            assert!(rt;
-                is_answered(alloc, asked.as_str(), wanted)?,
-                "{count} times {letter}"
-            );
-        }
+    for (letter, count, wanted) in NAMES {
+        let is_answered = is_long_name_answered(rt.alloc(), letter, count, wanted)?;
+        number_holds(&rt, is_answered, letter, count);
     }
     Ok(())
 }

@@ -2,6 +2,7 @@ use crate::tests::answers::{
     BAD_HEAD, BAD_HEAD_OF_HEAD, BODY_TOO_LARGE, BODY_TOO_LARGE_OF_HEAD, CODING, CODING_OF_HEAD,
     INCOMPLETE, INCOMPLETE_OF_HEAD, VERSION,
 };
+use crate::tests::asserts::row_goes;
 use crate::tests::cases::{ANY_PIECES, Case, first_fault};
 use af_http::Ended;
 use af_ops::Status;
@@ -130,7 +131,8 @@ fn refusals(rt: HostRuntime) -> Result<(), Fail> {
             ended: Ended::Refused(*status),
             written: [first, second],
         };
-        assert_eq!(rt; first_fault(rt.alloc(), &case)?, None, "row {row}");
+        let fault = first_fault(rt.alloc(), &case)?;
+        row_goes(&rt, fault, row);
     }
     Ok(())
 }

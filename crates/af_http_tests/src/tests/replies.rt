@@ -1,7 +1,9 @@
 use crate::tests::answers::{EMPTY, LOST, MEMORY, VERSION};
+use crate::tests::asserts::{holds, row_holds};
 use crate::tests::cases::is_joined;
 use crate::tests::tools::{Paper, Pieces, run, run_long};
 use af_http::Ended;
+use std::alloc::Global;
 use std::test::Fail;
 
 /// Tokens whose service replies so, with what is put before the answer to the next request, how the connection ends, and how
@@ -14,23 +16,32 @@ const REPLIES: [(&str, &str, &str, Ended, usize); 4] = [
     ("lost", LOST, "", Ended::NoMemory, 1),
 ];
 
+/// A request under this token, and one for the version.
+fn asks_under(alloc: Global, token: &str) -> Result<String, Fail> {
+    Ok(format!(in alloc;
+        "GET /api/v1/dags HTTP/1.1\r\nHost: h\r\nAuthorization: Bearer {token}\r\n\r\nGET /api/v1/version HTTP/1.1\r\nHost: h\r\n\r\n"
+    )?)
+}
+
+/// Whether the service replies to a token as its row says.
+fn replies_to(
+    alloc: Global,
+    (token, first, second, ends, wanted): (&str, &str, &str, Ended, usize),
+) -> Result<bool, Fail> {
+    let input = asks_under(alloc, token)?;
+    let (ended, paper, calls) = run(
+        alloc,
+        Pieces::of(input.as_bytes(), 1000),
+        Paper::new(alloc)?,
+    );
+    Ok(ended == ends && calls == wanted && is_joined(paper.bytes.as_slice(), [first, second]))
+}
+
 #[test]
 fn each_reply(rt: HostRuntime) -> Result<(), Fail> {
-    let alloc = rt.alloc();
-    for (token, first, second, ends, wanted) in REPLIES {
-        let input = format!(in alloc;
-            "GET /api/v1/dags HTTP/1.1\r\nHost: h\r\nAuthorization: Bearer {token}\r\n\r\nGET /api/v1/version HTTP/1.1\r\nHost: h\r\n\r\n"
-        )?;
-        let (ended, paper, calls) = run(
-            alloc,
-            Pieces::of(input.as_bytes(), 1000),
-            Paper::new(alloc)?,
-        );
-        assert_eq!(rt; (ended, calls), (ends, wanted), "{token}");
-        assert!(rt;
-            is_joined(paper.bytes.as_slice(), [first, second]),
-            "{token}"
-        );
+    for row in REPLIES {
+        let replies = replies_to(rt.alloc(), row)?;
+        holds(&rt, replies, row.0);
     }
     Ok(())
 }
@@ -64,14 +75,23 @@ const BROKEN: [(&[u8], usize, usize, usize, usize); 11] = [
     (ASKS_CHANGE, 1000, 2, 1, 2),
 ];
 
+/// Whether a connection whose write fails, or takes no byte, ends so after as many calls as its row says.
+fn breaks_off(
+    alloc: Global,
+    (input, size, length, call, wanted): (&[u8], usize, usize, usize, usize),
+    stalls: bool,
+) -> Result<bool, Fail> {
+    let paper = Paper::broken(alloc, usize::MAX, call, stalls)?;
+    let (ended, _, calls) = run_long(alloc, length, Pieces::of(input, size), paper);
+    Ok(ended == Ended::WriteFault && calls == wanted)
+}
+
 #[test]
 fn no_request_is_answered_after_a_failed_write(rt: HostRuntime) -> Result<(), Fail> {
-    let alloc = rt.alloc();
-    for (row, (input, size, length, call, wanted)) in BROKEN.iter().enumerate() {
+    for (row, broken) in BROKEN.iter().enumerate() {
         for stalls in [false, true] {
-            let paper = Paper::broken(alloc, usize::MAX, *call, stalls)?;
-            let (ended, _, calls) = run_long(alloc, *length, Pieces::of(input, *size), paper);
-            assert_eq!(rt; (ended, calls), (Ended::WriteFault, *wanted), "row {row}");
+            let breaks_off = breaks_off(rt.alloc(), *broken, stalls)?;
+            row_holds(&rt, breaks_off, row);
         }
     }
     Ok(())

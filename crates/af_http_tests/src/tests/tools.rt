@@ -118,25 +118,41 @@ impl Fixed {
         })
     }
 
+    /// The version, which everybody is told.
+    fn version(&self) -> Result<Served, AllocError> {
+        let body = b"{\"git_version\":null,\"version\":\"afplane 1\"}";
+        Ok(Served::Shown(Shown {
+            status: Status::Ok,
+            version: None,
+            seq: None,
+            body: Some(Body::of(Vec::from_slice(self.alloc, body)?)),
+        }))
+    }
+
+    /// An answer with the body of two bytes.
+    fn short(&self, status: Status) -> Result<Served, AllocError> {
+        let body = Vec::from_slice(self.alloc, b"{}")?;
+        Ok(Fixed::told(status, Some(body)))
+    }
+
+    /// The answer with the long body.
+    fn long(&self) -> Result<Served, AllocError> {
+        let body = vec![in self.alloc; b'x'; self.length]?;
+        Ok(Fixed::told(Status::Ok, Some(body)))
+    }
+
     fn served(&self, token: Option<&[u8]>, op: &Op) -> Result<Served, AllocError> {
         if matches!(op, Op::Version) {
-            let body = b"{\"git_version\":null,\"version\":\"afplane 1\"}";
-            return Ok(Served::Shown(Shown {
-                status: Status::Ok,
-                version: None,
-                seq: None,
-                body: Some(Body::of(Vec::from_slice(self.alloc, body)?)),
-            }));
+            return self.version();
         }
-        let nobody = Vec::from_slice(self.alloc, b"{}")?;
-        Ok(match token.unwrap_or(b"") {
-            b"test" => Fixed::told(Status::Ok, Some(vec![in self.alloc; b'x'; self.length]?)),
-            b"empty" => Fixed::told(Status::NoContent, None),
-            b"full" => Fixed::told(Status::NoContent, Some(nobody)),
-            b"lost" => Served::ReplyLost,
-            b"memory" => Served::NothingDone,
-            _ => Fixed::told(Status::Unauthorized, Some(nobody)),
-        })
+        match token.unwrap_or(b"") {
+            b"test" => self.long(),
+            b"empty" => Ok(Fixed::told(Status::NoContent, None)),
+            b"full" => self.short(Status::NoContent),
+            b"lost" => Ok(Served::ReplyLost),
+            b"memory" => Ok(Served::NothingDone),
+            _ => self.short(Status::Unauthorized),
+        }
     }
 }
 

@@ -1,31 +1,38 @@
 //! Tasks of DAGs and instances of runs as they are told, and what is told where one is not there.
+use super::asserts::row_holds;
 use super::told::{Sent, Told};
-use super::{Row, asked, count_of, play, policy, shown_by, text};
-use af_graph::{Dag, DagSpec, Rule, TaskIds, TaskSpec, TaskSpecs};
-use af_names::{DagId, PoolName, TaskId};
+use super::{Row, count_of, dag_of, play, shown_by, text};
+use af_graph::{Rule, TaskIds, TaskSpec};
+use af_names::{PoolName, TaskId};
 use af_ops::{Endpoint, Standing};
-use af_sched::{DagRow, State};
+use af_sched::State;
 use std::alloc::Global;
 use std::test::Fail;
 
+/// A run of the DAG f is triggered.
+const RUN_OF_F: Row = (
+    "uma",
+    Endpoint::TriggerRun,
+    "f",
+    Sent::NamedR,
+    Told::TriggeredF,
+    Some(1),
+);
+
+/// Its instances.
+const INSTANCES_OF_F: Row = (
+    "vera",
+    Endpoint::ListInstances,
+    "f/r",
+    Sent::Nothing,
+    Told::Instances,
+    Some(1),
+);
+
 /// A run of the DAG f is triggered, and its instances are looked at. Each user's name is the token.
-const ROWS: [Row; 11] = [
-    (
-        "uma",
-        Endpoint::TriggerRun,
-        "f",
-        Sent::NamedR,
-        Told::TriggeredF,
-        Some(1),
-    ),
-    (
-        "vera",
-        Endpoint::ListInstances,
-        "f/r",
-        Sent::Nothing,
-        Told::Instances,
-        Some(1),
-    ),
+const ROWS: &[Row] = &[
+    RUN_OF_F,
+    INSTANCES_OF_F,
     (
         "vera",
         Endpoint::GetInstance,
@@ -100,16 +107,19 @@ const ROWS: [Row; 11] = [
     ),
 ];
 
+/// The tasks of f.
+const TASKS_OF_F: Row = (
+    "vera",
+    Endpoint::ListTasks,
+    "f",
+    Sent::Cut,
+    Told::Tasks,
+    Some(0),
+);
+
 /// What is told of the tasks of f.
-const TASK_ROWS: [Row; 5] = [
-    (
-        "vera",
-        Endpoint::ListTasks,
-        "f",
-        Sent::Cut,
-        Told::Tasks,
-        Some(0),
-    ),
+const TASK_ROWS: &[Row] = &[
+    TASKS_OF_F,
     (
         "vera",
         Endpoint::ListTasks,
@@ -144,15 +154,19 @@ const TASK_ROWS: [Row; 5] = [
     ),
 ];
 
-/// A task after others.
-fn task(alloc: Global, id: &str, upstream: &[&str]) -> Result<TaskSpec, Fail> {
-    let mut names = Vec::new(alloc);
-    for name in upstream {
-        names.push(TaskId::parse(alloc, *name)?)?;
+fn task_ids(alloc: Global, texts: &[&str]) -> Result<TaskIds, Fail> {
+    let mut ids = Vec::new(alloc);
+    for text in texts {
+        ids.push(TaskId::parse(alloc, *text)?)?;
     }
+    Ok(TaskIds::of(ids))
+}
+
+/// A task after others.
+pub fn task(alloc: Global, id: &str, upstream: &[&str]) -> Result<TaskSpec, Fail> {
     Ok(TaskSpec {
         task_id: TaskId::parse(alloc, id)?,
-        upstream: TaskIds::of(names),
+        upstream: task_ids(alloc, upstream)?,
         pool: PoolName::parse(alloc, "default_pool")?,
         pool_slots: 1,
         priority_weight: 1,
@@ -163,37 +177,42 @@ fn task(alloc: Global, id: &str, upstream: &[&str]) -> Result<TaskSpec, Fail> {
 }
 
 /// Where the server stands with one DAG, f, of these tasks.
-pub fn standing(alloc: Global, tasks: Vec<TaskSpec>) -> Result<Standing, Fail> {
+fn standing(alloc: Global, tasks: Vec<TaskSpec>) -> Result<Standing, Fail> {
     Ok(Standing::open(state_of(alloc, tasks)?))
+}
+
+/// Adds a pool of this name and so many slots.
+pub fn add_pool(alloc: Global, state: &mut State, name: &str, slots: u64) -> Result<(), Fail> {
+    state.add_pool(PoolName::parse(alloc, name)?, slots)?;
+    Ok(())
 }
 
 /// The state with one DAG, f, of these tasks.
 pub fn state_of(alloc: Global, tasks: Vec<TaskSpec>) -> Result<State, Fail> {
-    let spec = DagSpec {
-        dag_id: DagId::parse(alloc, "f")?,
-        tasks: TaskSpecs::of(tasks),
-        schedule: None,
-        catchup: true,
-        max_active_runs: 16,
-    };
+    let row = dag_of(alloc, "f", tasks, false)?;
     let mut state = State::new(alloc)?;
-    state.add_pool(PoolName::parse(alloc, "slow \"lane\"")?, 4)?;
-    state.add_dag(DagRow::opened(Dag::new(alloc, spec)?, false))?;
+    add_pool(alloc, &mut state, LANE, 4)?;
+    state.add_dag(row)?;
     Ok(state)
 }
 
+const LANE: &str = "slow \"lane\"";
+
 /// The tasks of f: the first waits for the second.
 pub fn two_tasks(alloc: Global) -> Result<Vec<TaskSpec>, Fail> {
-    let mut tasks = Vec::new(alloc);
-    tasks.push(later_task(alloc)?)?;
-    tasks.push(task(alloc, "t", &[])?)?;
-    Ok(tasks)
+    let later = later_task(alloc)?;
+    Ok(vec![in alloc; later, task(alloc, "t", &[])?]?)
+}
+
+/// Where the server stands with the DAG f of two tasks.
+pub fn standing_of_two(alloc: Global) -> Result<Standing, Fail> {
+    standing(alloc, two_tasks(alloc)?)
 }
 
 /// A task of another pool, with members that no other has.
 fn later_task(alloc: Global) -> Result<TaskSpec, Fail> {
     let mut later = task(alloc, "u", &["t", "t"])?;
-    later.pool = PoolName::parse(alloc, "slow \"lane\"")?;
+    later.pool = PoolName::parse(alloc, LANE)?;
     later.pool_slots = 3;
     later.priority_weight = -7;
     later.retries = 2;
@@ -210,27 +229,21 @@ const LAST_TASK: &[u8] =
 
 #[test]
 fn what_is_told_of_instances(rt: HostRuntime) -> Result<(), Fail> {
-    assert_eq!(rt;
-        play(
-            rt.alloc(),
-            standing(rt.alloc(), two_tasks(rt.alloc())?)?,
-            &ROWS
-        )?,
-        ROWS.len()
-    );
+    let told = play_of_two(rt.alloc(), ROWS)?;
+    row_holds(&rt, told == ROWS.len(), told);
     Ok(())
+}
+
+/// How many of these rows, one after another, are told as they should be of the DAG f, up to the first that is not.
+fn play_of_two(alloc: Global, rows: &[Row]) -> Result<usize, Fail> {
+    let mut standing = standing_of_two(alloc)?;
+    play(alloc, &mut standing, rows)
 }
 
 #[test]
 fn what_is_told_of_tasks(rt: HostRuntime) -> Result<(), Fail> {
-    assert_eq!(rt;
-        play(
-            rt.alloc(),
-            standing(rt.alloc(), two_tasks(rt.alloc())?)?,
-            &TASK_ROWS
-        )?,
-        TASK_ROWS.len()
-    );
+    let told = play_of_two(rt.alloc(), TASK_ROWS)?;
+    row_holds(&rt, told == TASK_ROWS.len(), told);
     Ok(())
 }
 
@@ -252,23 +265,24 @@ fn add_numbered(alloc: Global, tasks: &mut Vec<TaskSpec>, n: u32) -> Result<(), 
 /// The same after its first run was triggered.
 fn standing_of_many_instances(alloc: Global) -> Result<Standing, Fail> {
     let mut standing = standing_of_many(alloc)?;
-    let policy = policy(alloc)?;
-    asked(alloc, &mut standing, &policy, ROWS[0])?;
+    shown_by(alloc, &mut standing, RUN_OF_F)?;
     Ok(standing)
 }
 
 #[test]
 fn a_hundred_of_150_instances_are_told(rt: HostRuntime) -> Result<(), Fail> {
-    let shown = shown_by(rt.alloc(), standing_of_many_instances(rt.alloc())?, ROWS[1])?;
-    assert_eq!(rt; count_of(&shown, TASK_ID), 100);
-    assert_eq!(rt; text(&shown).ends_with(LAST_INSTANCE), true);
+    let mut standing = standing_of_many_instances(rt.alloc())?;
+    let shown = shown_by(rt.alloc(), &mut standing, INSTANCES_OF_F)?;
+    assert!(rt; count_of(&shown, TASK_ID) == 100, "a hundred");
+    assert!(rt; text(&shown).ends_with(LAST_INSTANCE), "the last of them");
     Ok(())
 }
 
 #[test]
 fn all_of_150_tasks_are_told(rt: HostRuntime) -> Result<(), Fail> {
-    let shown = shown_by(rt.alloc(), standing_of_many(rt.alloc())?, TASK_ROWS[0])?;
-    assert_eq!(rt; count_of(&shown, TASK_ID), 150);
-    assert_eq!(rt; text(&shown).ends_with(LAST_TASK), true);
+    let mut standing = standing_of_many(rt.alloc())?;
+    let shown = shown_by(rt.alloc(), &mut standing, TASKS_OF_F)?;
+    assert!(rt; count_of(&shown, TASK_ID) == 150, "all of them");
+    assert!(rt; text(&shown).ends_with(LAST_TASK), "the last of them");
     Ok(())
 }

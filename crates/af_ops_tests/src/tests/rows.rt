@@ -1,5 +1,6 @@
 //! Pools and variables: who adds, changes and deletes them, and what is told where one is not there, is taken or stays.
-use super::instances::{standing, two_tasks};
+use super::asserts::{holds, row_holds};
+use super::instances::standing_of_two;
 use super::row_texts::{
     BAD_BODY, BAD_KEY, BAD_NAME, BAD_SLOTS, BAD_VALUE, CUT, DEFAULT_ALONE, DEFAULT_AND_P, EMPTY,
     EMPTY_KEY, K_ALONE, K_EXISTS, K_HOLDS_W, LANE_IN_USE, NO_J, NO_K, NO_P, NO_POOL_CREATING,
@@ -8,9 +9,8 @@ use super::row_texts::{
     POOL_P, SLOTS_ALONE, THE_DEFAULT_POOL, THREE_SLOTS, TOO_MANY_SLOTS, VALUE_V, VALUE_W,
     VARIABLE_K,
 };
-use super::{op, policy, text};
-use af_names::Instant;
-use af_ops::{CallFault, Endpoint, Op, OpFault, Served, Shown, Standing, Status, Under, decide};
+use super::{answered, named, policy, text, with_entries};
+use af_ops::{Endpoint, Op, Shown, Standing, Status};
 use af_policy::Policy;
 use af_sched::State;
 use std::alloc::Global;
@@ -29,7 +29,7 @@ pub type Ask = (
 );
 
 /// Pools, one of which a task names.
-const POOLS: [Ask; 21] = [
+const POOLS: &[Ask] = &[
     (
         "uma",
         Endpoint::ListPools,
@@ -222,7 +222,7 @@ const POOLS: [Ask; 21] = [
 ];
 
 /// Variables.
-const VARIABLES: [Ask; 19] = [
+const VARIABLES: &[Ask] = &[
     (
         "uma",
         Endpoint::ListVariables,
@@ -397,112 +397,105 @@ const VARIABLES: [Ask; 19] = [
 ];
 
 /// What is told of one of them.
-pub fn shown(
+fn shown(alloc: Global, standing: &mut Standing, policy: &Policy, ask: Ask) -> Result<Shown, Fail> {
+    let op = named(alloc, ask.1, ask.2, ask.3)?;
+    answered(alloc, standing, policy, ask.0, &op)
+}
+
+/// Whether that is what is told.
+fn is_told(shown: &Shown, ask: Ask) -> bool {
+    shown.status == ask.4 && shown.seq == Some(ask.6) && text(shown) == ask.5
+}
+
+/// Whether one of them is told as it should be.
+pub fn goes(
     alloc: Global,
     standing: &mut Standing,
     policy: &Policy,
     ask: Ask,
-) -> Result<Shown, Fail> {
-    let Some(op) = op(alloc, ask.1, ask.2, ask.3)? else {
-        return Err(Fail::new("a part is no name"));
-    };
-    let now = Instant::read("2024-01-01T00:00:00Z")?;
-    match standing.answer(alloc, policy, Some(ask.0.as_bytes()), &op, now) {
-        Served::Shown(shown) => Ok(shown),
-        _ => Err(Fail::new("nothing is shown")),
-    }
-}
-
-/// Whether that is what is told.
-pub fn is_told(shown: &Shown, ask: Ask) -> bool {
-    shown.status == ask.4 && shown.seq == Some(ask.6) && text(shown) == ask.5
+) -> Result<bool, Fail> {
+    let shown = shown(alloc, standing, policy, ask)?;
+    Ok(is_told(&shown, ask))
 }
 
 /// How many of them, one after another, are told as they should be, up to the first that is not.
-fn played(alloc: Global, asks: &[Ask]) -> Result<usize, Fail> {
-    let policy = policy(alloc)?;
-    let mut standing = standing(alloc, two_tasks(alloc)?)?;
+fn play(
+    alloc: Global,
+    standing: &mut Standing,
+    policy: &Policy,
+    asks: &[Ask],
+) -> Result<usize, Fail> {
     for (place, ask) in asks.iter().enumerate() {
-        let shown = shown(alloc, &mut standing, &policy, *ask)?;
-        if !is_told(&shown, *ask) {
+        if !goes(alloc, standing, policy, *ask)? {
             return Ok(place);
         }
     }
     Ok(asks.len())
 }
 
+/// The same, where the server stands with the DAG f alone.
+fn played(alloc: Global, asks: &[Ask]) -> Result<usize, Fail> {
+    let policy = policy(alloc)?;
+    let mut standing = standing_of_two(alloc)?;
+    play(alloc, &mut standing, &policy, asks)
+}
+
 #[test]
 fn what_is_told_of_pools(rt: HostRuntime) -> Result<(), Fail> {
-    assert_eq!(rt; played(rt.alloc(), &POOLS)?, POOLS.len());
+    let told = played(rt.alloc(), POOLS)?;
+    row_holds(&rt, told == POOLS.len(), told);
     Ok(())
 }
 
 #[test]
 fn what_is_told_of_variables(rt: HostRuntime) -> Result<(), Fail> {
-    assert_eq!(rt; played(rt.alloc(), &VARIABLES)?, VARIABLES.len());
+    let told = played(rt.alloc(), VARIABLES)?;
+    row_holds(&rt, told == VARIABLES.len(), told);
     Ok(())
 }
 
 /// What comes of an operation of adam's where the history is full: whether it is permitted, or the history is told to be full.
 fn where_full(alloc: Global, op: &Op) -> Result<Option<bool>, Fail> {
-    let under = Under {
-        version: 0,
-        seq: 1_000_000,
-    };
-    let policy = policy(alloc)?;
     let mut state = State::new(alloc)?;
-    let now = Instant::read("2024-01-01T00:00:00Z")?;
-    match decide(
-        alloc,
-        &policy,
-        &mut state,
-        under,
-        1_000_000,
-        Some(b"adam"),
-        op,
-        now,
-    ) {
-        Ok(_) => Ok(Some(true)),
-        Err(CallFault::Op(OpFault::HistoryFull)) => Ok(Some(false)),
-        Err(_) => Ok(None),
-    }
+    with_entries(alloc, &mut state, 1_000_000, "adam", op)
 }
+
+/// An operation, a part of the path, a body, and what comes of it.
+const FULL: &[(Endpoint, &str, &str, Option<bool>)] = &[
+    (
+        Endpoint::AddPool,
+        "",
+        "{\"name\":\"p\",\"slots\":2}",
+        Some(false),
+    ),
+    (
+        Endpoint::ChangePool,
+        "default_pool",
+        "{\"slots\":128}",
+        Some(true),
+    ),
+    (
+        Endpoint::ChangePool,
+        "default_pool",
+        "{\"slots\":1}",
+        Some(false),
+    ),
+    (Endpoint::DeletePool, "default_pool", "", None),
+    (
+        Endpoint::AddVariable,
+        "",
+        "{\"key\":\"k\",\"value\":\"v\"}",
+        Some(false),
+    ),
+];
 
 /// None is added where the history is full; what changes nothing is told nevertheless.
 #[test]
 fn a_full_history_takes_no_row(rt: HostRuntime) -> Result<(), Fail> {
-    let alloc = rt.alloc();
-    for (endpoint, part, body, permitted) in [
-        (
-            Endpoint::AddPool,
-            "",
-            "{\"name\":\"p\",\"slots\":2}",
-            Some(false),
-        ),
-        (
-            Endpoint::ChangePool,
-            "default_pool",
-            "{\"slots\":128}",
-            Some(true),
-        ),
-        (
-            Endpoint::ChangePool,
-            "default_pool",
-            "{\"slots\":1}",
-            Some(false),
-        ),
-        (Endpoint::DeletePool, "default_pool", "", None),
-        (
-            Endpoint::AddVariable,
-            "",
-            "{\"key\":\"k\",\"value\":\"v\"}",
-            Some(false),
-        ),
-    ] {
-        let Some(op) = op(alloc, endpoint, part, body.as_bytes())? else {
-            return Err(Fail::new("a part is no name"));
-        };
-        assert_eq!(rt; where_full(alloc, &op)?, permitted, "{body}");
+    for (endpoint, part, body, permitted) in FULL {
+        let op = named(rt.alloc(), *endpoint, part, body.as_bytes())?;
+        let told = where_full(rt.alloc(), &op)?;
+        holds(&rt, told == *permitted, body);
     }
     Ok(())
 }

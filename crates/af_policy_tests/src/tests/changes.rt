@@ -1,4 +1,5 @@
 //! Changes told as steps: what each makes of the policy that the one before left, or its first fault.
+use crate::tests::asserts::{all_go, holds};
 use crate::tests::openings::{policy, role_over, user};
 use crate::tests::steps::{Step, after};
 use crate::tests::words::{
@@ -90,18 +91,25 @@ const FOUND: &[(&str, &str)] = &[
     (EDNAS, EDNA),
 ];
 
-/// The policy that these steps leave, where each is told as it says; else the first that is not.
-fn played(alloc: Global, steps: &[(Step, &str)]) -> Result<(Policy, String), Fail> {
-    let mut left = policy(alloc)?;
-    for (step, wanted) in steps {
-        let (later, told) = after(alloc, &left, *step)?;
-        if told.as_str() != *wanted {
-            let told = told.as_str();
-            return Ok((later, format!(in alloc; "{told} in place of {wanted}")?));
+/// Makes the change of a step of a policy: whether it is told so.
+fn goes(alloc: Global, policy: &mut Policy, step: Step, wanted: &str) -> Result<bool, Fail> {
+    let (later, told) = after(alloc, policy, step)?;
+    *policy = later;
+    Ok(told.as_str() == wanted)
+}
+
+/// Makes the changes of these steps, one after another, up to the first that is not told as it says: what was to be told of it.
+fn first_fault(
+    alloc: Global,
+    policy: &mut Policy,
+    steps: &'static [(Step, &'static str)],
+) -> Result<Option<(usize, &'static str)>, Fail> {
+    for (number, (step, wanted)) in steps.iter().enumerate() {
+        if !goes(alloc, policy, *step, wanted)? {
+            return Ok(Some((number, *wanted)));
         }
-        left = later;
     }
-    Ok((left, String::new(alloc)))
+    Ok(None)
 }
 
 /// The name of who brings a token, or the empty text for nobody.
@@ -114,17 +122,19 @@ fn bearer<'a>(policy: &'a Policy, token: &str) -> &'a str {
 
 #[test]
 fn changes_of_roles_are_made_or_refused_in_order(rt: HostRuntime) -> Result<(), Fail> {
-    let (_, other) = played(rt.alloc(), OF_ROLES)?;
-    assert_eq!(rt; other.as_str(), NONE);
+    let mut policy = policy(rt.alloc())?;
+    let fault = first_fault(rt.alloc(), &mut policy, OF_ROLES)?;
+    all_go(&rt, fault);
     Ok(())
 }
 
 #[test]
 fn changes_of_users_are_made_or_refused_in_order(rt: HostRuntime) -> Result<(), Fail> {
-    let (left, other) = played(rt.alloc(), OF_USERS)?;
-    assert_eq!(rt; other.as_str(), NONE);
+    let mut policy = policy(rt.alloc())?;
+    let fault = first_fault(rt.alloc(), &mut policy, OF_USERS)?;
+    all_go(&rt, fault);
     for (token, name) in FOUND {
-        assert_eq!(rt; bearer(&left, token), *name, "of {token}");
+        holds(&rt, bearer(&policy, token) == *name, token);
     }
     Ok(())
 }
@@ -157,12 +167,8 @@ const CROWDED: &[(Step, &str)] = &[
 
 #[test]
 fn a_policy_has_4096_roles_at_most(rt: HostRuntime) -> Result<(), Fail> {
-    let alloc = rt.alloc();
-    let mut left = crowded(alloc, 4090)?;
-    for (step, wanted) in CROWDED {
-        let (later, told) = after(alloc, &left, *step)?;
-        left = later;
-        assert_eq!(rt; told.as_str(), *wanted);
-    }
+    let mut policy = crowded(rt.alloc(), 4090)?;
+    let fault = first_fault(rt.alloc(), &mut policy, CROWDED)?;
+    all_go(&rt, fault);
     Ok(())
 }

@@ -1,4 +1,5 @@
 //! Rows worked by hand: who brings a token, which requirement a denial names, and what is refused of a policy's rows.
+use crate::tests::asserts::{holds, row_holds};
 use crate::tests::openings::{policy, role_on, user};
 use crate::tests::words::{
     A, ADAM, ADAMS, B, BOB, BOBS, CUT_SHORT, EDNA, EVE, LARGE_B, NONE, PAT, SMALL_VIEWER,
@@ -85,15 +86,23 @@ fn tokens_are_those_of_their_users(rt: HostRuntime) -> Result<(), Fail> {
     let policy = policy(rt.alloc())?;
     for (token, name) in TOKENS {
         let found = name_of(policy.bearer(Some(token.as_bytes())));
-        assert_eq!(rt; found, *name, "of {token}");
+        holds(&rt, found == *name, token);
     }
     let found = name_of(policy.bearer(None));
-    assert_eq!(rt; found, NONE, "without a token");
+    holds(&rt, found == NONE, "without a token");
     Ok(())
 }
 
 /// A user, requirements, a DAG, the DAGs that are there, and the first requirement that is lacked.
-const LACKED: &[(&str, &[Need], &str, &[&str], Option<Need>)] = &[
+type Lack = (
+    &'static str,
+    &'static [Need],
+    &'static str,
+    &'static [&'static str],
+    Option<Need>,
+);
+
+const LACKED: &[Lack] = &[
     (VERA, &[READ_AT, READ_RUNS], A, A_AND_B, None),
     (BOB, &[READ_AT], A, A_AND_B, Some(READ_AT)),
     (BOB, &[READ_AT], B, A_ALONE, None),
@@ -108,13 +117,20 @@ const LACKED: &[(&str, &[Need], &str, &[&str], Option<Need>)] = &[
     (EVE, &[READ_AT], B, A_AND_B, Some(READ_AT)),
 ];
 
+/// Whether a user lacks what the row says.
+fn is_lacked(alloc: Global, policy: &Policy, row: Lack) -> Result<bool, Fail> {
+    let (name, needs, dag, there, wanted) = row;
+    let there = dags(alloc, there)?;
+    let found = lacked(alloc, policy, name, needs, dag, there.as_slice())?;
+    Ok(found == wanted)
+}
+
 #[test]
 fn denials_name_the_first_need_that_is_lacked(rt: HostRuntime) -> Result<(), Fail> {
     let policy = policy(rt.alloc())?;
-    for (name, needs, dag, there, wanted) in LACKED {
-        let there = dags(rt.alloc(), there)?;
-        let found = lacked(rt.alloc(), &policy, name, needs, dag, there.as_slice())?;
-        assert_eq!(rt; found, *wanted, "of {name}");
+    for (number, row) in LACKED.iter().enumerate() {
+        let is_lacked = is_lacked(rt.alloc(), &policy, *row)?;
+        row_holds(&rt, is_lacked, number);
     }
     Ok(())
 }
@@ -122,19 +138,27 @@ fn denials_name_the_first_need_that_is_lacked(rt: HostRuntime) -> Result<(), Fai
 /// A DAG, and whether bob reads it.
 const READABLE: &[(&str, bool)] = &[(A, false), (B, true), (LARGE_B, false)];
 
+/// Whether bob reads a DAG.
+fn bob_reads(alloc: Global, policy: &Policy, dag: &str) -> Result<bool, Fail> {
+    let bob = UserName::parse(alloc, BOB)?;
+    let id = DagId::parse(alloc, dag)?;
+    Ok(policy.view(&bob).readable(&id))
+}
+
 #[test]
 fn a_reader_of_one_dag_reads_it_alone(rt: HostRuntime) -> Result<(), Fail> {
     let policy = policy(rt.alloc())?;
-    let bob = UserName::parse(rt.alloc(), BOB)?;
     for (dag, reads) in READABLE {
-        let id = DagId::parse(rt.alloc(), dag)?;
-        assert_eq!(rt; policy.view(&bob).readable(&id), *reads, "at {dag}");
+        let found = bob_reads(rt.alloc(), &policy, dag)?;
+        holds(&rt, found == *reads, dag);
     }
     Ok(())
 }
 
 /// A user, a token, a role, and why the user is not added.
-const ROWS: &[(&str, &str, &str, Option<RowFault>)] = &[
+type Row = (&'static str, &'static str, &'static str, Option<RowFault>);
+
+const ROWS: &[Row] = &[
     (VERA, VERAS, VIEWER, None),
     (VERA, BOBS, SMALL_VIEWER, Some(RowFault::UnknownRole)),
     (VERA, BOBS, VIEWER, Some(RowFault::Exists)),
@@ -142,20 +166,28 @@ const ROWS: &[(&str, &str, &str, Option<RowFault>)] = &[
     (BOB, BOBS, VIEWER, None),
 ];
 
+/// Whether a role of a default one's name is refused.
+fn is_role_refused(alloc: Global, draft: &mut PolicyDraft) -> Result<bool, Fail> {
+    let role = role_on(alloc, VIEWER, Action::Read, B)?;
+    Ok(draft.add_role(role).err() == Some(RowFault::Exists))
+}
+
+/// Adds a user with one role: whether this is refused so, or not.
+fn is_refused(alloc: Global, draft: &mut PolicyDraft, row: Row) -> Result<bool, Fail> {
+    let (name, token, role, fault) = row;
+    let user = user(alloc, name, token, [role].as_slice())?;
+    Ok(draft.add_user(alloc, user).err() == fault)
+}
+
 #[test]
 fn rows_are_refused_in_order(rt: HostRuntime) -> Result<(), Fail> {
     let alloc = rt.alloc();
     let mut draft = PolicyDraft::new(alloc)?;
-    assert_eq!(rt;
-        draft
-            .add_role(role_on(alloc, VIEWER, Action::Read, B)?)
-            .err(),
-        Some(RowFault::Exists)
-    );
-    for (name, token, role, fault) in ROWS {
-        let user = user(alloc, name, token, [*role].as_slice())?;
-        assert_eq!(rt; draft.add_user(alloc, user).err(), *fault, "of {name}");
+    holds(&rt, is_role_refused(alloc, &mut draft)?, VIEWER);
+    for (number, row) in ROWS.iter().enumerate() {
+        let is_refused = is_refused(alloc, &mut draft, *row)?;
+        row_holds(&rt, is_refused, number);
     }
-    assert_eq!(rt; draft.finish(alloc).is_err(), true);
+    holds(&rt, draft.finish(alloc).is_err(), "no Admin");
     Ok(())
 }

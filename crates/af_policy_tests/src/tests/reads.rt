@@ -1,4 +1,5 @@
 //! Who is told what of a policy: one's own permissions, roles and users, or why not.
+use crate::tests::asserts::holds;
 use crate::tests::openings::policy;
 use crate::tests::steps::{Step, change_of};
 use crate::tests::words::{
@@ -112,41 +113,61 @@ fn word(fault: ReadFault) -> &'static str {
     }
 }
 
+/// Adds how many there are in all.
+fn add_total(alloc: Global, text: &mut String, total: usize) -> Result<(), Fail> {
+    text.push_str(format!(in alloc; " of {total}")?.as_str())?;
+    Ok(())
+}
+
+fn add_role(alloc: Global, text: &mut String, role: &RoleShown<'_>) -> Result<(), Fail> {
+    text.push_str(role.name().as_str())?;
+    text.push_str(COLON)?;
+    permissions(alloc, text, role.permissions())
+}
+
+/// Adds what is told.
+fn add_told(
+    alloc: Global,
+    text: &mut String,
+    told: &Result<PolicyReply<'_>, ReadFault>,
+) -> Result<(), Fail> {
+    match told {
+        Ok(PolicyReply::Roles(page)) => {
+            let total = roles(text, page)?;
+            add_total(alloc, text, total)
+        }
+        Ok(PolicyReply::Users(page)) => {
+            let total = users(text, page)?;
+            add_total(alloc, text, total)
+        }
+        Ok(PolicyReply::Role(role)) => add_role(alloc, text, role),
+        Ok(PolicyReply::User(row)) => user(text, row),
+        Err(fault) => Ok(text.push_str(word(*fault))?),
+    }
+}
+
 fn text_of(alloc: Global, told: &Result<PolicyReply<'_>, ReadFault>) -> Result<String, Fail> {
     let mut text = String::new(alloc);
-    let total = match told {
-        Ok(PolicyReply::Roles(page)) => roles(&mut text, page)?,
-        Ok(PolicyReply::Users(page)) => users(&mut text, page)?,
-        Ok(PolicyReply::Role(role)) => {
-            text.push_str(role.name().as_str())?;
-            text.push_str(COLON)?;
-            permissions(alloc, &mut text, role.permissions())?;
-            return Ok(text);
-        }
-        Ok(PolicyReply::User(row)) => {
-            user(&mut text, row)?;
-            return Ok(text);
-        }
-        Err(fault) => {
-            text.push_str(word(*fault))?;
-            return Ok(text);
-        }
-    };
-    text.push_str(format!(in alloc; " of {total}")?.as_str())?;
+    add_told(alloc, &mut text, told)?;
     Ok(text)
+}
+
+/// Adds who one is told to be.
+fn add_self(alloc: Global, text: &mut String, told: &Result<Me<'_>, MeFault>) -> Result<(), Fail> {
+    match told {
+        Ok(me) => {
+            user(text, &me.user)?;
+            text.push_str(BLANK)?;
+            permissions(alloc, text, &me.permissions)
+        }
+        Err(MeFault::Unauthenticated) => Ok(text.push_str(UNAUTHENTICATED)?),
+        Err(_) => Ok(text.push_str(NO_SUCH_ANSWER)?),
+    }
 }
 
 fn self_of(alloc: Global, told: &Result<Me<'_>, MeFault>) -> Result<String, Fail> {
     let mut text = String::new(alloc);
-    match told {
-        Ok(me) => {
-            user(&mut text, &me.user)?;
-            text.push_str(BLANK)?;
-            permissions(alloc, &mut text, &me.permissions)?;
-        }
-        Err(MeFault::Unauthenticated) => text.push_str(UNAUTHENTICATED)?,
-        Err(_) => text.push_str(NO_SUCH_ANSWER)?,
-    }
+    add_self(alloc, &mut text, told)?;
     Ok(text)
 }
 
@@ -168,31 +189,57 @@ fn told_self(alloc: Global, versions: &Versions, token: &str) -> Result<(u32, St
     Ok((told.version, self_of(alloc, &told.answer)?))
 }
 
+/// Whether this is told to the bearer of a token, under the first version.
+fn is_told(
+    alloc: Global,
+    versions: &Versions,
+    token: &str,
+    asked: Asked,
+    wanted: &str,
+) -> Result<bool, Fail> {
+    let (version, text) = told(alloc, versions, token, asked)?;
+    Ok(version == 0 && text.as_str() == wanted)
+}
+
+/// Whether the bearer of a token is told to be this one, under this version.
+fn is_told_self(
+    alloc: Global,
+    versions: &Versions,
+    token: &str,
+    wanted: (u32, &str),
+) -> Result<bool, Fail> {
+    let (version, text) = told_self(alloc, versions, token)?;
+    Ok(version == wanted.0 && text.as_str() == wanted.1)
+}
+
+/// The versions of the policy, of which two are left.
+fn opened(alloc: Global) -> Result<Versions, Fail> {
+    Ok(Versions::open(alloc, policy(alloc)?, 2))
+}
+
 #[test]
 fn reads_are_told_or_refused_in_order(rt: HostRuntime) -> Result<(), Fail> {
-    let versions = Versions::open(rt.alloc(), policy(rt.alloc())?, 2);
+    let versions = opened(rt.alloc())?;
     for (token, asked, wanted) in READS {
-        let (version, text) = told(rt.alloc(), &versions, token, *asked)?;
-        assert_eq!(rt; version, 0);
-        assert_eq!(rt; text.as_str(), *wanted, "to {token}");
+        let is_told = is_told(rt.alloc(), &versions, token, *asked, wanted)?;
+        holds(&rt, is_told, token);
     }
     Ok(())
 }
 
 #[test]
 fn each_is_told_who_it_is(rt: HostRuntime) -> Result<(), Fail> {
-    let versions = Versions::open(rt.alloc(), policy(rt.alloc())?, 2);
+    let versions = opened(rt.alloc())?;
     for (token, wanted) in SELVES {
-        let (version, text) = told_self(rt.alloc(), &versions, token)?;
-        assert_eq!(rt; version, 0);
-        assert_eq!(rt; text.as_str(), *wanted, "to {token}");
+        let is_told = is_told_self(rt.alloc(), &versions, token, (0, *wanted))?;
+        holds(&rt, is_told, token);
     }
     Ok(())
 }
 
 /// The versions where bob has a further role, and one twice.
 fn changed(alloc: Global) -> Result<Versions, Fail> {
-    let mut versions = Versions::open(alloc, policy(alloc)?, 2);
+    let mut versions = opened(alloc)?;
     let ask = Ask::Made(change_of(alloc, Step::SetRoles(BOB, MORE_ROLES))?);
     match versions.submit(alloc, Some(ADAMS.as_bytes()), &ask) {
         Ok(_) => Ok(versions),
@@ -205,8 +252,7 @@ const MORE_ROLES: &[&str] = &[PUBLIC, ONLY_B, ONLY_B];
 #[test]
 fn a_changed_user_is_told_under_the_next_version(rt: HostRuntime) -> Result<(), Fail> {
     let versions = changed(rt.alloc())?;
-    let (version, text) = told_self(rt.alloc(), &versions, BOBS)?;
-    assert_eq!(rt; version, 1);
-    assert_eq!(rt; text.as_str(), BOB_CHANGED);
+    let is_told = is_told_self(rt.alloc(), &versions, BOBS, (1, BOB_CHANGED))?;
+    holds(&rt, is_told, "bob");
     Ok(())
 }

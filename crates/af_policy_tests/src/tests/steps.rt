@@ -37,16 +37,23 @@ fn text(alloc: Global, text: &str) -> Result<Text, Fail> {
 }
 
 fn role(alloc: Global, name: &str, pairs: &[(&str, &str)]) -> Result<RoleInput, Fail> {
+    let name = RoleName::parse(alloc, name)?;
+    let actions = pair_texts(alloc, pairs)?;
+    Ok(RoleInput { name, actions })
+}
+
+fn pair_texts(alloc: Global, pairs: &[(&str, &str)]) -> Result<PairTexts, Fail> {
     let mut items = Vec::new(alloc);
     for (action, resource) in pairs {
-        let action = text(alloc, action)?;
-        let resource = text(alloc, resource)?;
-        items.push(PairText { action, resource })?;
+        items.push(pair_text(alloc, action, resource)?)?;
     }
-    Ok(RoleInput {
-        name: RoleName::parse(alloc, name)?,
-        actions: PairTexts::new(items),
-    })
+    Ok(PairTexts::new(items))
+}
+
+fn pair_text(alloc: Global, action: &str, resource: &str) -> Result<PairText, Fail> {
+    let action = text(alloc, action)?;
+    let resource = text(alloc, resource)?;
+    Ok(PairText { action, resource })
 }
 
 fn patch(
@@ -55,15 +62,9 @@ fn patch(
     token: Option<&str>,
     roles: Option<&[&str]>,
 ) -> Result<Change, Fail> {
+    let digest = maybe_digest(token);
     let name = UserName::parse(alloc, name)?;
-    let digest = match token {
-        Some(token) => Some(digest_of(token)),
-        None => None,
-    };
-    let roles = match roles {
-        Some(roles) => Some(RoleNames::new(names(alloc, roles)?)),
-        None => None,
-    };
+    let roles = maybe_names(alloc, roles)?;
     Ok(Change::SetUser(UserPatch {
         name,
         digest,
@@ -71,18 +72,40 @@ fn patch(
     }))
 }
 
+fn maybe_digest(token: Option<&str>) -> Option<[u8; 32]> {
+    match token {
+        Some(token) => Some(digest_of(token)),
+        None => None,
+    }
+}
+
+fn maybe_names(alloc: Global, roles: Option<&[&str]>) -> Result<Option<RoleNames>, Fail> {
+    match roles {
+        Some(roles) => Ok(Some(RoleNames::new(names(alloc, roles)?))),
+        None => Ok(None),
+    }
+}
+
 fn access(alloc: Global, rows: &[(&str, &[&str])]) -> Result<AccessControl, Fail> {
     let mut access = Vec::new(alloc);
     for (role, actions) in rows {
-        let role = RoleName::parse(alloc, role)?;
-        let mut texts = Vec::new(alloc);
-        for action in *actions {
-            texts.push(text(alloc, action)?)?;
-        }
-        let actions = Texts::new(texts);
-        access.push(AccessRow { role, actions })?;
+        access.push(access_row(alloc, role, actions)?)?;
     }
     Ok(AccessControl::new(access))
+}
+
+fn access_row(alloc: Global, role: &str, actions: &[&str]) -> Result<AccessRow, Fail> {
+    let role = RoleName::parse(alloc, role)?;
+    let actions = texts(alloc, actions)?;
+    Ok(AccessRow { role, actions })
+}
+
+fn texts(alloc: Global, items: &[&str]) -> Result<Texts, Fail> {
+    let mut texts = Vec::new(alloc);
+    for item in items {
+        texts.push(text(alloc, item)?)?;
+    }
+    Ok(Texts::new(texts))
 }
 
 fn sync(alloc: Global, access: Option<AccessControl>) -> Result<Change, Fail> {

@@ -1,4 +1,5 @@
 //! The access control of the DAG b taken over again and again: what is told, and who then has what.
+use crate::tests::asserts::{holds, row_holds};
 use crate::tests::openings::policy;
 use crate::tests::steps::{Step, after};
 use crate::tests::words::{
@@ -14,7 +15,9 @@ use std::test::Fail;
 
 /// A step; what is told; whether bob, whose role is OnlyB, then reads b, whether he then edits it, and whether pat, whose
 /// role is the default role Public, reads it.
-const SYNCS: &[(Step, &str, bool, bool, bool)] = &[
+type Synced = (Step, &'static str, bool, bool, bool);
+
+const SYNCS: &[Synced] = &[
     (Step::Unlisted, DONE, true, false, false),
     (Step::Sync(&[]), DONE, false, false, false),
     (Step::Sync(&[]), DONE, false, false, false),
@@ -100,15 +103,21 @@ fn of_two(alloc: Global, policy: &Policy) -> Result<(bool, bool, bool), Fail> {
     Ok((reads, edits, has(alloc, policy, PAT, Action::Read)?))
 }
 
+/// Makes the change of a row: whether this is told of it, and these have what the row says.
+fn is_synced(alloc: Global, left: &mut Policy, row: Synced) -> Result<bool, Fail> {
+    let (step, wanted, reads, edits, public) = row;
+    let (later, told) = after(alloc, left, step)?;
+    *left = later;
+    let found = of_two(alloc, left)?;
+    Ok(told.as_str() == wanted && found == (reads, edits, public))
+}
+
 #[test]
 fn a_sync_lists_what_it_is_given_alone(rt: HostRuntime) -> Result<(), Fail> {
     let mut left = policy(rt.alloc())?;
-    for (step, wanted, reads, edits, public) in SYNCS {
-        let (later, told) = after(rt.alloc(), &left, *step)?;
-        left = later;
-        assert_eq!(rt; told.as_str(), *wanted);
-        let found = of_two(rt.alloc(), &left)?;
-        assert_eq!(rt; found, (*reads, *edits, *public), "after {wanted}");
+    for (number, row) in SYNCS.iter().enumerate() {
+        let is_synced = is_synced(rt.alloc(), &mut left, *row)?;
+        row_holds(&rt, is_synced, number);
     }
     Ok(())
 }
@@ -119,14 +128,20 @@ fn of_all_dags(alloc: Global, policy: &Policy) -> Result<(bool, bool), Fail> {
     Ok((reads, has(alloc, policy, ADAM, Action::Delete)?))
 }
 
+/// Makes the change of a step: whether those who have all DAGs still have them.
+fn leaves_all_dags(alloc: Global, left: &mut Policy, step: Step) -> Result<bool, Fail> {
+    let (later, _) = after(alloc, left, step)?;
+    *left = later;
+    let (reads, deletes) = of_all_dags(alloc, left)?;
+    Ok(reads && deletes)
+}
+
 #[test]
 fn a_sync_leaves_who_has_all_dags(rt: HostRuntime) -> Result<(), Fail> {
     let mut left = policy(rt.alloc())?;
-    for (step, wanted, _, _, _) in SYNCS {
-        let (later, _) = after(rt.alloc(), &left, *step)?;
-        left = later;
-        let found = of_all_dags(rt.alloc(), &left)?;
-        assert_eq!(rt; found, (true, true), "after {wanted}");
+    for (number, (step, _, _, _, _)) in SYNCS.iter().enumerate() {
+        let leaves = leaves_all_dags(rt.alloc(), &mut left, *step)?;
+        row_holds(&rt, leaves, number);
     }
     Ok(())
 }
@@ -154,21 +169,27 @@ fn reads(alloc: Global, policy: &Policy, dag: &str) -> Result<bool, Fail> {
 #[test]
 fn a_sync_leaves_permissions_on_other_dags(rt: HostRuntime) -> Result<(), Fail> {
     let (later, told) = emptied(rt.alloc())?;
-    assert_eq!(rt; told.as_str(), DONE);
+    holds(&rt, told.as_str() == DONE, DONE);
     for (dag, wanted) in LEFT {
-        assert_eq!(rt; reads(rt.alloc(), &later, dag)?, *wanted, "at {dag}");
+        let found = reads(rt.alloc(), &later, dag)?;
+        holds(&rt, found == *wanted, dag);
     }
     Ok(())
 }
 
-#[test]
-fn a_sync_leaves_permissions_on_other_kinds(rt: HostRuntime) -> Result<(), Fail> {
-    let (later, _) = emptied(rt.alloc())?;
-    let bob = UserName::parse(rt.alloc(), BOB)?;
-    assert!(rt;
+/// Whether bob reads pools after b is synced.
+fn leaves_pools(alloc: Global) -> Result<bool, Fail> {
+    let (later, _) = emptied(alloc)?;
+    let bob = UserName::parse(alloc, BOB)?;
+    Ok(
         later
             .view(&bob)
-            .holds_on_kind(Action::Read, ResourceKind::Pools)
-    );
+            .holds_on_kind(Action::Read, ResourceKind::Pools),
+    )
+}
+
+#[test]
+fn a_sync_leaves_permissions_on_other_kinds(rt: HostRuntime) -> Result<(), Fail> {
+    holds(&rt, leaves_pools(rt.alloc())?, "pools");
     Ok(())
 }

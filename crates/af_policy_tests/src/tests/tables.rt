@@ -1,4 +1,5 @@
 //! Tables that share rows: what a change leaves of the table before it, and how long a search is.
+use crate::tests::asserts::holds;
 use af_policy::{Row, Table, front};
 use std::alloc::{AllocError, Global};
 use std::test::Fail;
@@ -60,26 +61,42 @@ fn changed(alloc: Global, old: &Table<Word>) -> Result<(Table<Word>, Table<Word>
     Ok((less, more))
 }
 
+/// Whether a table is left as it was by changes that make two further ones of it.
+fn is_left(alloc: Global, falling: bool) -> Result<bool, AllocError> {
+    let old = words(alloc, falling)?;
+    let was = shown(&old);
+    let (less, more) = changed(alloc, &old)?;
+    let is_old = was == (4096, true, true, false) && shown(&old) == (4096, true, true, false);
+    Ok(is_old && are_changed(&less, &more))
+}
+
+/// Whether the one table is without the word that is taken out, and the other has also the one that is added.
+fn are_changed(less: &Table<Word>, more: &Table<Word>) -> bool {
+    shown(less) == (4095, false, true, false) && shown(more) == (4096, false, true, true)
+}
+
 #[test]
 fn a_change_leaves_the_older_version(rt: HostRuntime) -> Result<(), Fail> {
     for falling in [false, true] {
-        let old = words(rt.alloc(), falling)?;
-        assert_eq!(&rt; shown(&old), (4096, true, true, false));
-        let (less, more) = changed(rt.alloc(), &old)?;
-        assert_eq!(&rt; shown(&old), (4096, true, true, false));
-        assert_eq!(&rt; shown(&less), (4095, false, true, false));
-        assert_eq!(&rt; shown(&more), (4096, false, true, true));
+        let is_left = is_left(rt.alloc(), falling)?;
+        holds(&rt, is_left, "the tables");
     }
     Ok(())
+}
+
+/// Whether all words are listed, and stay where one that is absent is taken out.
+fn are_listed(alloc: Global, falling: bool) -> Result<bool, AllocError> {
+    let table = words(alloc, falling)?;
+    let count = table.rows(alloc)?.len();
+    let same = table.without(alloc, ABSENT.as_slice())?;
+    Ok(count == 4096 && same.len() == 4096)
 }
 
 #[test]
 fn all_words_are_listed(rt: HostRuntime) -> Result<(), Fail> {
     for falling in [false, true] {
-        let table = words(rt.alloc(), falling)?;
-        assert_eq!(&rt; table.rows(rt.alloc())?.len(), 4096);
-        let same = table.without(rt.alloc(), ABSENT.as_slice())?;
-        assert_eq!(&rt; same.len(), 4096);
+        let are_listed = are_listed(rt.alloc(), falling)?;
+        holds(&rt, are_listed, "the words");
     }
     Ok(())
 }
@@ -92,14 +109,19 @@ fn halve(alloc: Global, table: &mut Table<Word>) -> Result<(), AllocError> {
     Ok(())
 }
 
+/// Whether a search is short among all words, and among the half that is left of them.
+fn is_short(alloc: Global, falling: bool) -> Result<bool, AllocError> {
+    let mut table = words(alloc, falling)?;
+    let height = table.height();
+    halve(alloc, &mut table)?;
+    Ok(height <= 18 && table.len() == 2048 && table.height() <= 16)
+}
+
 #[test]
 fn a_search_is_short(rt: HostRuntime) -> Result<(), Fail> {
     for falling in [false, true] {
-        let mut table = words(rt.alloc(), falling)?;
-        assert!(&rt; table.height() <= 18);
-        halve(rt.alloc(), &mut table)?;
-        assert_eq!(&rt; table.len(), 2048);
-        assert!(&rt; table.height() <= 16);
+        let is_short = is_short(rt.alloc(), falling)?;
+        holds(&rt, is_short, "the height");
     }
     Ok(())
 }

@@ -1,4 +1,5 @@
 //! Changes that users ask for, one after the other: which version each makes, or why it makes none.
+use crate::tests::asserts::{holds, row_holds};
 use crate::tests::openings::policy;
 use crate::tests::steps::{Step, change_of, told};
 use crate::tests::words::{
@@ -76,9 +77,26 @@ fn asked_for(
     outcome(alloc, &made)
 }
 
+/// Whether this is told of what the bearer of a token asks for.
+fn is_told(
+    alloc: Global,
+    versions: &mut Versions,
+    token: &str,
+    asked: Asked,
+    wanted: &str,
+) -> Result<bool, Fail> {
+    let told = asked_for(alloc, versions, token, asked)?;
+    Ok(told.as_str() == wanted)
+}
+
+/// The versions of the policy, of which so many are left.
+fn opened(alloc: Global, left: u32) -> Result<Versions, Fail> {
+    Ok(Versions::open(alloc, policy(alloc)?, left))
+}
+
 /// The versions after all that is asked for.
 fn played(alloc: Global) -> Result<Versions, Fail> {
-    let mut versions = Versions::open(alloc, policy(alloc)?, 2);
+    let mut versions = opened(alloc, 2)?;
     for (token, asked, _) in ASKED {
         asked_for(alloc, &mut versions, token, *asked)?;
     }
@@ -87,12 +105,12 @@ fn played(alloc: Global) -> Result<Versions, Fail> {
 
 #[test]
 fn versions_are_made_by_who_may_make_them(rt: HostRuntime) -> Result<(), Fail> {
-    let mut versions = Versions::open(rt.alloc(), policy(rt.alloc())?, 2);
-    for (token, asked, wanted) in ASKED {
-        let told = asked_for(rt.alloc(), &mut versions, token, *asked)?;
-        assert_eq!(rt; told.as_str(), *wanted, "for {token}");
+    let mut versions = opened(rt.alloc(), 2)?;
+    for (row, (token, asked, wanted)) in ASKED.iter().enumerate() {
+        let is_told = is_told(rt.alloc(), &mut versions, token, *asked, wanted)?;
+        row_holds(&rt, is_told, row);
     }
-    assert_eq!(rt; versions.current(), 2);
+    holds(&rt, versions.current() == 2, "the latest version");
     Ok(())
 }
 
@@ -110,11 +128,11 @@ fn knows_vera(versions: &Versions, version: u32) -> Option<bool> {
 #[test]
 fn earlier_versions_stay(rt: HostRuntime) -> Result<(), Fail> {
     let versions = played(rt.alloc())?;
-    for (version, known) in KNOWN {
+    for (row, (version, known)) in KNOWN.iter().enumerate() {
         let found = knows_vera(&versions, *version);
-        assert_eq!(rt; found, Some(*known), "under version {version}");
+        row_holds(&rt, found == Some(*known), row);
     }
-    assert!(rt; versions.policy(3).is_none());
+    holds(&rt, versions.policy(3).is_none(), "past the latest");
     Ok(())
 }
 
@@ -132,11 +150,12 @@ const ADMINS: &[(&str, Step, &str)] = &[
 
 #[test]
 fn the_last_admin_stays(rt: HostRuntime) -> Result<(), Fail> {
-    let mut versions = Versions::open(rt.alloc(), policy(rt.alloc())?, 4);
-    for (token, step, wanted) in ADMINS {
-        let told = asked_for(rt.alloc(), &mut versions, token, Asked::For(*step))?;
-        assert_eq!(rt; told.as_str(), *wanted, "for {token}");
+    let mut versions = opened(rt.alloc(), 4)?;
+    for (row, (token, step, wanted)) in ADMINS.iter().enumerate() {
+        let asked = Asked::For(*step);
+        let is_told = is_told(rt.alloc(), &mut versions, token, asked, wanted)?;
+        row_holds(&rt, is_told, row);
     }
-    assert_eq!(rt; versions.current(), 3);
+    holds(&rt, versions.current() == 3, "the latest version");
     Ok(())
 }

@@ -1,3 +1,4 @@
+use super::asserts::{holds, number_holds, row_holds};
 use super::{BASE, Pieces, blank_paper};
 use crate::command::Command;
 use crate::console::Console;
@@ -55,12 +56,11 @@ fn asks_usage(alloc: Global, words: &[&str]) -> Result<bool, Fail> {
 #[test]
 fn the_words_of_the_program(rt: HostRuntime) -> Result<(), Fail> {
     let once = ["afplane", "once", "base.json", "2024-01-01T00:00:00Z"];
-    assert!(rt;
-        asks_once(rt.alloc(), &once, "base.json")?,
-        "one connection"
-    );
-    for words in WRONG {
-        assert!(rt; asks_usage(rt.alloc(), words)?, "{words:?}");
+    let asks_once = asks_once(rt.alloc(), &once, "base.json")?;
+    holds(&rt, asks_once, "one connection");
+    for (row, words) in WRONG.iter().enumerate() {
+        let asks_usage = asks_usage(rt.alloc(), *words)?;
+        row_holds(&rt, asks_usage, row);
     }
     Ok(())
 }
@@ -154,7 +154,8 @@ fn is_said(alloc: Global, call: Call) -> Result<bool, Fail> {
 #[test]
 fn what_the_program_says(rt: HostRuntime) -> Result<(), Fail> {
     for call in CALLS {
-        assert!(rt; is_said(rt.alloc(), call)?, "{}", call.0);
+        let is_said = is_said(rt.alloc(), call)?;
+        holds(&rt, is_said, call.0);
     }
     Ok(())
 }
@@ -178,14 +179,12 @@ fn spaces(alloc: Global, length: usize) -> Result<Option<Reason>, Fail> {
 #[test]
 fn files_that_fail_are_refused(rt: HostRuntime) -> Result<(), Fail> {
     for left in [0usize, 70_000] {
-        assert_eq!(rt;
-            refused_after(rt.alloc(), left),
-            Some(Reason::Unreadable),
-            "{left}"
-        );
+        let is_refused = refused_after(rt.alloc(), left) == Some(Reason::Unreadable);
+        number_holds(&rt, is_refused, "fails after", left);
     }
     for length in [0usize, 20_000] {
-        assert_eq!(rt; spaces(rt.alloc(), length)?, None, "{length}");
+        let refused = spaces(rt.alloc(), length)?;
+        number_holds(&rt, refused.is_none(), "spaces:", length);
     }
     Ok(())
 }
@@ -219,17 +218,23 @@ fn is_word(alloc: Global, reason: Reason, word: &str) -> Result<bool, Fail> {
 #[test]
 fn each_line(rt: HostRuntime) -> Result<(), Fail> {
     for (reason, word) in WORDS {
-        assert!(rt; is_word(rt.alloc(), reason, word)?, "{word}");
+        let is_word = is_word(rt.alloc(), reason, word)?;
+        holds(&rt, is_word, word);
     }
     Ok(())
 }
 
 const USAGE: &[u8] = b"usage: afplane once CONFIG NOW | serve CONFIG PORT WORKERS | verify TRACE\n";
 
+/// Whether the line of the usage is told, with the status 2.
+fn is_usage_told(alloc: Global) -> bool {
+    let mut errors = blank_paper(alloc);
+    let status = usage(&mut errors);
+    status == 2 && errors.into_inner().bytes.as_slice() == USAGE
+}
+
 #[test]
 fn the_line_of_the_usage(rt: HostRuntime) -> Result<(), Fail> {
-    let mut errors = blank_paper(rt.alloc());
-    assert_eq!(rt; usage(&mut errors), 2);
-    assert_eq!(rt; errors.into_inner().bytes.as_slice(), USAGE);
+    holds(&rt, is_usage_told(rt.alloc()), "the status and the line");
     Ok(())
 }

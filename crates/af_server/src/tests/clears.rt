@@ -1,3 +1,4 @@
+use super::asserts::number_holds;
 use super::{Exchange, are_told};
 use std::test::Fail;
 
@@ -133,7 +134,8 @@ const CLEARS: [Exchange; 31] = [
 #[test]
 fn instances_are_cleared(rt: HostRuntime) -> Result<(), Fail> {
     for size in [1, 4_096] {
-        assert!(rt; are_told(rt.alloc(), &CLEARS, size)?, "{size}");
+        let are_told = are_told(rt.alloc(), &CLEARS, size)?;
+        number_holds(&rt, are_told, "in pieces of", size);
     }
     Ok(())
 }

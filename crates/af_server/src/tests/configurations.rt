@@ -1,4 +1,5 @@
 use super::BASE;
+use super::asserts::{all_go, holds};
 use crate::config::Configuration;
 use crate::reason::Reason;
 use std::alloc::Global;
@@ -165,7 +166,8 @@ const LISTS: [(&str, Option<Reason>); 20] = [
 
 #[test]
 fn each_reason(rt: HostRuntime) -> Result<(), Fail> {
-    assert_eq!(rt; first_fault(rt.alloc(), "", "", &WHOLE)?, None);
-    assert!(rt; are_refused(rt.alloc(), &LISTS)?, "pools and DAGs");
+    let fault = first_fault(rt.alloc(), "", "", &WHOLE)?;
+    all_go(&rt, fault, "whole configurations");
+    holds(&rt, are_refused(rt.alloc(), &LISTS)?, "pools and DAGs");
     Ok(())
 }

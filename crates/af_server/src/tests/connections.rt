@@ -1,3 +1,4 @@
+use super::asserts::{all_go, holds, number_holds};
 use super::{Exchange, are_told, is_told};
 use af_http::Ended;
 use af_ops::Status;
@@ -57,7 +58,8 @@ fn is_listed(alloc: Global, token: &str, told: &str) -> Result<bool, Fail> {
 #[test]
 fn what_each_user_is_told(rt: HostRuntime) -> Result<(), Fail> {
     for (token, told) in LISTS {
-        assert!(rt; is_listed(rt.alloc(), token, told)?, "{token}");
+        let is_listed = is_listed(rt.alloc(), token, told)?;
+        holds(&rt, is_listed, token);
     }
     Ok(())
 }
@@ -72,7 +74,8 @@ const OPEN: [Exchange; 3] = [
 #[test]
 fn without_a_token_or_a_method(rt: HostRuntime) -> Result<(), Fail> {
     for exchange in OPEN {
-        assert!(rt; are_told(rt.alloc(), &[exchange], 4_096)?, "{}", exchange.0);
+        let is_told = are_told(rt.alloc(), &[exchange], 4_096)?;
+        holds(&rt, is_told, exchange.0);
     }
     Ok(())
 }
@@ -81,25 +84,32 @@ fn without_a_token_or_a_method(rt: HostRuntime) -> Result<(), Fail> {
 fn two(alloc: Global) -> Result<(String, String), Fail> {
     let mut input = asks_list(alloc, "test")?;
     input.push_str(ASKS_VERSION)?;
+    Ok((input, told_of_two(alloc)?))
+}
+
+/// What is told of the two.
+fn told_of_two(alloc: Global) -> Result<String, Fail> {
     let mut told = String::from_str(alloc, LIST)?;
     told.push_str(VERSION)?;
-    Ok((input, told))
+    Ok(told)
+}
+
+/// The first size of pieces in which this is not what is told of an input.
+fn first_size(alloc: Global, input: &str, told: &str) -> Result<Option<usize>, Fail> {
+    for size in 1..=input.len() {
+        if !is_told(alloc, input.as_bytes(), size, told, Ended::Closed)? {
+            return Ok(Some(size));
+        }
+    }
+    Ok(None)
 }
 
 /// On one connection, however they are cut.
 #[test]
 fn in_pieces_of_any_size(rt: HostRuntime) -> Result<(), Fail> {
     let (input, told) = two(rt.alloc())?;
-    for size in 1..=input.len() {
-        let same = is_told(
-            rt.alloc(),
-            input.as_bytes(),
-            size,
-            told.as_str(),
-            Ended::Closed,
-        )?;
-        assert!(rt; same, "{size}");
-    }
+    let fault = first_size(rt.alloc(), input.as_str(), told.as_str())?;
+    all_go(&rt, fault, "in pieces of");
     Ok(())
 }
 
@@ -121,17 +131,16 @@ fn is_incomplete(alloc: Global, length: usize) -> Result<bool, Fail> {
 #[test]
 fn cut_after_each_byte(rt: HostRuntime) -> Result<(), Fail> {
     for length in 1..41usize {
-        assert!(rt; is_incomplete(rt.alloc(), length)?, "{length}");
+        let is_incomplete = is_incomplete(rt.alloc(), length)?;
+        number_holds(&rt, is_incomplete, "cut after", length);
     }
-    assert_eq!(rt; ASKS_VERSION.len(), 41);
+    holds(&rt, ASKS_VERSION.len() == 41, "the request");
     Ok(())
 }
 
 #[test]
 fn nothing_is_asked(rt: HostRuntime) -> Result<(), Fail> {
-    assert!(rt;
-        are_told(rt.alloc(), &[], 4_096)?,
-        "no answer, and it closes"
-    );
+    let are_told = are_told(rt.alloc(), &[], 4_096)?;
+    holds(&rt, are_told, "no answer, and it closes");
     Ok(())
 }

@@ -1,3 +1,4 @@
+use super::asserts::all_go;
 use super::configurations::{ADMIN, first_fault};
 use crate::reason::Reason;
 use std::alloc::Global;
@@ -161,7 +162,7 @@ fn first_of_tasks(alloc: Global) -> Result<Option<usize>, Fail> {
 
 #[test]
 fn each_reason_of_a_dag(rt: HostRuntime) -> Result<(), Fail> {
-    assert_eq!(rt; first_of_dags(rt.alloc())?, None, "members of a DAG");
-    assert_eq!(rt; first_of_tasks(rt.alloc())?, None, "members of tasks");
+    all_go(&rt, first_of_dags(rt.alloc())?, "members of a DAG");
+    all_go(&rt, first_of_tasks(rt.alloc())?, "members of tasks");
     Ok(())
 }

@@ -1,3 +1,4 @@
+use super::asserts::holds;
 use super::is_told;
 use super::rows::{Row, rows_are_told};
 use af_http::Ended;
@@ -122,10 +123,8 @@ const INSTANCES: [Row; 14] = [
 
 #[test]
 fn what_is_told_of_instances(rt: HostRuntime) -> Result<(), Fail> {
-    assert!(rt;
-        rows_are_told(rt.alloc(), &INSTANCES)?,
-        "the answers, one after another"
-    );
+    let are_told = rows_are_told(rt.alloc(), &INSTANCES)?;
+    holds(&rt, are_told, "the answers, one after another");
     Ok(())
 }
 
@@ -152,7 +151,8 @@ fn is_told_to_nobody(alloc: Global, asked: &str, told: &str) -> Result<bool, Fai
 #[test]
 fn where_there_is_no_instance(rt: HostRuntime) -> Result<(), Fail> {
     for (asked, told) in NOWHERE {
-        assert!(rt; is_told_to_nobody(rt.alloc(), asked, told)?, "{asked}");
+        let is_told = is_told_to_nobody(rt.alloc(), asked, told)?;
+        holds(&rt, is_told, asked);
     }
     Ok(())
 }

@@ -1,3 +1,4 @@
+use super::asserts::holds;
 use super::rows::{Row, rows_are_told};
 use std::test::Fail;
 
@@ -167,6 +168,7 @@ const OTHERS: [Row; 20] = [
 
 #[test]
 fn pages_of_other_listings(rt: HostRuntime) -> Result<(), Fail> {
-    assert_eq!(rt; rows_are_told(rt.alloc(), &OTHERS)?, true);
+    let are_told = rows_are_told(rt.alloc(), &OTHERS)?;
+    holds(&rt, are_told, "the answers, one after another");
     Ok(())
 }

@@ -1,3 +1,4 @@
+use super::asserts::row_holds;
 use super::configurations::{ADMIN, refused};
 use crate::config::Configuration;
 use crate::reason::Reason;
@@ -93,9 +94,15 @@ fn config_of(alloc: Global, many: Many) -> Result<String, Fail> {
     let (before, parts, after, count, _) = many;
     let mut config = format!(in alloc; "{{{ADMIN},{before}")?;
     add_rows(alloc, &mut config, parts, count)?;
+    end(&mut config, after)?;
+    Ok(config)
+}
+
+/// Ends a configuration.
+fn end(config: &mut String, after: &str) -> Result<(), Fail> {
     config.push_str(after)?;
     config.push_str("}")?;
-    Ok(config)
+    Ok(())
 }
 
 /// Whether these rows are refused for their reason.
@@ -106,13 +113,9 @@ fn is_refused(alloc: Global, many: Many) -> Result<bool, Fail> {
 
 #[test]
 fn many_rows(rt: HostRuntime) -> Result<(), Fail> {
-    for many in MANY {
-        assert!(rt;
-            is_refused(rt.alloc(), many)?,
-            "{} after {}",
-            many.3,
-            many.0
-        );
+    for (row, many) in MANY.iter().enumerate() {
+        let is_refused = is_refused(rt.alloc(), *many)?;
+        row_holds(&rt, is_refused, row);
     }
     Ok(())
 }
@@ -171,12 +174,18 @@ fn is_at(read: &Configuration, first: Option<&str>) -> Result<bool, Fail> {
     }
 }
 
+/// Whether the cursor of a paused DAG with a row's schedule is at the row's first point.
+fn starts(alloc: Global, (schedule, start, first): Start) -> Result<bool, Fail> {
+    let read = scheduled(alloc, schedule, start)?;
+    is_at(&read, first)
+}
+
 /// The first point of each schedule at or after its start, of a paused DAG too.
 #[test]
 fn the_first_cursor(rt: HostRuntime) -> Result<(), Fail> {
-    for (schedule, start, first) in STARTS {
-        let read = scheduled(rt.alloc(), schedule, start)?;
-        assert!(rt; is_at(&read, first)?, "{schedule} from {start}");
+    for (row, start) in STARTS.iter().enumerate() {
+        let starts = starts(rt.alloc(), *start)?;
+        row_holds(&rt, starts, row);
     }
     Ok(())
 }

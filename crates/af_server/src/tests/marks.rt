@@ -1,3 +1,4 @@
+use super::asserts::number_holds;
 use super::{Exchange, are_told};
 use std::test::Fail;
 
@@ -77,7 +78,8 @@ const MARKS: [Exchange; 17] = [
 #[test]
 fn a_run_is_marked(rt: HostRuntime) -> Result<(), Fail> {
     for size in [1, 16, 4_096] {
-        assert!(rt; are_told(rt.alloc(), &MARKS, size)?, "{size}");
+        let are_told = are_told(rt.alloc(), &MARKS, size)?;
+        number_holds(&rt, are_told, "in pieces of", size);
     }
     Ok(())
 }

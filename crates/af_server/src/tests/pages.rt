@@ -1,3 +1,4 @@
+use super::asserts::holds;
 use super::rows::{Row, rows_are_told};
 use std::test::Fail;
 
@@ -200,6 +201,7 @@ const RUNS: [Row; 24] = [
 
 #[test]
 fn pages_of_runs(rt: HostRuntime) -> Result<(), Fail> {
-    assert_eq!(rt; rows_are_told(rt.alloc(), &RUNS)?, true);
+    let are_told = rows_are_told(rt.alloc(), &RUNS)?;
+    holds(&rt, are_told, "the answers, one after another");
     Ok(())
 }

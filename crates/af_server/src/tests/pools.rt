@@ -1,3 +1,4 @@
+use super::asserts::holds;
 use super::rows::{Row, rows_are_told};
 use std::test::Fail;
 
@@ -144,9 +145,7 @@ const POOLS: [Row; 17] = [
 
 #[test]
 fn what_is_told_of_pools(rt: HostRuntime) -> Result<(), Fail> {
-    assert!(rt;
-        rows_are_told(rt.alloc(), &POOLS)?,
-        "the answers, one after another"
-    );
+    let are_told = rows_are_told(rt.alloc(), &POOLS)?;
+    holds(&rt, are_told, "the answers, one after another");
     Ok(())
 }

@@ -59,19 +59,27 @@ fn token_field(status: &str) -> &'static str {
     }
 }
 
-/// What is asked in rows, and what is told of it, one after another.
-fn texts(alloc: Global, rows: &[Row]) -> Result<(String, String), Fail> {
+/// What is asked in rows, one after another.
+fn asks_all(alloc: Global, rows: &[Row]) -> Result<String, Fail> {
     let mut input = String::new(alloc);
-    let mut told = String::new(alloc);
     for row in rows {
         input.push_str(asks(alloc, *row)?.as_str())?;
+    }
+    Ok(input)
+}
+
+/// What is told of rows, one after another.
+fn tells_all(alloc: Global, rows: &[Row]) -> Result<String, Fail> {
+    let mut told = String::new(alloc);
+    for row in rows {
         told.push_str(tells(alloc, *row)?.as_str())?;
     }
-    Ok((input, told))
+    Ok(told)
 }
 
 /// Whether the rows go as they should, in one connection.
 pub fn rows_are_told(alloc: Global, rows: &[Row]) -> Result<bool, Fail> {
-    let (input, told) = texts(alloc, rows)?;
+    let input = asks_all(alloc, rows)?;
+    let told = tells_all(alloc, rows)?;
     is_told(alloc, input.as_bytes(), 4_096, told.as_str(), Ended::Closed)
 }

@@ -1,3 +1,4 @@
+use super::asserts::holds;
 use super::configurations::{ADMIN, are_refused};
 use super::rows::{Row, rows_are_told};
 use crate::config::Configuration;
@@ -71,8 +72,8 @@ const LIMITS: [(&str, Option<Reason>); 14] = [
 
 #[test]
 fn each_reason_of_a_variable_or_a_limit(rt: HostRuntime) -> Result<(), Fail> {
-    assert!(rt; are_refused(rt.alloc(), &LISTS)?, "variables");
-    assert!(rt; are_refused(rt.alloc(), &LIMITS)?, "limits");
+    holds(&rt, are_refused(rt.alloc(), &LISTS)?, "variables");
+    holds(&rt, are_refused(rt.alloc(), &LIMITS)?, "limits");
     Ok(())
 }
 
@@ -88,9 +89,16 @@ fn read(alloc: Global, members: &str) -> Result<Configuration, Fail> {
 /// Whether the variables that are read are these.
 fn has_variables(alloc: Global, members: &str, wanted: &[(&str, &str)]) -> Result<bool, Fail> {
     let read = read(alloc, members)?;
-    let rows = read.state.variables();
-    let mut pairs = rows.iter().zip(wanted);
-    Ok(rows.len() == wanted.len() && pairs.all(|pair| is_variable(pair.0, *pair.1)))
+    Ok(are_variables(read.state.variables(), wanted))
+}
+
+fn are_variables(rows: &[Variable], wanted: &[(&str, &str)]) -> bool {
+    for (row, want) in rows.iter().zip(wanted) {
+        if !is_variable(row, *want) {
+            return false;
+        }
+    }
+    rows.len() == wanted.len()
 }
 
 fn is_variable(row: &Variable, wanted: (&str, &str)) -> bool {
@@ -102,11 +110,9 @@ fn variables_go_by_key(rt: HostRuntime) -> Result<(), Fail> {
     let members =
         r#","variables":[{"key":"b","value":"1"},{"key":"B","value":""},{"key":"a","value":"\u00e9"}]"#;
     let wanted = [("B", ""), ("a", "\u{e9}"), ("b", "1")];
-    assert!(rt;
-        has_variables(rt.alloc(), members, &wanted)?,
-        "those that are listed"
-    );
-    assert!(rt; has_variables(rt.alloc(), "", &[])?, "none is listed");
+    let has_listed = has_variables(rt.alloc(), members, &wanted)?;
+    holds(&rt, has_listed, "those that are listed");
+    holds(&rt, has_variables(rt.alloc(), "", &[])?, "none is listed");
     Ok(())
 }
 
@@ -130,10 +136,8 @@ fn has_limits(alloc: Global, members: &str, history: u32, versions: u32) -> Resu
 #[test]
 fn limits_are_kept(rt: HostRuntime) -> Result<(), Fail> {
     for (members, history, versions) in READ {
-        assert!(rt;
-            has_limits(rt.alloc(), members, history, versions)?,
-            "{members}"
-        );
+        let has_limits = has_limits(rt.alloc(), members, history, versions)?;
+        holds(&rt, has_limits, members);
     }
     Ok(())
 }
@@ -281,9 +285,7 @@ const VARIABLES: [Row; 17] = [
 
 #[test]
 fn what_is_told_of_variables(rt: HostRuntime) -> Result<(), Fail> {
-    assert!(rt;
-        rows_are_told(rt.alloc(), &VARIABLES)?,
-        "the answers, one after another"
-    );
+    let are_told = rows_are_told(rt.alloc(), &VARIABLES)?;
+    holds(&rt, are_told, "the answers, one after another");
     Ok(())
 }
