@@ -1,6 +1,6 @@
-ghost use Rattle.std.specs.Prelude.{◌≡◌, ◌⊎◌, ◌<◌, [], length, true, nat_le, slice_get, None, Some, Ok, Err, IfOk, OnOk, OnErr};
+ghost use Rattle.std.specs.Prelude.{◌≡◌, ◌⊎◌, ◌<◌, ◌≤◌, [], length, true, nat_le, slice_get, None, Some, Ok, Err, IfOk, OnOk, OnErr};
 ghost use Rattle.std.specs.Option.{option_copied};
-ghost use Rattle.af_policy.specs.Versions.{Follows, all_versions, asked_by, asked_wants, decided, decided_wants, permitted, permitted_wants, submitted, told_as, with_version};
+ghost use Rattle.af_policy.specs.Versions.{Follows, IsHistory, all_versions, asked_by, asked_wants, decided, decided_wants, permitted, permitted_wants, submitted, told_as, with_version};
 ghost use Rattle.af_policy.specs.Reads.{MemoryLast, me_of, read_of};
 ghost use Rattle.af_policy.specs.Changes.{changed};
 ghost use Rattle.af_policy.specs.declared.change.Change.{Change};
@@ -124,6 +124,15 @@ impl Versions {
         ensures { result ≡ nat_le self.now.last (length self.now.earlier) }
     {
         self.current() >= self.last
+    }
+
+    /// The conditions that versions meet at all times: each policy follows the one before it, and no number of a version is past
+    /// the greatest.
+    pub fn conditions(&self)
+        ensures history { IsHistory self.now.earlier self.now.latest }
+        ensures within { length self.now.earlier ≤ self.now.last }
+    {
+        let _last = self.last;
     }
 
     /// Puts a policy behind the latest, which it follows. `AllocError` only where a growth was refused; then there is no
