@@ -14,7 +14,6 @@ use Rattle.af_sched.specs.State.{StateRows, pools_of_row}
 use Rattle.af_ops.specs.declared.answer.OpFault.{OpFault}
 use Rattle.af_ops.specs.declared.answer.OpFault.TheVariants.{NoSuchPool}
 use Rattle.af_ops.specs.declared.body_fault.BodyFault.{BodyFault}
-use Rattle.af_ops.specs.declared.edit.Edit.{Edit}
 use Rattle.af_ops.specs.declared.edit.Edit.TheVariants as edit
 use Rattle.af_ops.specs.declared.method.Method.TheVariants.{Get}
 use Rattle.af_ops.specs.declared.pool_op.PoolOp.{PoolOp}

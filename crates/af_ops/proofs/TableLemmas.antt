@@ -2,22 +2,13 @@
 use Rattle.std.proofs.Common.{◌≡◌, ◌<◌, ◌∙◌, ℕ, zero, suc, Bool, true, false, List, [], ◌∷◌, length, get_or, refl, sym, ap, arith, not, ◌&&◌, subst}
 use Rattle.std.specs.List.{list_all}
 use Rattle.std.specs.Cmp.Lexicographic.{pointwise, bytes_decides}
-use Rattle.std.specs.Prelude.{nat_eq, Option, Some, None, Result, option_map, if◌then◌else◌}
-use Rattle.af_listing.specs.Windows.{Cut, window_of}
-use Rattle.af_policy.specs.declared.bad_input.Parameter.{Parameter}
+use Rattle.std.specs.Prelude.{nat_eq}
 use Rattle.std.proofs.lemmas.Bool.{and_from, and_parts, false≢true, not-true}
 use Rattle.af_ops.specs.declared.endpoint.Endpoint.{Endpoint}
 use Rattle.af_ops.specs.declared.endpoint.Endpoint.TheVariants as endpoint
 use Rattle.af_ops.specs.declared.method.Method.{Method}
 use Rattle.af_ops.specs.declared.method.Method.TheVariants.{Get, Post, Patch, Delete}
-use Rattle.af_ops.specs.declared.op.Op.{Op}
-use Rattle.af_ops.specs.declared.op.Op.TheVariants as op
-use Rattle.af_ops.specs.declared.pool_op.PoolOp.TheVariants as pool_op
-use Rattle.af_ops.specs.declared.variable_op.VariableOp.TheVariants as variable_op
-use Rattle.af_ops.specs.Bodies.{clear_in, clear_run_in, mark_in, pause_in, trigger_in}
-use Rattle.af_ops.specs.Endpoints.{both, dag_id_in, dag_of, endpoint_of, is_all, row_name_in, run_id_in, task_id_in}
-use Rattle.af_ops.specs.RowBodies.{slots_in, value_in}
-use Rattle.af_ops.specs.Laws.{EachIsFound, Matches, OneRowAtMost, OperationsAreOfTheirRow}
+use Rattle.af_ops.specs.Laws.{EachIsFound, Matches, OneRowAtMost}
 use Rattle.af_ops.specs.Methods.{same_method}
 use Rattle.af_ops.specs.Table.{Segment, Text, Part, endpoints, route_of, segments_of}
 
@@ -101,6 +92,19 @@ rank endpoint.AddVariable = 20
 rank endpoint.GetVariable = 21
 rank endpoint.ChangeVariable = 22
 rank endpoint.DeleteVariable = 23
+rank endpoint.ListEntries = 24
+rank endpoint.ListRoles = 25
+rank endpoint.AddRole = 26
+rank endpoint.GetRole = 27
+rank endpoint.ChangeRole = 28
+rank endpoint.DeleteRole = 29
+rank endpoint.ListUsers = 30
+rank endpoint.AddUser = 31
+rank endpoint.GetUser = 32
+rank endpoint.ChangeUser = 33
+rank endpoint.DeleteUser = 34
+rank endpoint.GetMe = 35
+rank endpoint.SyncDag = 36
 
 stands : (it d : Endpoint) → get_or endpoints (rank it) d ≡ it
 unfolding rank
@@ -128,6 +132,19 @@ stands endpoint.AddVariable d = refl
 stands endpoint.GetVariable d = refl
 stands endpoint.ChangeVariable d = refl
 stands endpoint.DeleteVariable d = refl
+stands endpoint.ListEntries d = refl
+stands endpoint.ListRoles d = refl
+stands endpoint.AddRole d = refl
+stands endpoint.GetRole d = refl
+stands endpoint.ChangeRole d = refl
+stands endpoint.DeleteRole d = refl
+stands endpoint.ListUsers d = refl
+stands endpoint.AddUser d = refl
+stands endpoint.GetUser d = refl
+stands endpoint.ChangeUser d = refl
+stands endpoint.DeleteUser d = refl
+stands endpoint.GetMe d = refl
+stands endpoint.SyncDag d = refl
 
 inside : (it : Endpoint) → rank it < length endpoints
 unfolding rank
@@ -155,6 +172,19 @@ inside endpoint.AddVariable = omega arith
 inside endpoint.GetVariable = omega arith
 inside endpoint.ChangeVariable = omega arith
 inside endpoint.DeleteVariable = omega arith
+inside endpoint.ListEntries = omega arith
+inside endpoint.ListRoles = omega arith
+inside endpoint.AddRole = omega arith
+inside endpoint.GetRole = omega arith
+inside endpoint.ChangeRole = omega arith
+inside endpoint.DeleteRole = omega arith
+inside endpoint.ListUsers = omega arith
+inside endpoint.AddUser = omega arith
+inside endpoint.GetUser = omega arith
+inside endpoint.ChangeUser = omega arith
+inside endpoint.DeleteUser = omega arith
+inside endpoint.GetMe = omega arith
+inside endpoint.SyncDag = omega arith
 
 same-refl : (method : Method) → same_method method method ≡ true
 same-refl Get = refl
@@ -199,88 +229,16 @@ each_found endpoint.AddVariable = refl
 each_found endpoint.GetVariable = refl
 each_found endpoint.ChangeVariable = refl
 each_found endpoint.DeleteVariable = refl
-
--- ---- what is read of a row
-
-some_same : {X : Type 0} {x y : X} → Some x ≡ Some y → x ≡ y
-some_same is = cc
-
-mapped : (make : List ℕ → Op) (it : Endpoint) (found : Option (List ℕ)) (asked : Op) → ((id : List ℕ) → endpoint_of (make id) ≡ it) → ((id : List ℕ) → dag_of (make id) ≡ Some id) → option_map make found ≡ Some asked → (endpoint_of asked ≡ it) × (dag_of asked ≡ found)
-mapped make it None asked of_it names is = absurd (none_some is)
-  where
-    none_some : {X : Type 0} {x : X} → None ≡ Some x → ⊥
-    none_some same = cc
-mapped make it (Some id) asked of_it names is =
-    (ap endpoint_of (sym (some_same is)) ∙ of_it id, ap dag_of (sym (some_same is)) ∙ names id)
-
--- the same of an operation that names a run
-mapped_both : (make : List ℕ → List ℕ → Op) (it : Endpoint) (dag run : Option (List ℕ)) (asked : Op) → ((id run_id : List ℕ) → endpoint_of (make id run_id) ≡ it) → ((id run_id : List ℕ) → dag_of (make id run_id) ≡ Some id) → option_map (λ ids. make ids.0 ids.1) (both dag run) ≡ Some asked → (endpoint_of asked ≡ it) × (dag_of asked ≡ dag)
-mapped_both make it (Some id) (Some run_id) asked of_it names is =
-    (ap endpoint_of (sym (some_same is)) ∙ of_it id run_id, ap dag_of (sym (some_same is)) ∙ names id run_id)
-mapped_both make it (Some id) None asked of_it names is = cc
-mapped_both make it None run asked of_it names is = cc
-
--- `~` is no id of a DAG
-no_id : (parts : List (List ℕ)) → is_all parts ≡ true → dag_id_in parts ≡ None
-no_id [] is = refl
-no_id (part ∷ parts) is = rw ((bytes_decides part (126 ∷ [])).0 is) refl
-
-all_or_one : (all : Bool) (parts : List (List ℕ)) (window : Result Cut Parameter) (asked : Op) → is_all parts ≡ all → (if all then Some (op.ListRuns None window) else option_map (λ id. op.ListRuns (Some id) window) (dag_id_in parts)) ≡ Some asked → (endpoint_of asked ≡ endpoint.ListRuns) × (dag_of asked ≡ dag_id_in parts)
-all_or_one true parts window asked all is =
-    (ap endpoint_of (sym (some_same is)), ap dag_of (sym (some_same is)) ∙ sym (no_id parts all))
-all_or_one false parts window asked all is =
-    mapped (λ id. op.ListRuns (Some id) window) endpoint.ListRuns (dag_id_in parts) asked (λ id. refl) (λ id. refl) is
-
-mapped_three : (dag run task : Option (List ℕ)) (asked : Op) → option_map (λ ids. op.GetInstance ids.0.0 ids.0.1 ids.1) (both (both dag run) task) ≡ Some asked → (endpoint_of asked ≡ endpoint.GetInstance) × (dag_of asked ≡ dag)
-mapped_three (Some id) (Some run_id) (Some task_id) asked is = (ap endpoint_of (sym (some_same is)), ap dag_of (sym (some_same is)))
-mapped_three (Some id) (Some run_id) None asked is = cc
-mapped_three (Some id) None task asked is = cc
-mapped_three None run task asked is = cc
-
--- the same of an operation that names no DAG
-mapped_none : (make : List ℕ → Op) (it : Endpoint) (found : Option (List ℕ)) (asked : Op) → ((name : List ℕ) → endpoint_of (make name) ≡ it) → ((name : List ℕ) → dag_of (make name) ≡ None) → option_map make found ≡ Some asked → (endpoint_of asked ≡ it) × (dag_of asked ≡ None)
-mapped_none make it None asked of_it names is = cc
-mapped_none make it (Some name) asked of_it names is =
-    (ap endpoint_of (sym (some_same is)) ∙ of_it name, ap dag_of (sym (some_same is)) ∙ names name)
-
-pub of_their_row : OperationsAreOfTheirRow
-of_their_row endpoint.Version parts query body asked is = (ap endpoint_of (sym (some_same is)), ap dag_of (sym (some_same is)))
-of_their_row endpoint.ListDags parts query body asked is = (ap endpoint_of (sym (some_same is)), ap dag_of (sym (some_same is)))
-of_their_row endpoint.GetDag parts query body asked is =
-    mapped (λ id. op.GetDag id) endpoint.GetDag (dag_id_in parts) asked (λ id. refl) (λ id. refl) is
-of_their_row endpoint.PauseDag parts query body asked is =
-    mapped (λ id. op.PauseDag id (pause_in body)) endpoint.PauseDag (dag_id_in parts) asked (λ id. refl) (λ id. refl) is
-of_their_row endpoint.ListTasks parts query body asked is =
-    mapped (λ id. op.ListTasks id) endpoint.ListTasks (dag_id_in parts) asked (λ id. refl) (λ id. refl) is
-of_their_row endpoint.ListRuns parts query body asked is = all_or_one (is_all parts) parts (window_of query) asked refl is
-of_their_row endpoint.TriggerRun parts query body asked is =
-    mapped (λ id. op.TriggerRun id (trigger_in body)) endpoint.TriggerRun (dag_id_in parts) asked (λ id. refl) (λ id. refl) is
-of_their_row endpoint.GetRun parts query body asked is =
-    mapped_both (λ id run_id. op.GetRun id run_id) endpoint.GetRun (dag_id_in parts) (run_id_in parts) asked (λ id run_id. refl) (λ id run_id. refl) is
-of_their_row endpoint.MarkRun parts query body asked is =
-    mapped_both (λ id run_id. op.MarkRun id run_id (mark_in body)) endpoint.MarkRun (dag_id_in parts) (run_id_in parts) asked (λ id run_id. refl) (λ id run_id. refl) is
-of_their_row endpoint.DeleteRun parts query body asked is =
-    mapped_both (λ id run_id. op.DeleteRun id run_id) endpoint.DeleteRun (dag_id_in parts) (run_id_in parts) asked (λ id run_id. refl) (λ id run_id. refl) is
-of_their_row endpoint.ClearRun parts query body asked is =
-    mapped_both (λ id run_id. op.ClearRun id run_id (clear_run_in body)) endpoint.ClearRun (dag_id_in parts) (run_id_in parts) asked (λ id run_id. refl) (λ id run_id. refl) is
-of_their_row endpoint.ListInstances parts query body asked is =
-    mapped_both (λ id run_id. op.ListInstances id run_id (window_of query)) endpoint.ListInstances (dag_id_in parts) (run_id_in parts) asked (λ id run_id. refl) (λ id run_id. refl) is
-of_their_row endpoint.GetInstance parts query body asked is = mapped_three (dag_id_in parts) (run_id_in parts) (task_id_in parts) asked is
-of_their_row endpoint.ClearInstances parts query body asked is =
-    mapped (λ id. op.ClearInstances id (clear_in body)) endpoint.ClearInstances (dag_id_in parts) asked (λ id. refl) (λ id. refl) is
-of_their_row endpoint.ListPools parts query body asked is = (ap endpoint_of (sym (some_same is)), ap dag_of (sym (some_same is)))
-of_their_row endpoint.AddPool parts query body asked is = (ap endpoint_of (sym (some_same is)), ap dag_of (sym (some_same is)))
-of_their_row endpoint.GetPool parts query body asked is =
-    mapped_none (λ name. op.Pool (pool_op.Get name)) endpoint.GetPool (row_name_in parts) asked (λ name. refl) (λ name. refl) is
-of_their_row endpoint.ChangePool parts query body asked is =
-    mapped_none (λ name. op.Pool (pool_op.Change name (slots_in body))) endpoint.ChangePool (row_name_in parts) asked (λ name. refl) (λ name. refl) is
-of_their_row endpoint.DeletePool parts query body asked is =
-    mapped_none (λ name. op.Pool (pool_op.Delete name)) endpoint.DeletePool (row_name_in parts) asked (λ name. refl) (λ name. refl) is
-of_their_row endpoint.ListVariables parts query body asked is = (ap endpoint_of (sym (some_same is)), ap dag_of (sym (some_same is)))
-of_their_row endpoint.AddVariable parts query body asked is = (ap endpoint_of (sym (some_same is)), ap dag_of (sym (some_same is)))
-of_their_row endpoint.GetVariable parts query body asked is =
-    mapped_none (λ name. op.Variable (variable_op.Get name)) endpoint.GetVariable (row_name_in parts) asked (λ name. refl) (λ name. refl) is
-of_their_row endpoint.ChangeVariable parts query body asked is =
-    mapped_none (λ name. op.Variable (variable_op.Change name (value_in body))) endpoint.ChangeVariable (row_name_in parts) asked (λ name. refl) (λ name. refl) is
-of_their_row endpoint.DeleteVariable parts query body asked is =
-    mapped_none (λ name. op.Variable (variable_op.Delete name)) endpoint.DeleteVariable (row_name_in parts) asked (λ name. refl) (λ name. refl) is
+each_found endpoint.ListEntries = refl
+each_found endpoint.ListRoles = refl
+each_found endpoint.AddRole = refl
+each_found endpoint.GetRole = refl
+each_found endpoint.ChangeRole = refl
+each_found endpoint.DeleteRole = refl
+each_found endpoint.ListUsers = refl
+each_found endpoint.AddUser = refl
+each_found endpoint.GetUser = refl
+each_found endpoint.ChangeUser = refl
+each_found endpoint.DeleteUser = refl
+each_found endpoint.GetMe = refl
+each_found endpoint.SyncDag = refl

@@ -129,3 +129,9 @@ pub texts_now : (old new : Filling) (name : List ℕ) (lent : List (Bor (List �
     → Adds false old new ((name, array (items_of (map (λ text. string text.now) lent))) ∷ []) → Adds false old new ((name, array (items_of (map (λ text. string text) texts))) ∷ [])
 texts_now old new name lent texts is adds =
     subst (λ (items : List Data). Adds false old new ((name, array (items_of items)) ∷ [])) (map_now (λ (text : Bor (List ℕ)). text.now) (λ (text : List ℕ). string text) lent ∙ ap (map (λ (text : List ℕ). string text)) is) adds
+
+-- what is told of lent items is told of the items
+pub told_now : {X Y : Type 0} (later : Bool) (old new : Filling) (name : List ℕ) (now : X → Y) (told : Y → Data) (lent : List X) (items : List Y) → map now lent ≡ items
+    → Adds later old new ((name, array (items_of (map (λ x. told (now x)) lent))) ∷ []) → Adds later old new ((name, array (items_of (map told items))) ∷ [])
+told_now later old new name now told lent items is adds =
+    subst (λ (values : List Data). Adds later old new ((name, array (items_of values)) ∷ [])) (map_now now told lent ∙ ap (map told) is) adds

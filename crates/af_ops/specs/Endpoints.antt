@@ -1,8 +1,7 @@
 -- The operations of the API (Airflow 2, "Stable REST API"), with what a request says of them.
-use Rattle.std.specs.Prelude.{◌≡◌, ◌⊎◌, ◌&&◌, ◌||◌, ℕ, List, [], ◌∷◌, Bool, true, false, is_some, Option, Some, None, option_map, unwrap_or, Result, Ok, Err, if◌then◌else◌}
+use Rattle.std.specs.Prelude.{◌&&◌, ◌||◌, ℕ, List, [], ◌∷◌, Bool, true, false, is_some, Option, Some, None, unwrap_or, Result, Ok, Err}
 use Rattle.std.specs.Result.{result_ok}
-use Rattle.af_listing.specs.Windows.{window_of}
-use Rattle.af_names.specs.Names.{Grammar, named, id_grammar, is_tilde, row_name_grammar, run_id_grammar}
+use Rattle.af_names.specs.Names.{Grammar, account_name_grammar, named, id_grammar, is_tilde, row_name_grammar, run_id_grammar}
 use Rattle.af_ops.specs.declared.body_fault.BodyFault.{BodyFault}
 use Rattle.af_ops.specs.declared.body_fault.BodyFault.TheVariants.{OutOfMemory}
 use Rattle.af_ops.specs.declared.clear.Clear.{Clear}
@@ -14,12 +13,8 @@ use Rattle.af_ops.specs.declared.op.Op.{Op}
 use Rattle.af_ops.specs.declared.op.Op.TheVariants as op
 use Rattle.af_ops.specs.declared.place.Place.{Place}
 use Rattle.af_ops.specs.declared.place.Place.TheVariants as place
-use Rattle.af_ops.specs.declared.pool_op.PoolOp.TheVariants as pool_op
 use Rattle.af_ops.specs.declared.trigger.Trigger.{Trigger}
-use Rattle.af_ops.specs.declared.variable_op.VariableOp.TheVariants as variable_op
-use Rattle.af_ops.specs.Bodies.{clear_in, clear_run_in, mark_in, pause_in, trigger_in}
 use Rattle.af_ops.specs.PoolOps as pools
-use Rattle.af_ops.specs.RowBodies.{pool_in, slots_in, value_in, variable_in}
 use Rattle.af_ops.specs.VariableOps as variables
 
 abbrev pub endpoint_of : Op → Endpoint
@@ -165,6 +160,10 @@ task_id_in parts = first_in id_grammar (after_first (after_first parts))
 abbrev pub row_name_in : List (List ℕ) → Option (List ℕ)
 row_name_in parts = first_in row_name_grammar parts
 
+-- the name of a role, or of a user, that is the first part
+abbrev pub account_name_in : List (List ℕ) → Option (List ℕ)
+account_name_in parts = first_in account_name_grammar parts
+
 -- two, where both are there
 abbrev pub both : {X Y : Type 0} → Option X → Option Y → Option (X × Y)
 both (Some x) (Some y) = Some (x, y)
@@ -206,35 +205,13 @@ are_names method place.Pools parts = true
 are_names method place.Pool parts = is_some (row_name_in parts)
 are_names method place.Variables parts = true
 are_names method place.Variable parts = is_some (row_name_in parts)
-
--- The operation that a row of the table stands for, where the parts of the path, decoded, are these and the query and the body have
--- these bytes; none where a part is no name of its kind. Queries and bodies of operations that read none are ignored: there are
--- no pages of tasks.
-abbrev pub op_of_row : Endpoint → List (List ℕ) → List ℕ → List ℕ → Option Op
-op_of_row endpoint.Version parts query body = Some op.Version
-op_of_row endpoint.ListDags parts query body = Some (op.ListDags (window_of query))
-op_of_row endpoint.GetDag parts query body = option_map (λ dag_id. op.GetDag dag_id) (dag_id_in parts)
-op_of_row endpoint.PauseDag parts query body = option_map (λ dag_id. op.PauseDag dag_id (pause_in body)) (dag_id_in parts)
-op_of_row endpoint.ListTasks parts query body = option_map (λ dag_id. op.ListTasks dag_id) (dag_id_in parts)
-op_of_row endpoint.ListRuns parts query body = if is_all parts then Some (op.ListRuns None (window_of query)) else option_map (λ dag_id. op.ListRuns (Some dag_id) (window_of query)) (dag_id_in parts)
-op_of_row endpoint.TriggerRun parts query body = option_map (λ dag_id. op.TriggerRun dag_id (trigger_in body)) (dag_id_in parts)
-op_of_row endpoint.GetRun parts query body = option_map (λ ids. op.GetRun ids.0 ids.1) (run_ids_in parts)
-op_of_row endpoint.MarkRun parts query body = option_map (λ ids. op.MarkRun ids.0 ids.1 (mark_in body)) (run_ids_in parts)
-op_of_row endpoint.DeleteRun parts query body = option_map (λ ids. op.DeleteRun ids.0 ids.1) (run_ids_in parts)
-op_of_row endpoint.ClearRun parts query body = option_map (λ ids. op.ClearRun ids.0 ids.1 (clear_run_in body)) (run_ids_in parts)
-op_of_row endpoint.ListInstances parts query body = option_map (λ ids. op.ListInstances ids.0 ids.1 (window_of query)) (run_ids_in parts)
-op_of_row endpoint.GetInstance parts query body = option_map (λ ids. op.GetInstance ids.0.0 ids.0.1 ids.1) (instance_ids_in parts)
-op_of_row endpoint.ClearInstances parts query body = option_map (λ dag_id. op.ClearInstances dag_id (clear_in body)) (dag_id_in parts)
-op_of_row endpoint.ListPools parts query body = Some (op.Pool (pool_op.List (window_of query)))
-op_of_row endpoint.AddPool parts query body = Some (op.Pool (pool_op.Add (pool_in body)))
-op_of_row endpoint.GetPool parts query body = option_map (λ name. op.Pool (pool_op.Get name)) (row_name_in parts)
-op_of_row endpoint.ChangePool parts query body = option_map (λ name. op.Pool (pool_op.Change name (slots_in body))) (row_name_in parts)
-op_of_row endpoint.DeletePool parts query body = option_map (λ name. op.Pool (pool_op.Delete name)) (row_name_in parts)
-op_of_row endpoint.ListVariables parts query body = Some (op.Variable (variable_op.List (window_of query)))
-op_of_row endpoint.AddVariable parts query body = Some (op.Variable (variable_op.Add (variable_in body)))
-op_of_row endpoint.GetVariable parts query body = option_map (λ key. op.Variable (variable_op.Get key)) (row_name_in parts)
-op_of_row endpoint.ChangeVariable parts query body = option_map (λ key. op.Variable (variable_op.Change key (value_in body))) (row_name_in parts)
-op_of_row endpoint.DeleteVariable parts query body = option_map (λ key. op.Variable (variable_op.Delete key)) (row_name_in parts)
+are_names method place.Entries parts = true
+are_names method place.Roles parts = true
+are_names method place.Role parts = is_some (account_name_in parts)
+are_names method place.Users parts = true
+are_names method place.User parts = is_some (account_name_in parts)
+are_names method place.Me parts = true
+are_names method place.Sync parts = is_some (dag_id_in parts)
 
 -- the same operation, whose body was not read for want of memory
 abbrev pub unread : Op → Op
@@ -254,7 +231,3 @@ unread (op.GetInstance dag_id run_id task_id) = op.GetInstance dag_id run_id tas
 unread (op.ClearInstances dag_id input) = op.ClearInstances dag_id (Err OutOfMemory)
 unread (op.Pool it) = op.Pool (pools.unread it)
 unread (op.Variable it) = op.Variable (variables.unread it)
-
--- this operation was read, all of it or without its body
-abbrev pub IsRead : Option Op → Option Op → Type 0
-IsRead expected found = (found ≡ expected) ⊎ (found ≡ option_map unread expected)

@@ -1,5 +1,5 @@
 -- Laws about operations, in words of their own.
-use Rattle.std.specs.Prelude.{◌≡◌, ◌≢◌, ◌↔◌, ◌<◌, ◌≤◌, ◌+◌, ◌||◌, ℕ, List, [], ◌∷◌, ◌++◌, Bool, true, false, not, nat_eq, filter, map, length, All, Contains, Some, None, option_map, unwrap_or, Result, Ok, ⊤, codes, if◌then◌else◌}
+use Rattle.std.specs.Prelude.{◌≡◌, ◌≢◌, ◌↔◌, ◌<◌, ◌≤◌, ◌+◌, ◌||◌, ℕ, List, [], ◌∷◌, ◌++◌, Bool, true, false, not, nat_eq, filter, map, length, All, Contains, Option, Some, None, option_map, unwrap_or, Result, Ok, ⊤, codes, if◌then◌else◌}
 use Rattle.std.specs.Cmp.Lexicographic.{pointwise}
 use Rattle.std.specs.List.Sorted.{IsStrictlySortedBy}
 use Rattle.std.specs.Ordering.{nat_cmp}
@@ -15,16 +15,25 @@ use Rattle.af_runs.specs.declared.run_type.RunType.TheVariants.{Manual}
 use Rattle.af_sched.specs.State.{AreInOrder, StateRows, is_of_id}
 use Rattle.af_sched.specs.State as sched
 use Rattle.af_sched.specs.declared.dag_row.DagRow.{DagRow}
+use Rattle.af_policy.specs.declared.ask.Ask.TheVariants.{Made, Bad}
 use Rattle.af_ops.specs.declared.body_fault.BodyFault.{BodyFault}
+use Rattle.af_ops.specs.declared.call.Call.{Call}
+use Rattle.af_ops.specs.declared.call.Call.TheVariants.{State, Entries, Policy}
 use Rattle.af_ops.specs.declared.clear.Clear.{Clear}
 use Rattle.af_ops.specs.declared.endpoint.Endpoint.{Endpoint}
 use Rattle.af_ops.specs.declared.method.Method.TheVariants.{Get}
 use Rattle.af_ops.specs.declared.op.Op.{Op}
 use Rattle.af_ops.specs.declared.op.Op.TheVariants as op
+use Rattle.af_ops.specs.declared.place.Place.{Place}
+use Rattle.af_ops.specs.declared.policy_op.PolicyOp.{PolicyOp}
+use Rattle.af_ops.specs.declared.policy_op.PolicyOp.TheVariants as policy_op
 use Rattle.af_ops.specs.declared.trigger.Trigger.{Trigger}
 use Rattle.af_ops.specs.Effects.{Effect, effect_of, filter_of, id_or, selection_of}
-use Rattle.af_ops.specs.Endpoints.{dag_id_in, dag_of, endpoint_of, op_of_row}
+use Rattle.af_ops.specs.Calls.{call_of_row}
+use Rattle.af_ops.specs.Calls as calls
+use Rattle.af_ops.specs.Endpoints.{dag_id_in, dag_of, endpoint_of}
 use Rattle.af_ops.specs.Listings.{read_rows}
+use Rattle.af_ops.specs.PolicyOps.{synced_dag}
 use Rattle.af_ops.specs.Table.{Segment, Text, Part, endpoint_at, route_of, segments_of}
 
 -- the rows of a page stand in byte order of their ids, and no id stands twice
@@ -155,8 +164,26 @@ names_dag [] = false
 names_dag (Text text ∷ rest) = names_dag rest
 names_dag (Part name ∷ rest) = pointwise nat_eq name (codes "dag_id") || names_dag rest
 
--- what is read of a row of the table is that row's operation, and it names the DAG of the path's part, where the path has one
+-- the DAG of a path is the one that a change takes over the access control of
+abbrev pub IsSyncAt : PolicyOp → Option (List ℕ) → Type 0
+IsSyncAt policy_op.Me dag = None ≡ dag
+IsSyncAt (policy_op.Read asked) dag = None ≡ dag
+IsSyncAt (policy_op.Change (Made change)) dag = synced_dag change ≡ dag
+IsSyncAt (policy_op.Change (Bad kind input)) dag = ⊤
+IsSyncAt (policy_op.Unread kind) dag = ⊤
+
+-- the DAG of a path is the one that is asked about; where the body of a change is none, nothing is said of it
+abbrev pub IsAt : Call → Option (List ℕ) → Type 0
+IsAt (State it) dag = dag_of it ≡ dag
+IsAt (Entries asked) dag = None ≡ dag
+IsAt (Policy it) dag = IsSyncAt it dag
+
+-- the id of a DAG that is the first part, where the path has one
+abbrev pub dag_at : Place → List (List ℕ) → Option (List ℕ)
+dag_at place parts = if names_dag (segments_of place) then dag_id_in parts else None
+
+-- what is read of a row of the table is of that row, and it names the DAG of the path's part, where the path has one
 abbrev pub OperationsAreOfTheirRow : Type 0
 OperationsAreOfTheirRow =
-    (it : Endpoint) (parts : List (List ℕ)) (query body : List ℕ) (asked : Op) → op_of_row it parts query body ≡ Some asked
-    → (endpoint_of asked ≡ it) × (dag_of asked ≡ (if names_dag (segments_of (route_of it).place) then dag_id_in parts else None))
+    (it : Endpoint) (parts : List (List ℕ)) (query body : List ℕ) (asked : Call) → call_of_row it parts query body ≡ Some asked
+    → (calls.endpoint_of asked ≡ it) × IsAt asked (dag_at (route_of it).place parts)

@@ -1,4 +1,6 @@
+pub mod AccessTexts
 pub mod Bodies
+pub mod Calls
 pub mod Decisions
 pub mod Edits
 pub mod EffectParts
@@ -9,6 +11,13 @@ pub mod Fields
 pub mod Laws
 pub mod Listings
 pub mod Methods
+pub mod PolicyBodies
+pub mod PolicyFaults
+pub mod PolicyLaws
+pub mod PolicyOps
+pub mod PolicyServed
+pub mod PolicyTexts
+pub mod PolicyVerdicts
 pub mod PoolEffects
 pub mod PoolOps
 pub mod Prepared
@@ -17,14 +26,15 @@ pub mod Required
 pub mod RowBodies
 pub mod RowLaws
 pub mod Rows
+pub mod Segments
 pub mod Served
 pub mod Standings
 pub mod Statuses
-pub mod Segments
 pub mod Table
 pub mod Texts
 pub mod VariableEffects
 pub mod VariableOps
 pub mod Verdicts
 pub mod Worked
+pub mod WorkedPolicies
 pub mod WorkedRows

@@ -7,7 +7,7 @@ use Rattle.af_role.specs.declared.action.Action.{Action}
 use Rattle.af_role.specs.declared.action.Action.TheVariants.{Create, Read, Edit}
 use Rattle.af_role.specs.declared.action.Action.TheVariants as action
 use Rattle.af_role.specs.declared.resource.ResourceKind.{ResourceKind}
-use Rattle.af_role.specs.declared.resource.ResourceKind.TheVariants.{Dags, DagRuns, TaskInstances, Pools, Variables}
+use Rattle.af_role.specs.declared.resource.ResourceKind.TheVariants.{Dags, DagRuns, TaskInstances, Pools, Variables, AuditLogs, Roles, Users}
 use Rattle.af_role.specs.declared.need.Need.{Need}
 use Rattle.af_ops.specs.declared.method.Method.{Method}
 use Rattle.af_ops.specs.declared.method.Method.TheVariants.{Get, Post, Patch, Delete}
@@ -27,6 +27,10 @@ pub data Segment : Type 0 where
 
 abbrev pub api : List Segment → List Segment
 api rest = Text (codes "api") ∷ Text (codes "v1") ∷ rest
+
+-- beside the API's paths: what is this product's own
+abbrev pub own : List Segment → List Segment
+own rest = Text (codes "own") ∷ rest
 
 -- below a DAG, and below one of its runs
 abbrev pub of_dag : List Segment → List Segment
@@ -50,6 +54,13 @@ segments_of place.Pools = api (Text (codes "pools") ∷ [])
 segments_of place.Pool = api (Text (codes "pools") ∷ Part (codes "pool_name") ∷ [])
 segments_of place.Variables = api (Text (codes "variables") ∷ [])
 segments_of place.Variable = api (Text (codes "variables") ∷ Part (codes "variable_key") ∷ [])
+segments_of place.Entries = api (Text (codes "eventLogs") ∷ [])
+segments_of place.Roles = api (Text (codes "roles") ∷ [])
+segments_of place.Role = api (Text (codes "roles") ∷ Part (codes "role_name") ∷ [])
+segments_of place.Users = api (Text (codes "users") ∷ [])
+segments_of place.User = api (Text (codes "users") ∷ Part (codes "username") ∷ [])
+segments_of place.Me = own (Text (codes "me") ∷ [])
+segments_of place.Sync = own (Text (codes "dags") ∷ Part (codes "dag_id") ∷ Text (codes "sync") ∷ [])
 
 -- how a path is spelled, with its parts in braces
 abbrev pub spelled : List Segment → List ℕ
@@ -58,7 +69,7 @@ spelled (Text text ∷ rest) = 47 ∷ (text ++ spelled rest)
 spelled (Part name ∷ rest) = 47 ∷ 123 ∷ (name ++ 125 ∷ spelled rest)
 
 abbrev pub places : List Place
-places = place.Version ∷ place.Dags ∷ place.Dag ∷ place.Tasks ∷ place.Runs ∷ place.Run ∷ place.RunClear ∷ place.Instances ∷ place.Instance ∷ place.Clear ∷ place.Pools ∷ place.Pool ∷ place.Variables ∷ place.Variable ∷ []
+places = place.Version ∷ place.Dags ∷ place.Dag ∷ place.Tasks ∷ place.Runs ∷ place.Run ∷ place.RunClear ∷ place.Instances ∷ place.Instance ∷ place.Clear ∷ place.Pools ∷ place.Pool ∷ place.Variables ∷ place.Variable ∷ place.Entries ∷ place.Roles ∷ place.Role ∷ place.Users ∷ place.User ∷ place.Me ∷ place.Sync ∷ []
 
 abbrev pub place_rank : Place → ℕ
 place_rank place.Version = 0
@@ -75,6 +86,13 @@ place_rank place.Pools = 10
 place_rank place.Pool = 11
 place_rank place.Variables = 12
 place_rank place.Variable = 13
+place_rank place.Entries = 14
+place_rank place.Roles = 15
+place_rank place.Role = 16
+place_rank place.Users = 17
+place_rank place.User = 18
+place_rank place.Me = 19
+place_rank place.Sync = 20
 
 abbrev pub same_place : Place → Place → Bool
 same_place = on place_rank nat_eq
@@ -133,9 +151,22 @@ route_of endpoint.AddVariable = needing Post place.Variables (on_all Create Vari
 route_of endpoint.GetVariable = needing Get place.Variable (on_all Read Variables ∷ [])
 route_of endpoint.ChangeVariable = needing Patch place.Variable (on_all Edit Variables ∷ [])
 route_of endpoint.DeleteVariable = needing Delete place.Variable (on_all action.Delete Variables ∷ [])
+route_of endpoint.ListEntries = needing Get place.Entries (on_all Read AuditLogs ∷ [])
+route_of endpoint.ListRoles = needing Get place.Roles (on_all Read Roles ∷ [])
+route_of endpoint.AddRole = needing Post place.Roles (on_all Create Roles ∷ [])
+route_of endpoint.GetRole = needing Get place.Role (on_all Read Roles ∷ [])
+route_of endpoint.ChangeRole = needing Patch place.Role (on_all Edit Roles ∷ [])
+route_of endpoint.DeleteRole = needing Delete place.Role (on_all action.Delete Roles ∷ [])
+route_of endpoint.ListUsers = needing Get place.Users (on_all Read Users ∷ [])
+route_of endpoint.AddUser = needing Post place.Users (on_all Create Users ∷ [])
+route_of endpoint.GetUser = needing Get place.User (on_all Read Users ∷ [])
+route_of endpoint.ChangeUser = needing Patch place.User (on_all Edit Users ∷ [])
+route_of endpoint.DeleteUser = needing Delete place.User (on_all action.Delete Users ∷ [])
+route_of endpoint.GetMe = needing Get place.Me []
+route_of endpoint.SyncDag = needing Post place.Sync (on_all Edit Roles ∷ [])
 
 abbrev pub endpoints : List Endpoint
-endpoints = endpoint.Version ∷ endpoint.ListDags ∷ endpoint.GetDag ∷ endpoint.PauseDag ∷ endpoint.ListTasks ∷ endpoint.ListRuns ∷ endpoint.TriggerRun ∷ endpoint.GetRun ∷ endpoint.MarkRun ∷ endpoint.DeleteRun ∷ endpoint.ClearRun ∷ endpoint.ListInstances ∷ endpoint.GetInstance ∷ endpoint.ClearInstances ∷ endpoint.ListPools ∷ endpoint.AddPool ∷ endpoint.GetPool ∷ endpoint.ChangePool ∷ endpoint.DeletePool ∷ endpoint.ListVariables ∷ endpoint.AddVariable ∷ endpoint.GetVariable ∷ endpoint.ChangeVariable ∷ endpoint.DeleteVariable ∷ []
+endpoints = endpoint.Version ∷ endpoint.ListDags ∷ endpoint.GetDag ∷ endpoint.PauseDag ∷ endpoint.ListTasks ∷ endpoint.ListRuns ∷ endpoint.TriggerRun ∷ endpoint.GetRun ∷ endpoint.MarkRun ∷ endpoint.DeleteRun ∷ endpoint.ClearRun ∷ endpoint.ListInstances ∷ endpoint.GetInstance ∷ endpoint.ClearInstances ∷ endpoint.ListPools ∷ endpoint.AddPool ∷ endpoint.GetPool ∷ endpoint.ChangePool ∷ endpoint.DeletePool ∷ endpoint.ListVariables ∷ endpoint.AddVariable ∷ endpoint.GetVariable ∷ endpoint.ChangeVariable ∷ endpoint.DeleteVariable ∷ endpoint.ListEntries ∷ endpoint.ListRoles ∷ endpoint.AddRole ∷ endpoint.GetRole ∷ endpoint.ChangeRole ∷ endpoint.DeleteRole ∷ endpoint.ListUsers ∷ endpoint.AddUser ∷ endpoint.GetUser ∷ endpoint.ChangeUser ∷ endpoint.DeleteUser ∷ endpoint.GetMe ∷ endpoint.SyncDag ∷ []
 
 -- ---- what is read off it
 

@@ -5,9 +5,11 @@ ghost use Rattle.af_ops.specs.declared.op.Op.{Op};
 ghost use Rattle.af_ops.specs.Decisions.{fault_verdict, prepared_verdict};
 ghost use Rattle.af_ops.specs.Edits.{is_edit};
 ghost use Rattle.af_ops.specs.Effects.{effect_of};
+ghost use Rattle.af_ops.specs.Endpoints.{endpoint_of};
 ghost use Rattle.af_ops.specs.Prepared.{CanDo};
 ghost use Rattle.af_ops.specs.Served.{IsServed, reply_told, status_of, told_openly};
 ghost use Rattle.af_ops.specs.Standings.{history_limit};
+ghost use Rattle.af_ops.specs.Table.{is_open};
 ghost use Rattle.af_ops.specs.Verdicts.{judged, opened, verdict};
 ghost use Rattle.af_policy.specs.Identity.{bearer_of};
 ghost use Rattle.af_sched.specs.State.{StateRows};
@@ -47,7 +49,7 @@ impl Standing {
         ensures served { IsServed op.now (verdict history_limit policy.now self.old (option_copied token.entry) op.now now) self.old result self.new }
         ensures kept { result ≢ ReplyLost }
     {
-        if route_of(op.endpoint()).is_open {
+        if is_open(op) {
             return openly(alloc, &mut self.state, self.under, op, now);
         }
         judged(
@@ -60,6 +62,13 @@ impl Standing {
             now,
         )
     }
+}
+
+/// Whether anybody may ask for an operation.
+fn is_open(op: &Op) -> bool
+    ensures { result ≡ is_open (endpoint_of op.now) }
+{
+    route_of(op.endpoint()).is_open
 }
 
 /// Answers an operation that anybody may ask for, which changes nothing.
@@ -145,7 +154,7 @@ pub fn shown_reply(under: Under, reply: Option<Body>) -> Shown
 }
 
 /// The status of a reply.
-fn status_of(reply: &Option<Body>) -> Status
+pub(crate) fn status_of(reply: &Option<Body>) -> Status
     ensures { result ≡ status_of reply.now }
 {
     match reply {

@@ -3,6 +3,7 @@ ghost use Rattle.af_ops.specs.Table.{segments_of, spelled};
 ghost use Rattle.af_ops.specs.Segments.{seen};
 
 use crate::paths::{CLEAR, DAG, DAGS, INSTANCE, INSTANCES, RUN, RUN_CLEAR, RUNS, TASKS, VERSION};
+use crate::policy_paths::{ENTRIES, ME, ROLE, ROLES, SYNC, USER, USERS};
 use crate::row_paths::{POOL, POOLS, VARIABLE, VARIABLES};
 use crate::segment::Segment;
 
@@ -37,6 +38,20 @@ pub enum Place {
     Variables,
     /// `/api/v1/variables/{variable_key}`
     Variable,
+    /// `/api/v1/eventLogs`
+    Entries,
+    /// `/api/v1/roles`
+    Roles,
+    /// `/api/v1/roles/{role_name}`
+    Role,
+    /// `/api/v1/users`
+    Users,
+    /// `/api/v1/users/{username}`
+    User,
+    /// `/own/me`
+    Me,
+    /// `/own/dags/{dag_id}/sync`
+    Sync,
 }
 
 impl Place {
@@ -59,6 +74,13 @@ impl Place {
             Place::Pool => "/api/v1/pools/{pool_name}",
             Place::Variables => "/api/v1/variables",
             Place::Variable => "/api/v1/variables/{variable_key}",
+            Place::Entries => "/api/v1/eventLogs",
+            Place::Roles => "/api/v1/roles",
+            Place::Role => "/api/v1/roles/{role_name}",
+            Place::Users => "/api/v1/users",
+            Place::User => "/api/v1/users/{username}",
+            Place::Me => "/own/me",
+            Place::Sync => "/own/dags/{dag_id}/sync",
         }
     }
 
@@ -81,6 +103,13 @@ impl Place {
             Place::Pool => &POOL,
             Place::Variables => &VARIABLES,
             Place::Variable => &VARIABLE,
+            Place::Entries => &ENTRIES,
+            Place::Roles => &ROLES,
+            Place::Role => &ROLE,
+            Place::Users => &USERS,
+            Place::User => &USER,
+            Place::Me => &ME,
+            Place::Sync => &SYNC,
         }
     }
 }

@@ -111,6 +111,24 @@ fn put_rows<R: Row>(alloc: Global, out: &mut Text, rows: &[&R]) -> Result<(), Al
 }
 
 impl Text {
+    /// One row.
+    pub fn row<R: Row>(
+        &mut self,
+        alloc: Global,
+        later: bool,
+        name: &str,
+        row: &R,
+    ) -> Result<(), AllocError>
+        requires { IsTrue (is_name name.now) }
+        ensures { OnOk result (Adds later self.old self.new ((name.now, object_of (R.fields row.now)) ∷ [])) }
+    {
+        self.reserve(name.len() + 20)?;
+        self.push_member(later, name.as_bytes(), b"");
+        put_row(alloc, self, row)?;
+        self.reserve(8)?;
+        Ok(())
+    }
+
     /// A list of rows.
     pub fn rows<R: Row>(
         &mut self,

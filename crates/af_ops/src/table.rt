@@ -7,6 +7,10 @@ use crate::method::Method;
 use crate::methods::Methods;
 use crate::op::Op;
 use crate::place::Place;
+use crate::policy_requirements::{
+    CREATE_ROLE, CREATE_USER, DELETE_ROLE, DELETE_USER, EDIT_ROLE, EDIT_USER, READ_ENTRY,
+    READ_ROLE, READ_USER,
+};
 use crate::requirements::{
     CLEAR_INSTANCE, CREATE_RUN, DELETE_RUN, EDIT_DAG, EDIT_RUN, READ_DAG, READ_INSTANCE, READ_RUN,
     READ_SOME_DAG, READ_SOME_RUN, READ_TASK,
@@ -19,7 +23,7 @@ use crate::row_requirements::{
 use af_role::Need;
 
 /// All operations.
-pub const ENDPOINTS: [Endpoint; 24] = [
+pub const ENDPOINTS: [Endpoint; 37] = [
     Endpoint::Version,
     Endpoint::ListDags,
     Endpoint::GetDag,
@@ -44,10 +48,23 @@ pub const ENDPOINTS: [Endpoint; 24] = [
     Endpoint::GetVariable,
     Endpoint::ChangeVariable,
     Endpoint::DeleteVariable,
+    Endpoint::ListEntries,
+    Endpoint::ListRoles,
+    Endpoint::AddRole,
+    Endpoint::GetRole,
+    Endpoint::ChangeRole,
+    Endpoint::DeleteRole,
+    Endpoint::ListUsers,
+    Endpoint::AddUser,
+    Endpoint::GetUser,
+    Endpoint::ChangeUser,
+    Endpoint::DeleteUser,
+    Endpoint::GetMe,
+    Endpoint::SyncDag,
 ];
 
 /// All paths.
-pub const PLACES: [Place; 14] = [
+pub const PLACES: [Place; 21] = [
     Place::Version,
     Place::Dags,
     Place::Dag,
@@ -62,6 +79,13 @@ pub const PLACES: [Place; 14] = [
     Place::Pool,
     Place::Variables,
     Place::Variable,
+    Place::Entries,
+    Place::Roles,
+    Place::Role,
+    Place::Users,
+    Place::User,
+    Place::Me,
+    Place::Sync,
 ];
 
 /// The row of an operation.
@@ -93,6 +117,19 @@ pub fn route_of(endpoint: Endpoint) -> Route
         Endpoint::GetVariable => needing(Method::Get, Place::Variable, &READ_VARIABLE),
         Endpoint::ChangeVariable => needing(Method::Patch, Place::Variable, &EDIT_VARIABLE),
         Endpoint::DeleteVariable => needing(Method::Delete, Place::Variable, &DELETE_VARIABLE),
+        Endpoint::ListEntries => needing(Method::Get, Place::Entries, &READ_ENTRY),
+        Endpoint::ListRoles => needing(Method::Get, Place::Roles, &READ_ROLE),
+        Endpoint::AddRole => needing(Method::Post, Place::Roles, &CREATE_ROLE),
+        Endpoint::GetRole => needing(Method::Get, Place::Role, &READ_ROLE),
+        Endpoint::ChangeRole => needing(Method::Patch, Place::Role, &EDIT_ROLE),
+        Endpoint::DeleteRole => needing(Method::Delete, Place::Role, &DELETE_ROLE),
+        Endpoint::ListUsers => needing(Method::Get, Place::Users, &READ_USER),
+        Endpoint::AddUser => needing(Method::Post, Place::Users, &CREATE_USER),
+        Endpoint::GetUser => needing(Method::Get, Place::User, &READ_USER),
+        Endpoint::ChangeUser => needing(Method::Patch, Place::User, &EDIT_USER),
+        Endpoint::DeleteUser => needing(Method::Delete, Place::User, &DELETE_USER),
+        Endpoint::GetMe => needing(Method::Get, Place::Me, &[]),
+        Endpoint::SyncDag => needing(Method::Post, Place::Sync, &EDIT_ROLE),
     }
 }
 

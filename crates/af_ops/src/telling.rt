@@ -113,7 +113,8 @@ fn shown_named(
     shown_problem(alloc, under, status, detail.as_str())
 }
 
-fn denial(alloc: Global, need: Need, dag: Option<&DagId>) -> Result<String, AllocError>
+/// The detail of a denial.
+pub(crate) fn denial(alloc: Global, need: Need, dag: Option<&DagId>) -> Result<String, AllocError>
     ensures { IfOk result
         (λ text. string_bytes text ≡ codes "missing permission " ++ need_text need (option_copied dag.entry)) }
 {
@@ -122,7 +123,8 @@ fn denial(alloc: Global, need: Need, dag: Option<&DagId>) -> Result<String, Allo
     Ok(detail)
 }
 
-fn joined(alloc: Global, first: &str, second: &str) -> Result<String, AllocError>
+/// A detail in two pieces.
+pub(crate) fn joined(alloc: Global, first: &str, second: &str) -> Result<String, AllocError>
     ensures { IfOk result (λ text. string_bytes text ≡ first.now ++ second.now) }
 {
     let mut detail = String::from_str(alloc, first)?;

@@ -15,7 +15,9 @@ ghost use Rattle.af_runs.specs.declared.mark.Mark.TheVariants as mark;
 ghost use Rattle.serde_json.specs.Written.{compact_text};
 ghost use Rattle.af_listing.specs.Windows.{window_of};
 ghost use Rattle.af_ops.specs.Bodies.{clear_in, clear_run_in, mark_in, pause_in, trigger_in};
-ghost use Rattle.af_ops.specs.Endpoints.{are_names, op_of_row};
+ghost use Rattle.af_ops.specs.declared.call.Call.TheVariants as call;
+ghost use Rattle.af_ops.specs.Calls.{call_of_row};
+ghost use Rattle.af_ops.specs.Endpoints.{are_names};
 ghost use Rattle.af_ops.specs.Fields.{list_of, listing_of};
 ghost use Rattle.af_ops.specs.Methods.{method_of};
 ghost use Rattle.af_ops.specs.Replies.{cleared_data, dag_data, fault_data, instance_data, run_data, task_data, version_data};
@@ -90,20 +92,20 @@ pub fn routes_by_the_rule()
     ensures post { endpoint_at Post place.Dag ≡ None }
     ensures methods { methods_at place.Dag ≡ record { get = true; post = false; patch = true; delete = false } }
     ensures path { spelled (segments_of place.Dag) ≡ codes "/api/v1/dags/{dag_id}" }
-    ensures one { op_of_row endpoint.GetDag (codes "b" ∷ []) [] (codes "{") ≡ Some (op.GetDag (codes "b")) }
-    ensures body { op_of_row endpoint.PauseDag (codes "b" ∷ []) [] (codes "{") ≡ Some (op.PauseDag (codes "b") (Err BadBody)) }
-    ensures no_id { op_of_row endpoint.GetDag (codes "a b" ∷ []) [] [] ≡ None }
-    ensures each_dag { op_of_row endpoint.PauseDag (codes "~" ∷ []) [] (codes "{}") ≡ None }
-    ensures all { op_of_row endpoint.ListRuns (codes "~" ∷ []) [] [] ≡ Some (op.ListRuns None (window_of [])) }
-    ensures one_of_all { op_of_row endpoint.ListRuns (codes "b" ∷ []) [] [] ≡ Some (op.ListRuns (Some (codes "b")) (window_of [])) }
+    ensures one { call_of_row endpoint.GetDag (codes "b" ∷ []) [] (codes "{") ≡ Some (call.State (op.GetDag (codes "b"))) }
+    ensures body { call_of_row endpoint.PauseDag (codes "b" ∷ []) [] (codes "{") ≡ Some (call.State (op.PauseDag (codes "b") (Err BadBody))) }
+    ensures no_id { call_of_row endpoint.GetDag (codes "a b" ∷ []) [] [] ≡ None }
+    ensures each_dag { call_of_row endpoint.PauseDag (codes "~" ∷ []) [] (codes "{}") ≡ None }
+    ensures all { call_of_row endpoint.ListRuns (codes "~" ∷ []) [] [] ≡ Some (call.State (op.ListRuns None (window_of []))) }
+    ensures one_of_all { call_of_row endpoint.ListRuns (codes "b" ∷ []) [] [] ≡ Some (call.State (op.ListRuns (Some (codes "b")) (window_of []))) }
     ensures all_listed { are_names (Some Get) place.Runs (codes "~" ∷ []) ≡ true }
     ensures none_triggered { are_names (Some Post) place.Runs (codes "~" ∷ []) ≡ false }
     ensures no_method { are_names None place.Runs (codes "~" ∷ []) ≡ false }
-    ensures run { op_of_row endpoint.GetRun (codes "b" ∷ codes "r~1" ∷ []) [] [] ≡ Some (op.GetRun (codes "b") (codes "r~1")) }
-    ensures no_run { op_of_row endpoint.GetRun (codes "b" ∷ codes "~" ∷ []) [] [] ≡ None }
+    ensures run { call_of_row endpoint.GetRun (codes "b" ∷ codes "r~1" ∷ []) [] [] ≡ Some (call.State (op.GetRun (codes "b") (codes "r~1"))) }
+    ensures no_run { call_of_row endpoint.GetRun (codes "b" ∷ codes "~" ∷ []) [] [] ≡ None }
     ensures run_path { spelled (segments_of place.Run) ≡ codes "/api/v1/dags/{dag_id}/dagRuns/{dag_run_id}" }
     ensures run_methods { methods_at place.Runs ≡ record { get = true; post = true; patch = false; delete = false } }
-    ensures no_part { op_of_row endpoint.GetDag ([] ∷ []) [] [] ≡ None }
+    ensures no_part { call_of_row endpoint.GetDag ([] ∷ []) [] [] ≡ None }
 {}
 
 /// Bodies of faults, and the numbers of the statuses.
@@ -168,8 +170,8 @@ pub fn triggers_by_the_rule()
 /// denial comes before an absence.
 pub fn tasks_by_the_rule()
     ensures path { spelled (segments_of place.Tasks) ≡ codes "/api/v1/dags/{dag_id}/tasks" }
-    ensures row { op_of_row endpoint.ListTasks (codes "f" ∷ []) [] (codes "{") ≡ Some (op.ListTasks (codes "f")) }
-    ensures each_dag { op_of_row endpoint.ListTasks (codes "~" ∷ []) [] [] ≡ None }
+    ensures row { call_of_row endpoint.ListTasks (codes "f" ∷ []) [] (codes "{") ≡ Some (call.State (op.ListTasks (codes "f"))) }
+    ensures each_dag { call_of_row endpoint.ListTasks (codes "~" ∷ []) [] [] ≡ None }
     ensures listed { asks at_work (codes "vera") (op.ListTasks (codes "f")) ≡ tells (compact_text (listing_of (codes "tasks") (task_data waiting_told ∷ task_data waited_told ∷ []) 2)) }
     ensures no_instances { asks opening (codes "bob") (op.ListTasks (codes "b")) ≡ Lacks (on_all Read TaskInstances) }
     ensures hidden { asks opening (codes "bob") (op.ListTasks (codes "nosuch")) ≡ Lacks (at_dag Read) }
@@ -179,12 +181,12 @@ pub fn tasks_by_the_rule()
 
 /// Paths of instances, and their parts: each is a name of its kind.
 pub fn instance_routes_by_the_rule()
-    ensures listed { op_of_row endpoint.ListInstances (codes "b" ∷ codes "r~1" ∷ []) [] (codes "{") ≡ Some (op.ListInstances (codes "b") (codes "r~1") (window_of [])) }
-    ensures shown { op_of_row endpoint.GetInstance (codes "b" ∷ codes "r~1" ∷ codes "t-1" ∷ []) [] [] ≡ Some (op.GetInstance (codes "b") (codes "r~1") (codes "t-1")) }
-    ensures no_task { op_of_row endpoint.GetInstance (codes "b" ∷ codes "r" ∷ codes "t~1" ∷ []) [] [] ≡ None }
-    ensures no_part { op_of_row endpoint.GetInstance (codes "b" ∷ codes "r" ∷ []) [] [] ≡ None }
-    ensures each_run { op_of_row endpoint.ListInstances (codes "b" ∷ codes "~" ∷ []) [] [] ≡ None }
-    ensures each_dag { op_of_row endpoint.ListInstances (codes "~" ∷ codes "r" ∷ []) [] [] ≡ None }
+    ensures listed { call_of_row endpoint.ListInstances (codes "b" ∷ codes "r~1" ∷ []) [] (codes "{") ≡ Some (call.State (op.ListInstances (codes "b") (codes "r~1") (window_of []))) }
+    ensures shown { call_of_row endpoint.GetInstance (codes "b" ∷ codes "r~1" ∷ codes "t-1" ∷ []) [] [] ≡ Some (call.State (op.GetInstance (codes "b") (codes "r~1") (codes "t-1"))) }
+    ensures no_task { call_of_row endpoint.GetInstance (codes "b" ∷ codes "r" ∷ codes "t~1" ∷ []) [] [] ≡ None }
+    ensures no_part { call_of_row endpoint.GetInstance (codes "b" ∷ codes "r" ∷ []) [] [] ≡ None }
+    ensures each_run { call_of_row endpoint.ListInstances (codes "b" ∷ codes "~" ∷ []) [] [] ≡ None }
+    ensures each_dag { call_of_row endpoint.ListInstances (codes "~" ∷ codes "r" ∷ []) [] [] ≡ None }
     ensures names { are_names (Some Get) place.Instance (codes "b" ∷ codes "r" ∷ codes "t" ∷ []) ≡ true }
     ensures no_names { are_names None place.Instance (codes "b" ∷ codes "r" ∷ codes "t~1" ∷ []) ≡ false }
     ensures path { spelled (segments_of place.Instances) ≡ codes "/api/v1/dags/{dag_id}/dagRuns/{dag_run_id}/taskInstances" }
@@ -228,8 +230,8 @@ pub fn marks_by_the_rule()
     ensures no_run { asks later (codes "uma") (op.MarkRun (codes "b") (codes "r1") (Ok mark.Failed)) ≡ Refuses fault.NoSuchRun }
     ensures full { asks full_later (codes "uma") (op.MarkRun (codes "b") (codes "r2") (Ok mark.Success)) ≡ Refuses fault.HistoryFull }
     ensures full_stands { asks full_later (codes "uma") (op.MarkRun (codes "b") (codes "r2") (Ok mark.Queued)) ≡ tells (compact_text (run_data second)) }
-    ensures row { op_of_row endpoint.MarkRun (codes "b" ∷ codes "r~1" ∷ []) [] (codes "{") ≡ Some (op.MarkRun (codes "b") (codes "r~1") (Err BadBody)) }
-    ensures no_name { op_of_row endpoint.MarkRun (codes "~" ∷ codes "r" ∷ []) [] [] ≡ None }
+    ensures row { call_of_row endpoint.MarkRun (codes "b" ∷ codes "r~1" ∷ []) [] (codes "{") ≡ Some (call.State (op.MarkRun (codes "b") (codes "r~1") (Err BadBody))) }
+    ensures no_name { call_of_row endpoint.MarkRun (codes "~" ∷ codes "r" ∷ []) [] [] ≡ None }
     ensures methods { methods_at place.Run ≡ record { get = true; post = false; patch = true; delete = true } }
 {}
 
@@ -293,9 +295,9 @@ pub fn clear_bodies_by_the_rule()
     ensures run_done { clear_run_in (codes "{\"dry_run\":false}") ≡ Ok false }
     ensures run_text { clear_run_in (codes "{\"dry_run\":\"false\"}") ≡ Err (BadMember DryRun) }
     ensures list { clear_run_in (codes "[]") ≡ Err BadBody }
-    ensures row { op_of_row endpoint.ClearRun (codes "b" ∷ codes "r~1" ∷ []) [] (codes "{") ≡ Some (op.ClearRun (codes "b") (codes "r~1") (Err BadBody)) }
-    ensures dag_row { op_of_row endpoint.ClearInstances (codes "b" ∷ []) [] (codes "{") ≡ Some (op.ClearInstances (codes "b") (Err BadBody)) }
-    ensures no_dag { op_of_row endpoint.ClearInstances (codes "~" ∷ []) [] [] ≡ None }
+    ensures row { call_of_row endpoint.ClearRun (codes "b" ∷ codes "r~1" ∷ []) [] (codes "{") ≡ Some (call.State (op.ClearRun (codes "b") (codes "r~1") (Err BadBody))) }
+    ensures dag_row { call_of_row endpoint.ClearInstances (codes "b" ∷ []) [] (codes "{") ≡ Some (call.State (op.ClearInstances (codes "b") (Err BadBody))) }
+    ensures no_dag { call_of_row endpoint.ClearInstances (codes "~" ∷ []) [] [] ≡ None }
     ensures path { spelled (segments_of place.RunClear) ≡ codes "/api/v1/dags/{dag_id}/dagRuns/{dag_run_id}/clear" }
     ensures dag_path { spelled (segments_of place.Clear) ≡ codes "/api/v1/dags/{dag_id}/clearTaskInstances" }
     ensures methods { methods_at place.Clear ≡ record { get = false; post = true; patch = false; delete = false } }
@@ -312,7 +314,7 @@ pub fn deletes_by_the_rule()
     ensures no_dag { asks later (codes "uma") (op.DeleteRun (codes "nosuch") (codes "r2")) ≡ Refuses fault.NoSuchDag }
     ensures denied { asks later (codes "vera") (op.DeleteRun (codes "nosuch") (codes "r2")) ≡ Lacks (at_dag Edit) }
     ensures full { asks full_later (codes "uma") (op.DeleteRun (codes "b") (codes "r2")) ≡ Refuses fault.HistoryFull }
-    ensures row { op_of_row endpoint.DeleteRun (codes "b" ∷ codes "r~1" ∷ []) [] (codes "{") ≡ Some (op.DeleteRun (codes "b") (codes "r~1")) }
-    ensures no_name { op_of_row endpoint.DeleteRun (codes "b" ∷ codes "~" ∷ []) [] [] ≡ None }
+    ensures row { call_of_row endpoint.DeleteRun (codes "b" ∷ codes "r~1" ∷ []) [] (codes "{") ≡ Some (call.State (op.DeleteRun (codes "b") (codes "r~1"))) }
+    ensures no_name { call_of_row endpoint.DeleteRun (codes "b" ∷ codes "~" ∷ []) [] [] ≡ None }
     ensures found { endpoint_at Delete place.Run ≡ Some endpoint.DeleteRun }
 {}

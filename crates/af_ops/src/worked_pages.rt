@@ -9,7 +9,8 @@ ghost use Rattle.af_ops.specs.declared.pool_op.PoolOp.TheVariants as pool_op;
 ghost use Rattle.af_ops.specs.declared.status.Status.TheVariants as status;
 ghost use Rattle.af_ops.specs.declared.variable_op.VariableOp.TheVariants as variable_op;
 ghost use Rattle.af_role.specs.declared.action.Action.TheVariants.{Read};
-ghost use Rattle.af_ops.specs.Endpoints.{op_of_row};
+ghost use Rattle.af_ops.specs.declared.call.Call.TheVariants as call;
+ghost use Rattle.af_ops.specs.Calls.{call_of_row};
 ghost use Rattle.af_ops.specs.Fields.{listing_of};
 ghost use Rattle.af_ops.specs.Replies.{instance_data, run_data};
 ghost use Rattle.af_ops.specs.Table.{at_some_dag};
@@ -19,14 +20,14 @@ ghost use Rattle.af_ops.specs.WorkedRows.{of_pools, of_variables, named, variabl
 
 /// What is read of queries: each listing reads its window, but that of tasks, and nothing else does.
 pub fn windows_by_the_rule()
-    ensures dags { op_of_row endpoint.ListDags [] (codes "limit=2&offset=1") [] ≡ Some (op.ListDags (Ok (record { limit = 2; offset = 1 }))) }
-    ensures runs { op_of_row endpoint.ListRuns (codes "~" ∷ []) (codes "%6cimit=7") [] ≡ Some (op.ListRuns None (Ok (record { limit = 7; offset = 0 }))) }
-    ensures one_dag { op_of_row endpoint.ListRuns (codes "b" ∷ []) (codes "limit=x") [] ≡ Some (op.ListRuns (Some (codes "b")) (Err Limit)) }
-    ensures instances { op_of_row endpoint.ListInstances (codes "b" ∷ codes "r" ∷ []) (codes "offset=-1") [] ≡ Some (op.ListInstances (codes "b") (codes "r") (Err Offset)) }
-    ensures pools { op_of_row endpoint.ListPools [] (codes "limit=1000") [] ≡ Some (op.Pool (pool_op.List (Ok (record { limit = 100; offset = 0 })))) }
-    ensures variables { op_of_row endpoint.ListVariables [] (codes "limit=3&limit=x") [] ≡ Some (op.Variable (variable_op.List (Ok (record { limit = 3; offset = 0 })))) }
-    ensures tasks { op_of_row endpoint.ListTasks (codes "b" ∷ []) (codes "limit=x") [] ≡ Some (op.ListTasks (codes "b")) }
-    ensures no_listing { op_of_row endpoint.GetDag (codes "b" ∷ []) (codes "limit=x") [] ≡ Some (op.GetDag (codes "b")) }
+    ensures dags { call_of_row endpoint.ListDags [] (codes "limit=2&offset=1") [] ≡ Some (call.State (op.ListDags (Ok (record { limit = 2; offset = 1 })))) }
+    ensures runs { call_of_row endpoint.ListRuns (codes "~" ∷ []) (codes "%6cimit=7") [] ≡ Some (call.State (op.ListRuns None (Ok (record { limit = 7; offset = 0 })))) }
+    ensures one_dag { call_of_row endpoint.ListRuns (codes "b" ∷ []) (codes "limit=x") [] ≡ Some (call.State (op.ListRuns (Some (codes "b")) (Err Limit))) }
+    ensures instances { call_of_row endpoint.ListInstances (codes "b" ∷ codes "r" ∷ []) (codes "offset=-1") [] ≡ Some (call.State (op.ListInstances (codes "b") (codes "r") (Err Offset))) }
+    ensures pools { call_of_row endpoint.ListPools [] (codes "limit=1000") [] ≡ Some (call.State (op.Pool (pool_op.List (Ok (record { limit = 100; offset = 0 }))))) }
+    ensures variables { call_of_row endpoint.ListVariables [] (codes "limit=3&limit=x") [] ≡ Some (call.State (op.Variable (variable_op.List (Ok (record { limit = 3; offset = 0 }))))) }
+    ensures tasks { call_of_row endpoint.ListTasks (codes "b" ∷ []) (codes "limit=x") [] ≡ Some (call.State (op.ListTasks (codes "b"))) }
+    ensures no_listing { call_of_row endpoint.GetDag (codes "b" ∷ []) (codes "limit=x") [] ≡ Some (call.State (op.GetDag (codes "b"))) }
 {}
 
 /// Pages of what is shown: of two runs, who reads one DAG is shown one, on whatever page. A faulty parameter is told of who may

@@ -14,7 +14,9 @@ ghost use Rattle.af_role.specs.declared.action.Action.TheVariants as action;
 ghost use Rattle.af_role.specs.declared.action.Action.TheVariants.{Create};
 ghost use Rattle.af_role.specs.declared.resource.ResourceKind.TheVariants.{Pools, Variables};
 ghost use Rattle.serde_json.specs.Written.{compact_text};
-ghost use Rattle.af_ops.specs.Endpoints.{are_names, op_of_row};
+ghost use Rattle.af_ops.specs.declared.call.Call.TheVariants as call;
+ghost use Rattle.af_ops.specs.Calls.{call_of_row};
+ghost use Rattle.af_ops.specs.Endpoints.{are_names};
 ghost use Rattle.af_ops.specs.PoolEffects.{told};
 ghost use Rattle.af_ops.specs.Replies.{variable_data};
 ghost use Rattle.af_ops.specs.RowBodies.{pool_in, slots_in, value_in, variable_in};
@@ -93,9 +95,9 @@ pub fn row_routes_by_the_rule()
     ensures pool { methods_at place.Pool ≡ record { get = true; post = false; patch = true; delete = true } }
     ensures path { spelled (segments_of place.Pool) ≡ codes "/api/v1/pools/{pool_name}" }
     ensures variable_path { spelled (segments_of place.Variable) ≡ codes "/api/v1/variables/{variable_key}" }
-    ensures one { op_of_row endpoint.GetPool (codes "a b" ∷ []) [] (codes "{") ≡ Some (op.Pool (pool_op.Get (codes "a b"))) }
-    ensures no_name { op_of_row endpoint.DeletePool ([] ∷ []) [] [] ≡ None }
+    ensures one { call_of_row endpoint.GetPool (codes "a b" ∷ []) [] (codes "{") ≡ Some (call.State (op.Pool (pool_op.Get (codes "a b")))) }
+    ensures no_name { call_of_row endpoint.DeletePool ([] ∷ []) [] [] ≡ None }
     ensures no_part { are_names (Some Get) place.Variable ([] ∷ []) ≡ false }
-    ensures key { op_of_row endpoint.DeleteVariable (codes "%zz" ∷ []) [] [] ≡ Some (op.Variable (variable_op.Delete (codes "%zz"))) }
-    ensures body { op_of_row endpoint.ChangeVariable (codes "k" ∷ []) [] (codes "{") ≡ Some (op.Variable (variable_op.Change (codes "k") (Err BadBody))) }
+    ensures key { call_of_row endpoint.DeleteVariable (codes "%zz" ∷ []) [] [] ≡ Some (call.State (op.Variable (variable_op.Delete (codes "%zz")))) }
+    ensures body { call_of_row endpoint.ChangeVariable (codes "k" ∷ []) [] (codes "{") ≡ Some (call.State (op.Variable (variable_op.Change (codes "k") (Err BadBody)))) }
 {}

@@ -1,6 +1,8 @@
 //! Requests of several users, one after another, with the bodies that the stable REST API of Airflow 2 and RFC 9457 spell.
 mod asserts;
 mod instances;
+mod policies;
+mod policy_texts;
 mod row_texts;
 mod rows;
 mod slots;
@@ -9,7 +11,7 @@ mod told;
 use af_graph::{Dag, DagSpec, TaskSpec, TaskSpecs};
 use af_names::{DagId, Instant, RoleName, RunId, TaskId, UserName};
 use af_ops::{
-    CallFault, Endpoint, Op, OpFault, Served, Shown, Standing, Status, Text, Under, decide,
+    Call, CallFault, Endpoint, Op, OpFault, Served, Shown, Standing, Status, Text, Under, decide,
     read_row,
 };
 use af_policy::{Policy, PolicyDraft, User};
@@ -426,7 +428,11 @@ fn op(alloc: Global, endpoint: Endpoint, part: &str, body: &[u8]) -> Result<Opti
     for text in part.split('/') {
         parts.push(String::from_str(alloc, text)?)?;
     }
-    Ok(read_row(alloc, endpoint, parts.as_slice(), b"", body)?)
+    match read_row(alloc, endpoint, parts.as_slice(), b"", body)? {
+        Some(Call::State(op)) => Ok(Some(op)),
+        Some(_) => Err(Fail::new("no operation on the state")),
+        None => Ok(None),
+    }
 }
 
 /// The operation at these parts of a path with this body.

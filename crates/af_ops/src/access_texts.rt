@@ -1,0 +1,209 @@
+// Reading the access control of a DAG: an object of names of roles, with a list of texts for each. Each reader takes what is told of a
+// value of another kind, of a name that is none and of want of memory, so that bodies and configurations may read alike.
+ghost use Rattle.std.specs.Prelude.{◌≡◌, [], map, IfOk, OnOk};
+ghost use Rattle.serde_json.specs.Data.{put};
+ghost use Rattle.af_base.specs.JsonValue.{members_view, view};
+ghost use Rattle.af_base.specs.Readings.{Makes, OrMemory, first_fault, seen, taking};
+ghost use Rattle.af_ops.specs.AccessTexts.{access_in, entries_view, field_of, fields_of, is_text, row_in, row_taken, text_taken, texts_in, texts_tested};
+
+use af_base::Json;
+use af_names::{NameError, RoleName};
+use af_role::{AccessControl, AccessRow, Text, Texts};
+use std::alloc::{AllocError, Global};
+use std::collections::BTreeMap;
+
+/// Reads which roles are to have which actions on a DAG: an object, each of whose members has the name of a role and is a list of
+/// texts. The roles stand in byte order of their names; of a name that comes twice the last member counts. The first fault decides:
+/// `wrong` where the value is no object, and then where a member is no list of texts; `misnamed` where a name is no role's;
+/// `memory` only where a growth was refused.
+pub fn read_access<E: Copy>(
+    alloc: Global,
+    value: &Json<'_>,
+    wrong: E,
+    misnamed: E,
+    memory: E,
+) -> Result<AccessControl, E>
+    ensures { OrMemory memory (access_in wrong misnamed (view value.now)) result }
+{
+    let Some(members) = value.as_object() else {
+        return Err(wrong);
+    };
+    let Ok(fields) = in_order(alloc, members) else {
+        return Err(memory);
+    };
+    test_fields(fields.as_slice(), wrong)?;
+    let rows = read_rows(alloc, fields.as_slice(), wrong, misnamed, memory)?;
+    Ok(AccessControl::new(rows))
+}
+
+/// The members of an object, each once, in byte order of their names.
+fn in_order<'v, 'a>(
+    alloc: Global,
+    members: &'v [(&'a str, Json<'a>)],
+) -> Result<Vec<(&'a str, &'v Json<'a>)>, AllocError>
+    ensures { IfOk result (λ fields. map field_of fields.items ≡ fields_of (members_view members.now)) }
+{
+    let mut fields = BTreeMap::new(alloc);
+    for member in members {
+        add_field(&mut fields, member.0, &member.1)?;
+    }
+    listed(alloc, fields)
+}
+
+/// Puts a member at its name, in the place of one that stands there.
+fn add_field<'v, 'a>(
+    fields: &mut BTreeMap<&'a str, &'v Json<'a>>,
+    name: &'a str,
+    value: &'v Json<'a>,
+) -> Result<(), AllocError>
+    ensures { OnOk result (entries_view fields.new.entries ≡ put name.now (view value.now) (entries_view fields.old.entries)) }
+{
+    fields.insert(name, value)?;
+    Ok(())
+}
+
+/// The entries of a map, in the order of their names.
+fn listed<'v, 'a>(
+    alloc: Global,
+    fields: BTreeMap<&'a str, &'v Json<'a>>,
+) -> Result<Vec<(&'a str, &'v Json<'a>)>, AllocError>
+    ensures { IfOk result (λ listed. listed.items ≡ fields.entry.entries) }
+{
+    fields.into_iter().collect(alloc)
+}
+
+/// Whether each member is a list of texts.
+fn test_fields<E: Copy>(fields: &[(&str, &Json<'_>)], wrong: E) -> Result<(), E>
+    ensures { result ≡ first_fault (texts_tested wrong) (map field_of fields.now) }
+{
+    for field in fields {
+        test_texts(field, wrong)?;
+    }
+    Ok(())
+}
+
+/// Whether a member is a list of texts.
+fn test_texts<E: Copy>(field: &(&str, &Json<'_>), wrong: E) -> Result<(), E>
+    ensures { result ≡ texts_tested wrong (field_of field.now) }
+{
+    match field.1.as_array() {
+        Some(items) => test_items(items, wrong),
+        None => Err(wrong),
+    }
+}
+
+fn test_items<E: Copy>(items: &[Json<'_>], wrong: E) -> Result<(), E>
+    ensures { result ≡ first_fault (is_text wrong) (map view items.now) }
+{
+    for item in items {
+        if item.as_str().is_none() {
+            return Err(wrong);
+        }
+    }
+    Ok(())
+}
+
+/// The rows of the members.
+fn read_rows<E: Copy>(
+    alloc: Global,
+    fields: &[(&str, &Json<'_>)],
+    wrong: E,
+    misnamed: E,
+    memory: E,
+) -> Result<Vec<AccessRow>, E>
+    ensures { OrMemory memory (taking (row_taken wrong misnamed) [] (map field_of fields.now)) (seen (λ rows. rows.items) result) }
+{
+    let Ok(mut rows) = Vec::with_capacity(alloc, fields.len()) else {
+        return Err(memory);
+    };
+    for field in fields {
+        add_row(alloc, &mut rows, field, wrong, misnamed, memory)?;
+    }
+    Ok(rows)
+}
+
+/// Puts the row of a member last.
+fn add_row<E: Copy>(
+    alloc: Global,
+    rows: &mut Vec<AccessRow>,
+    field: &(&str, &Json<'_>),
+    wrong: E,
+    misnamed: E,
+    memory: E,
+) -> Result<(), E>
+    ensures { Makes memory (row_taken wrong misnamed rows.old.items (field_of field.now)) rows.new.items result }
+{
+    let row = read_row(alloc, field, wrong, misnamed, memory)?;
+    match rows.push(row) {
+        Ok(()) => Ok(()),
+        Err(_) => Err(memory),
+    }
+}
+
+/// The row of a member.
+fn read_row<E: Copy>(
+    alloc: Global,
+    field: &(&str, &Json<'_>),
+    wrong: E,
+    misnamed: E,
+    memory: E,
+) -> Result<AccessRow, E>
+    ensures { OrMemory memory (row_in wrong misnamed (field_of field.now)) result }
+{
+    let role = match RoleName::parse(alloc, field.0) {
+        Ok(role) => role,
+        Err(NameError::OutOfMemory) => return Err(memory),
+        Err(_) => return Err(misnamed),
+    };
+    let actions = read_texts(alloc, field.1, wrong, memory)?;
+    Ok(AccessRow { role, actions })
+}
+
+/// A list of texts.
+fn read_texts<E: Copy>(alloc: Global, value: &Json<'_>, wrong: E, memory: E) -> Result<Texts, E>
+    ensures { OrMemory memory (texts_in wrong (view value.now)) result }
+{
+    let Some(items) = value.as_array() else {
+        return Err(wrong);
+    };
+    let texts = read_items(alloc, items, wrong, memory)?;
+    Ok(Texts::new(texts))
+}
+
+fn read_items<E: Copy>(
+    alloc: Global,
+    items: &[Json<'_>],
+    wrong: E,
+    memory: E,
+) -> Result<Vec<Text>, E>
+    ensures { OrMemory memory (taking (text_taken wrong) [] (map view items.now)) (seen (λ texts. texts.items) result) }
+{
+    let Ok(mut texts) = Vec::with_capacity(alloc, items.len()) else {
+        return Err(memory);
+    };
+    for item in items {
+        add_text(alloc, &mut texts, item, wrong, memory)?;
+    }
+    Ok(texts)
+}
+
+fn add_text<E: Copy>(
+    alloc: Global,
+    texts: &mut Vec<Text>,
+    item: &Json<'_>,
+    wrong: E,
+    memory: E,
+) -> Result<(), E>
+    ensures { Makes memory (text_taken wrong texts.old.items (view item.now)) texts.new.items result }
+{
+    let Some(text) = item.as_str() else {
+        return Err(wrong);
+    };
+    let Ok(text) = String::from_str(alloc, text) else {
+        return Err(memory);
+    };
+    match texts.push(Text::new(text)) {
+        Ok(()) => Ok(()),
+        Err(_) => Err(memory),
+    }
+}
