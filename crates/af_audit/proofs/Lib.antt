@@ -1,7 +1,12 @@
+pub mod AnsweredLemmas
 pub mod ClaimedLemmas
 pub mod EntryLemmas
+pub mod FollowLemmas
+pub mod JudgedLemmas
 pub mod LedgerLemmas
+pub mod LogLemmas
 pub mod OperatedLemmas
 pub mod ReplayLemmas
+pub mod RequestLemmas
 pub mod TickedLemmas
 pub mod RowLemmas

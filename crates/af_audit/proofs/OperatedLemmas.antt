@@ -16,7 +16,7 @@ use Rattle.af_audit.specs.Entries.{has_room}
 use Rattle.af_audit.specs.Ledgers.{LedgerRows, entered}
 use Rattle.af_audit.specs.Operated.{IsRefused, MayWant, recorded, settled}
 
-no_edit : (it : Edit) (state : StateRows) → is_edit it ≡ false → next_by it state ≡ None
+pub no_edit : (it : Edit) (state : StateRows) → is_edit it ≡ false → next_by it state ≡ None
 no_edit edit.Nothing state none = refl
 no_edit it state none = cc
 

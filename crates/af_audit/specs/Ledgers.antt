@@ -47,6 +47,15 @@ entry_of ledger who it t =
 abbrev pub entered : LedgerRows → Actor → Act → ℕ → StateRows → LedgerRows
 entered ledger who it t next = record ledger { state = next; audit = with_entry ledger.audit (entry_of ledger who it t) }
 
+-- a later ledger: opened with the same state and limit, its first entries are those of the earlier one, and its version is no
+-- earlier
+pub record Follows (old new : LedgerRows) : Type 0 where
+  pub opening : new.opening ≡ old.opening
+  pub limit : new.audit.limit ≡ old.audit.limit
+  pub more : List Entry
+  pub entries : new.audit.entries ≡ old.audit.entries ++ more
+  pub version : old.version ≤ new.version
+
 -- the act changed the state, and one entry says so
 pub record Enters (who : Actor) (it : Act) (t : ℕ) (old new : LedgerRows) : Type 0 where
   pub room : has_room old.audit ≡ true

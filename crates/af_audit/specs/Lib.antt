@@ -1,6 +1,8 @@
 pub mod Acts
+pub mod Answered
 pub mod Claimed
 pub mod Entries
+pub mod EventLogs
 pub mod Laws
 pub mod Ledgers
 pub mod Logs

@@ -1,7 +1,9 @@
 -- Event logs: the entries as rows that are told (Airflow 2, "Stable REST API": event logs). The names of events that have no
 -- operation of Airflow's are this product's own rule.
-use Rattle.std.specs.Prelude.{ℕ, List, [], ◌∷◌, Option, Some, None, codes}
+use Rattle.std.specs.Prelude.{ℕ, List, [], ◌∷◌, Bool, Option, Some, None, codes, filter, length, map}
 use Rattle.serde_json.specs.Data.{Data, null, number, unsigned, string}
+use Rattle.af_listing.specs.Pages.{cut, shows}
+use Rattle.af_listing.specs.Windows.{Cut}
 use Rattle.af_ops.specs.declared.op.Op.{Op}
 use Rattle.af_ops.specs.declared.op.Op.TheVariants as op
 use Rattle.af_ops.specs.declared.pool_op.PoolOp.{PoolOp}
@@ -9,7 +11,7 @@ use Rattle.af_ops.specs.declared.pool_op.PoolOp.TheVariants as pool
 use Rattle.af_ops.specs.declared.variable_op.VariableOp.{VariableOp}
 use Rattle.af_ops.specs.declared.variable_op.VariableOp.TheVariants as variable
 use Rattle.af_ops.specs.Endpoints.{dag_of, run_of, task_of}
-use Rattle.af_ops.specs.Fields.{Field, instant_data}
+use Rattle.af_ops.specs.Fields.{Field, instant_data, listing_of, object_of}
 use Rattle.af_audit.specs.declared.act.Act.{Act}
 use Rattle.af_audit.specs.declared.act.Act.TheVariants as act
 use Rattle.af_audit.specs.declared.actor.Actor.{Actor}
@@ -90,3 +92,16 @@ entry_fields entry =
     ∷ (codes "task_id", name_data (act_task entry.act))
     ∷ (codes "when", instant_data (Some entry.moment))
     ∷ []
+
+-- the entries that a reader of these DAGs is shown, in order of their numbers: those that name one of them, and those that name none
+abbrev pub shown_entries : (List ℕ → Bool) → List Entry → List Entry
+shown_entries reads entries = filter (shows reads (λ entry. act_dag entry.act)) entries
+
+-- rows of event logs, and how many there are in all
+abbrev pub logs_data : List Entry → ℕ → Data
+logs_data rows total = listing_of (codes "event_logs") (map (λ entry. object_of (entry_fields entry)) rows) total
+
+-- of the entries that a reader is shown, those of a page, and how many there are
+abbrev pub entries_data : (List ℕ → Bool) → Cut → List Entry → Data
+entries_data reads window entries =
+    logs_data (cut window (shown_entries reads entries)) (length (shown_entries reads entries))

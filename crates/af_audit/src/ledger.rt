@@ -7,7 +7,9 @@ use af_sched::State;
 use std::alloc::{AllocError, Global};
 use std::marker::Model;
 
+mod answering;
 mod claiming;
+mod listing;
 mod operating;
 mod reporting;
 mod ticking;

@@ -45,7 +45,7 @@ impl Ledger {
 }
 
 /// Adds the entry of a user's operation. A full history is told before memory is wanted; a fault leaves the audit as it was.
-fn record(
+pub(crate) fn record(
     alloc: Global,
     audit: &mut Audit,
     user: &UserName,

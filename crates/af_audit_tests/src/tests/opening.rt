@@ -58,10 +58,24 @@ pub fn ledger(alloc: Global, limit: u32) -> Result<Ledger, Fail> {
     Ok(Ledger::open(alloc, state(alloc)?, limit)?)
 }
 
+/// The id of the run of b that is triggered in January 2024.
+const RUN: &str = "manual__2024-01-01T00:00:00+00:00";
+
 /// An operation of DAG b.
 pub fn op(alloc: Global, endpoint: Endpoint, body: &str) -> Result<Op, Fail> {
     let parts = vec![in alloc; String::from_str(alloc, "b")?]?;
-    match read_row(alloc, endpoint, parts.as_slice(), b"", body.as_bytes())? {
+    read(alloc, endpoint, parts.as_slice(), body)
+}
+
+/// An operation of the run of DAG b.
+pub fn op_of_run(alloc: Global, endpoint: Endpoint, body: &str) -> Result<Op, Fail> {
+    let dag = String::from_str(alloc, "b")?;
+    let parts = vec![in alloc; dag, String::from_str(alloc, RUN)?]?;
+    read(alloc, endpoint, parts.as_slice(), body)
+}
+
+fn read(alloc: Global, endpoint: Endpoint, parts: &[String], body: &str) -> Result<Op, Fail> {
+    match read_row(alloc, endpoint, parts, b"", body.as_bytes())? {
         Some(op) => Ok(op),
         None => Err(Fail::new("a part is no name")),
     }

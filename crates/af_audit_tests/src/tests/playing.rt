@@ -1,4 +1,4 @@
-use crate::tests::opening::{op, state};
+use crate::tests::opening::{op, op_of_run, state};
 use crate::tests::steps::{Row, Step, Told};
 use af_audit::{AuditFault, Ledger, ReportRefusal, replay};
 use af_graph::TaskState;
@@ -44,7 +44,7 @@ fn op_fault(fault: OpFault) -> Told {
         OpFault::BadBody => Told::BadBody,
         OpFault::RunExists(_) => Told::RunExists,
         OpFault::Exists => Told::Exists,
-        OpFault::NoSuchPool | OpFault::NoSuchVariable => Told::Absent,
+        OpFault::NoSuchRun | OpFault::NoSuchPool | OpFault::NoSuchVariable => Told::Absent,
         _ => Told::Other,
     }
 }
@@ -102,6 +102,9 @@ fn taken(
 ) -> Result<Told, Fail> {
     match step {
         Step::Ask(endpoint, body) => asked(alloc, ledger, &op(alloc, endpoint, body)?, at),
+        Step::AskOfRun(endpoint, body) => {
+            asked(alloc, ledger, &op_of_run(alloc, endpoint, body)?, at)
+        }
         Step::Tick => Ok(ticked(alloc, ledger, at)),
         Step::Claim => Ok(claimed(alloc, ledger, last, at)),
         Step::Report(outcome) => Ok(reported(alloc, ledger, last, outcome, at)),
@@ -166,7 +169,13 @@ fn is_same_run(one: &Run, other: &Run) -> bool {
         && one.run_id == other.run_id
         && one.state == other.state
         && one.end_date == other.end_date
-        && is_failed(one) == is_failed(other)
+        && have_same_instances(one, other)
+}
+
+fn have_same_instances(one: &Run, other: &Run) -> bool {
+    let others = other.instances.as_slice();
+    let mut instances = one.instances.as_slice().iter().zip(others);
+    one.instances.as_slice().len() == others.len() && instances.all(|pair| *pair.0 == *pair.1)
 }
 
 /// Whether a run failed, and each of its instances at the first try.

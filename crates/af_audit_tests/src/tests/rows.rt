@@ -45,6 +45,13 @@ const THREE: &[Row] = &[
     (PAUSE, JANUARY, Told::Done, 3),
 ];
 
+/// A pause of b, a tick that makes a run of the scheduled DAG, and a claim of that run's task.
+pub const MIXED: &[Row] = &[
+    (PAUSE, JANUARY, Told::Done, 1),
+    (Step::Tick, MARCH, Told::Done, 2),
+    (Step::Claim, MARCH, Told::Done, 3),
+];
+
 /// With room for two entries a claim finds none.
 const CLAIMED: &[Row] = &[
     (TRIGGER, JANUARY, Told::Done, 1),
@@ -110,6 +117,45 @@ pub const VARIABLES: &[Row] = &[
     (ADD_VARIABLE, JANUARY, Told::Done, 4),
 ];
 
+const CLEAR_RUN: Step = Step::AskOfRun(Endpoint::ClearRun, "{\"dry_run\":false}");
+
+const CLEAR: Step = Step::Ask(Endpoint::ClearInstances, "{\"dry_run\":false}");
+
+const FAIL_RUN: Step = Step::AskOfRun(Endpoint::MarkRun, "{\"state\":\"failed\"}");
+
+const DELETE_RUN: Step = Step::AskOfRun(Endpoint::DeleteRun, "");
+
+/// Changes of all kinds, with room for 19 entries: a paused DAG's run waits; b's run succeeds, the scheduled one fails; b's is cleared, goes
+/// again, is marked failed and deleted. What changes nothing is told in a full history too.
+const LONG: &[Row] = &[
+    (TRIGGER, JANUARY, Told::Done, 1),
+    (ADD_POOL, JANUARY, Told::Done, 2),
+    (ADD_VARIABLE, JANUARY, Told::Done, 3),
+    (PAUSE, JANUARY, Told::Done, 4),
+    (Step::Tick, JANUARY, Told::Nothing, 4),
+    (GO_ON, JANUARY, Told::Done, 5),
+    (Step::Tick, JANUARY, Told::Done, 6),
+    (Step::Claim, JANUARY, Told::Done, 7),
+    (Step::Report(Outcome::Success), JANUARY, Told::Done, 8),
+    (Step::Tick, JANUARY, Told::Done, 9),
+    (Step::Tick, MARCH, Told::Done, 10),
+    (Step::Claim, MARCH, Told::Done, 11),
+    (Step::Report(Outcome::Failed), MARCH, Told::Done, 12),
+    (Step::Tick, MARCH, Told::Done, 13),
+    (CLEAR_RUN, MARCH, Told::Done, 14),
+    (CLEAR_RUN, MARCH, Told::Done, 14),
+    (Step::Tick, MARCH, Told::Done, 15),
+    (FAIL_RUN, MARCH, Told::Done, 16),
+    (FAIL_RUN, MARCH, Told::Done, 16),
+    (DELETE_RUN, MARCH, Told::Done, 17),
+    (DELETE_RUN, MARCH, Told::Absent, 17),
+    (CHANGE_VARIABLE, MARCH, Told::Done, 18),
+    (DELETE_POOL, MARCH, Told::Done, 19),
+    (Step::Claim, MARCH, Told::Nothing, 19),
+    (CLEAR, MARCH, Told::Done, 19),
+    (DELETE_VARIABLE, MARCH, Told::Full, 19),
+];
+
 /// Rows on a ledger with room for so many entries.
 #[derive(Clone, Copy)]
 struct Story {
@@ -148,6 +194,11 @@ const STORIES: &[Story] = &[
         name: "a change of variables has one entry",
         limit: 4,
         rows: VARIABLES,
+    },
+    Story {
+        name: "changes of all kinds",
+        limit: 19,
+        rows: LONG,
     },
     Story {
         name: "a run fails",

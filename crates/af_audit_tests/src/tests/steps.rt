@@ -1,10 +1,11 @@
 use af_ops::Endpoint;
 use af_sched::Outcome;
 
-/// What is done: uma asks for something of DAG b with this body; a tick, a claim, a report of the last claim.
+/// What is done: uma asks for something of DAG b, or of its run, with this body; a tick, a claim, a report of the last claim.
 #[derive(Clone, Copy, Debug)]
 pub enum Step {
     Ask(Endpoint, &'static str),
+    AskOfRun(Endpoint, &'static str),
     Tick,
     Claim,
     Report(Outcome),
@@ -23,7 +24,7 @@ pub enum Told {
     RunExists,
     /// A pool or a variable of the name is there.
     Exists,
-    /// There is no such pool or variable.
+    /// There is no such run, pool or variable.
     Absent,
     /// Another fault.
     Other,

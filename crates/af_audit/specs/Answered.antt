@@ -1,0 +1,45 @@
+-- What a request comes to on a ledger: the verdict on it where the ledger stands, under the ledger's version and with its own limit
+-- of entries; and where that changes the state, one entry, which names the user behind the token.
+use Rattle.std.specs.Prelude.{ℕ, ◌≡◌, ◌⊎◌, List, length, Option, Some, None}
+use Rattle.af_policy.specs.Rows.{PolicyRows}
+use Rattle.af_sched.specs.State.{StateRows}
+use Rattle.af_ops.specs.Standings.{StandingRows}
+use Rattle.af_ops.specs.Verdicts.{Verdict, Open, Stranger, Lacks, Refuses, Tells, Changes, verdict}
+use Rattle.af_ops.specs.declared.op.Op.{Op}
+use Rattle.af_audit.specs.declared.act.Act.TheVariants.{Did}
+use Rattle.af_audit.specs.declared.actor.Actor.TheVariants.{User}
+use Rattle.af_audit.specs.Ledgers.{Enters, LedgerRows, entered}
+
+-- where operations are decided: the version, the number of entries, and the state
+abbrev pub standing_of : LedgerRows → StandingRows
+standing_of ledger = record {
+  under = record { version = ledger.version; seq = length ledger.audit.entries };
+  state = ledger.state;
+}
+
+-- the verdict on what is asked under a token, at a moment
+abbrev pub verdict_on : PolicyRows → LedgerRows → Option (List ℕ) → Op → ℕ → Verdict
+verdict_on policy ledger token asked t = verdict ledger.audit.limit policy (standing_of ledger) token asked t
+
+-- an operation of the user, if there is one, changed the state, and one entry says so
+abbrev pub EntersFor : Option (List ℕ) → Op → ℕ → LedgerRows → LedgerRows → Type 0
+EntersFor None asked t old new = ⊥
+EntersFor (Some user) asked t old new = Enters (User user) (Did asked) t old new
+
+-- or the ledger is as it was
+abbrev pub MayEnter : Option (List ℕ) → Op → ℕ → LedgerRows → LedgerRows → Type 0
+MayEnter who asked t old new = (new ≡ old) ⊎ EntersFor who asked t old new
+
+-- the ledger with an entry of the user's, if there is one
+abbrev pub entered_for : Option (List ℕ) → Op → ℕ → LedgerRows → StateRows → LedgerRows
+entered_for None asked t ledger next = ledger
+entered_for (Some user) asked t ledger next = entered ledger (User user) (Did asked) t next
+
+-- the ledger that a verdict leaves, on what a user asks, if there is one
+abbrev pub ledger_left : Option (List ℕ) → Op → ℕ → LedgerRows → Verdict → LedgerRows
+ledger_left who asked t ledger (Open reply) = ledger
+ledger_left who asked t ledger Stranger = ledger
+ledger_left who asked t ledger (Lacks need) = ledger
+ledger_left who asked t ledger (Refuses why) = ledger
+ledger_left who asked t ledger (Tells reply) = ledger
+ledger_left who asked t ledger (Changes reply next) = entered_for who asked t ledger next

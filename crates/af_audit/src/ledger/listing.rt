@@ -1,0 +1,80 @@
+ghost use Rattle.std.specs.Prelude.{◌≡◌, ◌≢◌};
+ghost use Rattle.std.specs.Option.{option_copied};
+ghost use Rattle.af_policy.specs.Views.{held};
+ghost use Rattle.af_ops.specs.declared.served.Served.TheVariants.{ReplyLost};
+ghost use Rattle.af_ops.specs.Served.{IsServed};
+ghost use Rattle.af_audit.specs.Answered.{standing_of};
+ghost use Rattle.af_audit.specs.EventLogs.{entries_granted, entries_verdict, nameless};
+
+use crate::event_logs::entries_text;
+use crate::ledger::Ledger;
+use af_listing::Window;
+use af_ops::{Body, CallFault, Op, OpFault, Served, refused, shown_reply};
+use af_policy::{Parameter, Policy, PolicyView};
+use af_role::{Action, Need, ResourceKind};
+use std::alloc::Global;
+
+/// What is required of who asks for event logs.
+const READ_LOGS: [Need; 1] = [Need {
+    action: Action::Read,
+    kind: ResourceKind::AuditLogs,
+    at_dag: false,
+}];
+
+impl Ledger {
+    /// Tells who holds the token a page of the event logs, under a policy: of the entries that name a DAG which the user reads, and
+    /// of those that name none. Nothing is changed. The faults are told in this order: nobody has the token, a permission is lacked,
+    /// a parameter is no number; want of memory comes last.
+    pub fn entries(
+        &self,
+        alloc: Global,
+        policy: &Policy,
+        token: Option<&[u8]>,
+        asked: &Result<Window, Parameter>,
+    ) -> Served
+        ensures served { IsServed nameless (entries_verdict policy.now self.now (option_copied token.entry) asked.now) (standing_of self.now) result (standing_of self.now) }
+        ensures kept { result ≢ ReplyLost }
+    {
+        match policy.bearer(token) {
+            Some(user) => {
+                let view = policy.view(user);
+                self.entries_for(alloc, &view, asked)
+            }
+            None => refused(alloc, &nameless(), CallFault::Unauthenticated, self.under()),
+        }
+    }
+
+    /// Tells a page of the event logs to a user whom a policy grants this.
+    fn entries_for(
+        &self,
+        alloc: Global,
+        view: &PolicyView<'_>,
+        asked: &Result<Window, Parameter>,
+    ) -> Served
+        ensures served { IsServed nameless (entries_granted (held view.now) self.now asked.now) (standing_of self.now) result (standing_of self.now) }
+        ensures kept { result ≢ ReplyLost }
+    {
+        let under = self.under();
+        if let Some(need) = view.missing(&READ_LOGS, None, self.state.dags()) {
+            return refused(alloc, &nameless(), CallFault::Denied(need), under);
+        }
+        let window = match asked {
+            Ok(window) => *window,
+            Err(parameter) => {
+                let fault = OpFault::BadParameter(*parameter);
+                return refused(alloc, &nameless(), CallFault::Op(fault), under);
+            }
+        };
+        match entries_text(alloc, self.audit.entries(), view, window) {
+            Ok(text) => Served::Shown(shown_reply(under, Some(Body::of(text)))),
+            Err(_) => Served::NothingDone,
+        }
+    }
+}
+
+/// An operation that names nothing.
+fn nameless() -> Op
+    ensures { result ≡ nameless }
+{
+    Op::Version
+}

@@ -1,0 +1,56 @@
+//! Who asks: each user's name is the token.
+use af_names::{DagId, RoleName, UserName};
+use af_policy::{Policy, PolicyDraft, User};
+use af_role::{Action, Pair, Permissions, Resource, ResourceKind, Role};
+use sha2::{Digest, Sha256};
+use std::alloc::Global;
+use std::test::Fail;
+
+/// Who there is, and each one's role.
+const USERS: [(&str, &str); 4] = [
+    ("adam", "Admin"),
+    ("bea", "LogsOfB"),
+    ("pat", "Public"),
+    ("uma", "User"),
+];
+
+/// Adds that what this names is read.
+fn add_reading(permissions: &mut Permissions, resource: Resource) -> Result<(), Fail> {
+    match Pair::new(Action::Read, resource) {
+        Some(pair) => Ok(permissions.add(pair)?),
+        None => Err(Fail::new("no resource to read")),
+    }
+}
+
+/// The role LogsOfB, which reads event logs, and of the DAGs b alone.
+fn logs_of_b(alloc: Global) -> Result<Role, Fail> {
+    let mut permissions = Permissions::new(alloc);
+    add_reading(&mut permissions, Resource::Kind(ResourceKind::AuditLogs))?;
+    add_reading(&mut permissions, Resource::Dag(DagId::parse(alloc, "b")?))?;
+    Ok(Role::new(RoleName::parse(alloc, "LogsOfB")?, permissions))
+}
+
+fn user(alloc: Global, name: &str, role: &str) -> Result<User, Fail> {
+    let roles = vec![in alloc; RoleName::parse(alloc, role)?]?;
+    let digest = Sha256::digest(name.as_bytes());
+    Ok(User::new(UserName::parse(alloc, name)?, digest, roles))
+}
+
+/// The policy of all users.
+pub fn policy(alloc: Global) -> Result<Policy, Fail> {
+    let mut draft = PolicyDraft::new(alloc)?;
+    draft.add_role(logs_of_b(alloc)?)?;
+    for (name, role) in USERS {
+        draft.add_user(alloc, user(alloc, name, role)?)?;
+    }
+    Ok(draft.finish(alloc)?)
+}
+
+/// The token of a user, or none for nobody.
+pub fn token(who: &str) -> Option<&[u8]> {
+    if who.is_empty() {
+        None
+    } else {
+        Some(who.as_bytes())
+    }
+}
