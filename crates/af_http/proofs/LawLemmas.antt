@@ -3,7 +3,7 @@ use Rattle.std.proofs.Common.{◌≡◌, ◌+◌, arith, length, take, drop, ◌
 use Rattle.std.specs.Prelude.{Result, Ok, Err}
 use Rattle.httparse.specs.Grammar.{RequestHead, ReadsRequest}
 use Rattle.httparse.proofs.GrammarLemmas.{request_unique}
-use Rattle.af_ops.specs.declared.op.Op.{Op}
+use Rattle.af_ops.specs.declared.call.Call.{Call}
 use Rattle.af_ops.specs.declared.served.Served.{Served}
 use Rattle.af_http.specs.Fronts.{nothing, part, large, whole, front_of}
 use Rattle.af_http.specs.Requests.{Asked, asked_by, body_length, is_head}
@@ -14,7 +14,7 @@ use Rattle.af_http.specs.Replies.{wants_memory}
 use Rattle.af_http.specs.Routes.{IsRouted}
 use Rattle.af_http.specs.declared.route_fault.RouteFault.{RouteFault}
 use Rattle.af_http.specs.declared.route_fault.RouteFault.TheVariants as fault
-use Rattle.af_ops.specs.Endpoints.{IsRead}
+use Rattle.af_ops.specs.Calls.{IsRead}
 use Rattle.af_ops.specs.declared.served.Served.TheVariants as served
 use Rattle.af_http.specs.Laws.{IsFunction, IsByText}
 use Rattle.af_http.specs.declared.reply.Reply.{Reply}
@@ -160,33 +160,33 @@ some_one : {o : Option Ended} {a b : Ended} → o ≡ Some a → o ≡ Some b �
 some_one {a = a} {b = b} p q = let e : Some a ≡ Some b = sym p ∙ q in cc
 
 -- a fault that is no want of memory is that of the definition
-fault_is : (r : Result Op RouteFault) (f : RouteFault) → wants_memory (reply.Fault f) ≡ false → IsRouted r (Err f) → r ≡ Err f
+fault_is : (r : Result Call RouteFault) (f : RouteFault) → wants_memory (reply.Fault f) ≡ false → IsRouted r (Err f) → r ≡ Err f
 fault_is r fault.NoPath fine it = it
 fault_is r (fault.BadMethod methods) fine it = it
 fault_is r fault.OutOfMemory fine it = cc
 
--- an operation that was read is that of the definition, or that without its body
-record Found (r : Result Op RouteFault) (op : Op) : Type 0 where
-  pub wanted : Op
+-- a call that was read is that of the definition, or that without its body
+record Found (r : Result Call RouteFault) (call : Call) : Type 0 where
+  pub wanted : Call
   pub is : r ≡ Ok wanted
-  pub read : IsRead (Some wanted) (Some op)
+  pub read : IsRead (Some wanted) (Some call)
 
-op_is : (r : Result Op RouteFault) (op : Op) → IsRouted r (Ok op) → Found r op
-op_is (Ok wanted) op it = record { wanted = wanted; is = refl; read = it }
-op_is (Err _) op it = elim it [ ]
+call_is : (r : Result Call RouteFault) (call : Call) → IsRouted r (Ok call) → Found r call
+call_is (Ok wanted) call it = record { wanted = wanted; is = refl; read = it }
+call_is (Err _) call it = elim it [ ]
 
-module _ {S : Type 0} (answers : S → Option (List ℕ) → Op → Served → S → Type 0) (one : IsFunction answers) where
+module _ {S : Type 0} (answers : S → Option (List ℕ) → Call → Served → S → Type 0) (one : IsFunction answers) where
   makes_one : (old : S) (a : Asked) (x y : Reply) (m k : S) → wants_memory x ≡ false → wants_memory y ≡ false → Makes answers old a x m → Makes answers old a y k → (x ≡ y) × (m ≡ k)
   makes_one old a (reply.Fault f) (reply.Fault g) m k wx wy x y =
       let same : f ≡ g = err_one (fault_is _ f wx x.0) (fault_is _ g wy y.0) in
       (ap reply.Fault same, x.1 ∙ sym y.1)
-  makes_one old a (reply.Fault f) (reply.Served s) m k wx wy x y = absurd (ok_err (op_is _ y.0 y.1).is (fault_is _ f wx x.0))
-  makes_one old a (reply.Served s) (reply.Fault g) m k wx wy x y = absurd (ok_err (op_is _ x.0 x.1).is (fault_is _ g wy y.0))
+  makes_one old a (reply.Fault f) (reply.Served s) m k wx wy x y = absurd (ok_err (call_is _ y.0 y.1).is (fault_is _ f wx x.0))
+  makes_one old a (reply.Served s) (reply.Fault g) m k wx wy x y = absurd (ok_err (call_is _ x.0 x.1).is (fault_is _ g wy y.0))
   makes_one old a (reply.Served (served.Shown s)) (reply.Served (served.Shown t)) m k wx wy x y =
-      let this = op_is _ x.0 x.1 in
-      let that = op_is _ y.0 y.1 in
+      let this = call_is _ x.0 x.1 in
+      let that = call_is _ y.0 y.1 in
       let same : this.wanted ≡ that.wanted = ok_one this.is that.is in
-      let P : Op → Type 0 = λ op. IsRead (Some op) (Some x.0) in
+      let P : Call → Type 0 = λ call. IsRead (Some call) (Some x.0) in
       let both = one old a.token that.wanted x.0 y.0 s t m k (subst P same this.read) that.read x.2 y.2 in
       (ap (λ t. reply.Served (served.Shown t)) both.0, both.1)
   makes_one old a (reply.Served (served.Shown s)) (reply.Served served.NothingDone) m k wx wy x y = cc

@@ -5,25 +5,20 @@ use Rattle.std.specs.Prelude.{◌||◌, IsUtf8, IfSome, if◌then◌else◌, is_
 use Rattle.std.specs.List.{list_any}
 use Rattle.std.specs.Result.{result_ok}
 use Rattle.std.specs.Str.{is_utf8}
-use Rattle.std.proofs.lemmas.Bool.{lt-ltb}
+use Rattle.std.proofs.lemmas.Bool.{lt-ltb, ltb-true}
 use Rattle.std.proofs.lemmas.Str.{IsUtf8-from_is_utf8, is_utf8-from_IsUtf8}
 use Rattle.percent_encoding.specs.Percent.{percent_decode}
 use Rattle.percent_encoding.proofs.PercentLemmas.{percent_decode-nil, percent_decode_not_percent}
-use Rattle.af_listing.specs.Windows.{window_of}
-use Rattle.af_names.specs.Names.{Grammar, id_grammar, is_spelled, is_tilde, named as name_in, row_name_grammar, run_id_grammar}
+use Rattle.af_names.specs.Names.{Grammar, account_name_grammar, id_grammar, is_spelled, is_tilde, named as name_in, row_name_grammar, run_id_grammar}
 use Rattle.af_names.specs.declared.name_error.NameError.TheVariants.{BadName, TooLong}
+use Rattle.af_ops.specs.declared.call.Call.{Call}
 use Rattle.af_ops.specs.declared.endpoint.Endpoint.{Endpoint}
 use Rattle.af_ops.specs.declared.method.Method.{Method}
 use Rattle.af_ops.specs.declared.method.Method.TheVariants.{Get, Post, Patch, Delete}
-use Rattle.af_ops.specs.declared.op.Op.{Op}
-use Rattle.af_ops.specs.declared.op.Op.TheVariants as op
 use Rattle.af_ops.specs.declared.place.Place.{Place}
 use Rattle.af_ops.specs.declared.place.Place.TheVariants as place
-use Rattle.af_ops.specs.declared.pool_op.PoolOp.TheVariants as pool
-use Rattle.af_ops.specs.declared.variable_op.VariableOp.TheVariants as variable
-use Rattle.af_ops.specs.Bodies.{clear_in, clear_run_in, mark_in, pause_in, trigger_in}
-use Rattle.af_ops.specs.Endpoints.{are_names, both, dag_id_in, is_all, is_get, op_of_row, row_name_in, run_id_in, task_id_in}
-use Rattle.af_ops.specs.RowBodies.{slots_in, value_in}
+use Rattle.af_ops.specs.Calls.{call_of_row}
+use Rattle.af_ops.specs.Endpoints.{account_name_in, are_names, both, dag_id_in, is_all, is_get, row_name_in, run_id_in, task_id_in}
 use Rattle.af_ops.specs.Methods.{method_of}
 use Rattle.af_ops.specs.Table.{Segment, Text, Part, endpoint_at, methods_at, segments_of}
 use Rattle.af_http.specs.Limits.{name_limit, part_limit}
@@ -141,6 +136,13 @@ few_segments place.Pools = omega arith
 few_segments place.Pool = omega arith
 few_segments place.Variables = omega arith
 few_segments place.Variable = omega arith
+few_segments place.Entries = omega arith
+few_segments place.Roles = omega arith
+few_segments place.Role = omega arith
+few_segments place.Users = omega arith
+few_segments place.User = omega arith
+few_segments place.Me = omega arith
+few_segments place.Sync = omega arith
 
 no_name : (grammar : Grammar) (text : List ℕ) → nat_lt grammar.longest (length text) ≡ true → result_ok (name_in grammar text) ≡ None
 no_name grammar text long = by (not (is_spelled grammar text) || grammar.reserved text)
@@ -218,6 +220,16 @@ no_row [] few long = cc
 no_row (t ∷ []) few long = ap (λ (o : Option (List ℕ)). is_some o) (no_name row_name_grammar t (either_false (is_long t) long))
 no_row (t ∷ u ∷ ts) few long = absurd (omega (arith, few))
 
+-- a role or a user alone, whose names are shorter
+too_long : (text : List ℕ) → is_long text ≡ true → nat_lt account_name_grammar.longest (length text) ≡ true
+too_long text long = let over = ltb-true name_limit (length text) long in lt-ltb account_name_grammar.longest (length text) (omega (arith, over))
+
+no_account : (texts : List (List ℕ)) → length texts ≤ 1 → list_any is_long texts ≡ true → is_some (account_name_in texts) ≡ false
+no_account [] few long = cc
+no_account (t ∷ []) few long =
+    ap (λ (o : Option (List ℕ)). is_some o) (no_name account_name_grammar t (too_long t (either_false (is_long t) long)))
+no_account (t ∷ u ∷ ts) few long = absurd (omega (arith, few))
+
 no_part : (texts : List (List ℕ)) → length texts ≤ 0 → list_any is_long texts ≡ true → ⊥
 no_part [] few long = cc
 no_part (t ∷ ts) few long = omega (arith, few)
@@ -243,6 +255,13 @@ no_names method place.Pools texts few long = absurd (no_part texts few long)
 no_names method place.Pool texts few long = no_row texts few long
 no_names method place.Variables texts few long = absurd (no_part texts few long)
 no_names method place.Variable texts few long = no_row texts few long
+no_names method place.Entries texts few long = absurd (no_part texts few long)
+no_names method place.Roles texts few long = absurd (no_part texts few long)
+no_names method place.Role texts few long = no_account texts few long
+no_names method place.Users texts few long = absurd (no_part texts few long)
+no_names method place.User texts few long = no_account texts few long
+no_names method place.Me texts few long = absurd (no_part texts few long)
+no_names method place.Sync texts few long = no_one texts few long
 
 -- so there is no such path
 pub unfit_path : (method query body : List ℕ) (p : Place) (path : List ℕ) → IsUnfit (parts_in (segments_of p) path) → with_parts method query body p (parts_in (segments_of p) path) ≡ Err fault.NoPath
@@ -281,7 +300,7 @@ some_if f (Some x) false y = refl
 
 abbrev Agrees : Method → Place → List (List ℕ) → List ℕ → List ℕ → Option Endpoint → Type 0
 Agrees method p parts query body None = ⊤
-Agrees method p parts query body (Some endpoint) = are_names (Some method) p parts ≡ is_some (op_of_row endpoint parts query body)
+Agrees method p parts query body (Some endpoint) = are_names (Some method) p parts ≡ is_some (call_of_row endpoint parts query body)
 
 agrees : (method : Method) (p : Place) (parts : List (List ℕ)) (query body : List ℕ) → Agrees method p parts query body (endpoint_at method p)
 agrees Get place.Version parts query body = refl
@@ -292,56 +311,84 @@ agrees Get place.Dags parts query body = refl
 agrees Post place.Dags parts query body = tt
 agrees Patch place.Dags parts query body = tt
 agrees Delete place.Dags parts query body = tt
-agrees Get place.Dag parts query body = some_map (λ dag_id. op.GetDag dag_id) (dag_id_in parts)
+agrees Get place.Dag parts query body = some_map _ (dag_id_in parts)
 agrees Post place.Dag parts query body = tt
-agrees Patch place.Dag parts query body = some_map (λ dag_id. op.PauseDag dag_id (pause_in body)) (dag_id_in parts)
+agrees Patch place.Dag parts query body = some_map _ (dag_id_in parts)
 agrees Delete place.Dag parts query body = tt
-agrees Get place.Tasks parts query body = some_map (λ dag_id. op.ListTasks dag_id) (dag_id_in parts)
+agrees Get place.Tasks parts query body = some_map _ (dag_id_in parts)
 agrees Post place.Tasks parts query body = tt
 agrees Patch place.Tasks parts query body = tt
 agrees Delete place.Tasks parts query body = tt
-agrees Get place.Runs parts query body = some_if (λ dag_id. op.ListRuns (Some dag_id) (window_of query)) (dag_id_in parts) (is_all parts) (op.ListRuns None (window_of query))
-agrees Post place.Runs parts query body = some_or_false (λ dag_id. op.TriggerRun dag_id (trigger_in body)) (dag_id_in parts)
+agrees Get place.Runs parts query body = some_if _ (dag_id_in parts) (is_all parts) _
+agrees Post place.Runs parts query body = some_or_false _ (dag_id_in parts)
 agrees Patch place.Runs parts query body = tt
 agrees Delete place.Runs parts query body = tt
-agrees Get place.Run parts query body = some_both (λ ids. op.GetRun ids.0 ids.1) (dag_id_in parts) (run_id_in parts)
+agrees Get place.Run parts query body = some_both _ (dag_id_in parts) (run_id_in parts)
 agrees Post place.Run parts query body = tt
-agrees Patch place.Run parts query body = some_both (λ ids. op.MarkRun ids.0 ids.1 (mark_in body)) (dag_id_in parts) (run_id_in parts)
-agrees Delete place.Run parts query body = some_both (λ ids. op.DeleteRun ids.0 ids.1) (dag_id_in parts) (run_id_in parts)
+agrees Patch place.Run parts query body = some_both _ (dag_id_in parts) (run_id_in parts)
+agrees Delete place.Run parts query body = some_both _ (dag_id_in parts) (run_id_in parts)
 agrees Get place.RunClear parts query body = tt
-agrees Post place.RunClear parts query body = some_both (λ ids. op.ClearRun ids.0 ids.1 (clear_run_in body)) (dag_id_in parts) (run_id_in parts)
+agrees Post place.RunClear parts query body = some_both _ (dag_id_in parts) (run_id_in parts)
 agrees Patch place.RunClear parts query body = tt
 agrees Delete place.RunClear parts query body = tt
-agrees Get place.Instances parts query body = some_both (λ ids. op.ListInstances ids.0 ids.1 (window_of query)) (dag_id_in parts) (run_id_in parts)
+agrees Get place.Instances parts query body = some_both _ (dag_id_in parts) (run_id_in parts)
 agrees Post place.Instances parts query body = tt
 agrees Patch place.Instances parts query body = tt
 agrees Delete place.Instances parts query body = tt
-agrees Get place.Instance parts query body = some_three (λ ids. op.GetInstance ids.0.0 ids.0.1 ids.1) (dag_id_in parts) (run_id_in parts) (task_id_in parts)
+agrees Get place.Instance parts query body = some_three _ (dag_id_in parts) (run_id_in parts) (task_id_in parts)
 agrees Post place.Instance parts query body = tt
 agrees Patch place.Instance parts query body = tt
 agrees Delete place.Instance parts query body = tt
 agrees Get place.Clear parts query body = tt
-agrees Post place.Clear parts query body = some_map (λ dag_id. op.ClearInstances dag_id (clear_in body)) (dag_id_in parts)
+agrees Post place.Clear parts query body = some_map _ (dag_id_in parts)
 agrees Patch place.Clear parts query body = tt
 agrees Delete place.Clear parts query body = tt
 agrees Get place.Pools parts query body = refl
 agrees Post place.Pools parts query body = refl
 agrees Patch place.Pools parts query body = tt
 agrees Delete place.Pools parts query body = tt
-agrees Get place.Pool parts query body = some_map (λ name. op.Pool (pool.Get name)) (row_name_in parts)
+agrees Get place.Pool parts query body = some_map _ (row_name_in parts)
 agrees Post place.Pool parts query body = tt
-agrees Patch place.Pool parts query body = some_map (λ name. op.Pool (pool.Change name (slots_in body))) (row_name_in parts)
-agrees Delete place.Pool parts query body = some_map (λ name. op.Pool (pool.Delete name)) (row_name_in parts)
+agrees Patch place.Pool parts query body = some_map _ (row_name_in parts)
+agrees Delete place.Pool parts query body = some_map _ (row_name_in parts)
 agrees Get place.Variables parts query body = refl
 agrees Post place.Variables parts query body = refl
 agrees Patch place.Variables parts query body = tt
 agrees Delete place.Variables parts query body = tt
-agrees Get place.Variable parts query body = some_map (λ key. op.Variable (variable.Get key)) (row_name_in parts)
+agrees Get place.Variable parts query body = some_map _ (row_name_in parts)
 agrees Post place.Variable parts query body = tt
-agrees Patch place.Variable parts query body = some_map (λ key. op.Variable (variable.Change key (value_in body))) (row_name_in parts)
-agrees Delete place.Variable parts query body = some_map (λ key. op.Variable (variable.Delete key)) (row_name_in parts)
+agrees Patch place.Variable parts query body = some_map _ (row_name_in parts)
+agrees Delete place.Variable parts query body = some_map _ (row_name_in parts)
+agrees Get place.Entries parts query body = refl
+agrees Post place.Entries parts query body = tt
+agrees Patch place.Entries parts query body = tt
+agrees Delete place.Entries parts query body = tt
+agrees Get place.Roles parts query body = refl
+agrees Post place.Roles parts query body = refl
+agrees Patch place.Roles parts query body = tt
+agrees Delete place.Roles parts query body = tt
+agrees Get place.Role parts query body = some_map _ (account_name_in parts)
+agrees Post place.Role parts query body = tt
+agrees Patch place.Role parts query body = some_map _ (account_name_in parts)
+agrees Delete place.Role parts query body = some_map _ (account_name_in parts)
+agrees Get place.Users parts query body = refl
+agrees Post place.Users parts query body = refl
+agrees Patch place.Users parts query body = tt
+agrees Delete place.Users parts query body = tt
+agrees Get place.User parts query body = some_map _ (account_name_in parts)
+agrees Post place.User parts query body = tt
+agrees Patch place.User parts query body = some_map _ (account_name_in parts)
+agrees Delete place.User parts query body = some_map _ (account_name_in parts)
+agrees Get place.Me parts query body = refl
+agrees Post place.Me parts query body = tt
+agrees Patch place.Me parts query body = tt
+agrees Delete place.Me parts query body = tt
+agrees Get place.Sync parts query body = tt
+agrees Post place.Sync parts query body = some_map _ (dag_id_in parts)
+agrees Patch place.Sync parts query body = tt
+agrees Delete place.Sync parts query body = tt
 
-reads_if_named : (o : Option Op) (b : Bool) → b ≡ is_some o → (if b then ok_or o fault.NoPath else Err fault.NoPath) ≡ ok_or o fault.NoPath
+reads_if_named : (o : Option Call) (b : Bool) → b ≡ is_some o → (if b then ok_or o fault.NoPath else Err fault.NoPath) ≡ ok_or o fault.NoPath
 reads_if_named None true is = refl
 reads_if_named None false is = refl
 reads_if_named (Some x) true is = refl
@@ -357,7 +404,7 @@ named_read method query body p parts endpoint is = by (method_of method) is
     by (Some m) is =
         let P : Option Endpoint → Type 0 = λ o. Agrees m p parts query body o in
         ap (λ (o : Option Endpoint). if are_names (Some m) p parts then by_endpoint p parts query body o else Err fault.NoPath) is
-        ∙ reads_if_named (op_of_row endpoint parts query body) (are_names (Some m) p parts) (subst P is (agrees m p parts query body))
+        ∙ reads_if_named (call_of_row endpoint parts query body) (are_names (Some m) p parts) (subst P is (agrees m p parts query body))
 
 -- and where it has not, the parts alone decide
 pub named_fault : (method query body : List ℕ) (p : Place) (parts : List (List ℕ)) (b : Bool) → endpoint_of method p ≡ None → are_names (method_of method) p parts ≡ b

@@ -96,6 +96,13 @@ ranked place.Pools = refl
 ranked place.Pool = refl
 ranked place.Variables = refl
 ranked place.Variable = refl
+ranked place.Entries = refl
+ranked place.Roles = refl
+ranked place.Role = refl
+ranked place.Users = refl
+ranked place.User = refl
+ranked place.Me = refl
+ranked place.Sync = refl
 
 -- the place is in the list, and those before it are apart from it
 abbrev is_first : List Place → Place → Bool
@@ -117,6 +124,13 @@ first_place place.Pools = refl
 first_place place.Pool = refl
 first_place place.Variables = refl
 first_place place.Variable = refl
+first_place place.Entries = refl
+first_place place.Roles = refl
+first_place place.Role = refl
+first_place place.Users = refl
+first_place place.User = refl
+first_place place.Me = refl
+first_place place.Sync = refl
 
 abbrev Finds : List Place → List ℕ → Place → Type 0
 Finds ps path p = find (λ q. has_form (segments_of q) path) ps ≡ Some p

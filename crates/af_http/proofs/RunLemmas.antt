@@ -2,7 +2,7 @@
 use Rattle.std.proofs.Common.{◌≡◌, ◌<◌, ◌≤◌, ◌+◌, ◌*◌, ◌||◌, ◌⊎◌, inl, inr, ℕ, Bool, true, false, List, [], ◌∷◌, ◌++◌, length, refl, sym, ap, ◌∙◌, subst, Option, Some, None, arith}
 use Rattle.std.proofs.lemmas.List.{append-nil, append_assoc, length_push, append_cancel_left}
 use Rattle.std.proofs.lemmas.Bool.{eq-eqb, cases_eq}
-use Rattle.af_ops.specs.declared.op.Op.{Op}
+use Rattle.af_ops.specs.declared.call.Call.{Call}
 use Rattle.af_ops.specs.declared.served.Served.{Served}
 use Rattle.af_http.specs.Limits.{read_limit}
 use Rattle.af_http.specs.Streams.{Given, Taken, Waiting, Took, Grew}
@@ -201,7 +201,7 @@ stand_here xs x before more held left was b =
     let P : List ℕ → Type 0 = λ t. Stand t (asked_in (xs ++ x ∷ [])) (left ++ []) in
     subst P (append-nil (before ++ more)) (stand_more xs x before more held left [] (was (more ++ [])) (b []))
 
-module _ {S : Type 0} (answers : S → Option (List ℕ) → Op → Served → S → Type 0) where
+module _ {S : Type 0} (answers : S → Option (List ℕ) → Call → Served → S → Type 0) where
   answered_push : (old : S) (xs : List Exchange) (mid : S) (x : Exchange) (new : S) → Answered answers old xs mid → Makes answers mid x.asked x.reply new
       → Answered answers old (xs ++ x ∷ []) new
   answered_push old [] mid x new e m = let P : S → Type 0 = λ s. Makes answers s x.asked x.reply new in (new, subst P e m, refl)

@@ -4,7 +4,7 @@ use Rattle.std.specs.Prelude.{IfSome, Result, Ok}
 use Rattle.std.proofs.lemmas.List.{append-nil, append_assoc, length-append, length-drop, take-append-le, drop-append-le, drop-drop}
 use Rattle.httparse.specs.Grammar.{RequestHead, ReadsRequest}
 use Rattle.httparse.proofs.GrammarLemmas.{request_unique}
-use Rattle.af_ops.specs.declared.op.Op.{Op}
+use Rattle.af_ops.specs.declared.call.Call.{Call}
 use Rattle.af_ops.specs.declared.served.Served.{Served}
 use Rattle.af_http.specs.Limits.{read_limit}
 use Rattle.af_http.specs.Streams.{Given, Waiting, Took, one_if}
@@ -349,7 +349,7 @@ body_awaits used before after held held2 more n length_is count head_only f foun
       needed = inr (inr (inr (head_only, cut_same (held ++ []) held head_only (ap front_of (sym (append-nil held))) here)));
     }
 
-module _ {S : Type 0} (answers : S → Option (List ℕ) → Op → Served → S → Type 0) where
+module _ {S : Type 0} (answers : S → Option (List ℕ) → Call → Served → S → Type 0) where
   -- a message is held, with its body
   pub message_turn : (used count : ℕ) (old : S) (before after : Given) (held more held2 : List ℕ) (p q r : Place) (new : S) (n total : ℕ) (o : Option Ended)
       → IsGathered held (gathered.Head n) → held2 ≡ held ++ more → Awaits used 0 0 before after held more → Puts 0 p q [] → q.waiting.failed ≡ false

@@ -1,7 +1,7 @@
 -- A connection, from one moment of its reader, its writer and its service to another.
 use Rattle.std.specs.Prelude.{◌≡◌, ◌+◌, ◌*◌, ◌≤◌, ℕ, Bool, List, ◌++◌, Option}
 use Rattle.std.specs.Io.KnownBytes.{Appends}
-use Rattle.af_ops.specs.declared.op.Op.{Op}
+use Rattle.af_ops.specs.declared.call.Call.{Call}
 use Rattle.af_ops.specs.declared.served.Served.{Served}
 use Rattle.af_http.specs.Limits.{read_limit, request_limit}
 use Rattle.af_http.specs.Streams.{Given, Taken}
@@ -9,7 +9,7 @@ use Rattle.af_http.specs.Run.{Run, write_faults}
 use Rattle.af_http.specs.Reads.{Reads}
 use Rattle.af_http.specs.declared.ended.Ended.{Ended}
 
-module _ {S : Type 0} (answers : S → Option (List ℕ) → Op → Served → S → Type 0) where
+module _ {S : Type 0} (answers : S → Option (List ℕ) → Call → Served → S → Type 0) where
   -- The bytes that were read in it, those that were written, and how it ended, are those of a run. Each request of it was
   -- awaited in at most 65,536 reads, as was its end, and there are at most as many for each of 1,000 requests. A fault of
   -- the reader or the writer is told where one call of it failed, and there alone.

@@ -1,10 +1,10 @@
 -- What the definitions come to: a text has one reading.
 use Rattle.std.specs.Prelude.{◌≡◌, ℕ, Bool, List, Option, Some}
-use Rattle.af_ops.specs.declared.op.Op.{Op}
+use Rattle.af_ops.specs.declared.call.Call.{Call}
 use Rattle.af_ops.specs.declared.served.Served.{Served}
 use Rattle.af_ops.specs.declared.served.Served.TheVariants as served
 use Rattle.af_ops.specs.declared.shown_answer.Shown.{Shown}
-use Rattle.af_ops.specs.Endpoints.{IsRead}
+use Rattle.af_ops.specs.Calls.{IsRead}
 use Rattle.af_http.specs.Streams.{Taken}
 use Rattle.af_http.specs.Requests.{Asked}
 use Rattle.af_http.specs.Reading.{Begins}
@@ -27,13 +27,13 @@ IsByText end.ReadFault = ⊥
 IsByText end.WriteFault = ⊥
 IsByText end.Turns = ⊥
 
-module _ {S : Type 0} (answers : S → Option (List ℕ) → Op → Served → S → Type 0) where
-  -- the service answers in one way, where it has the memory to, also where there was none to read the body of an operation
+module _ {S : Type 0} (answers : S → Option (List ℕ) → Call → Served → S → Type 0) where
+  -- the service answers in one way, where it has the memory to, also where there was none to read the body of a request
   abbrev pub IsFunction : Type 0
   IsFunction =
-      (old : S) (token : Option (List ℕ)) (wanted op other : Op) (x y : Shown) (a b : S)
-      → IsRead (Some wanted) (Some op) → IsRead (Some wanted) (Some other)
-      → answers old token op (served.Shown x) a → answers old token other (served.Shown y) b → (x ≡ y) × (a ≡ b)
+      (old : S) (token : Option (List ℕ)) (wanted call other : Call) (x y : Shown) (a b : S)
+      → IsRead (Some wanted) (Some call) → IsRead (Some wanted) (Some other)
+      → answers old token call (served.Shown x) a → answers old token other (served.Shown y) b → (x ≡ y) × (a ≡ b)
 
   -- Then the end of a run, what it writes, and how it leaves the service, are determined by the text, by whether the input
   -- ended behind it, and by the service at its start, where no memory was wanted.

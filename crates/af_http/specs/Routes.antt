@@ -1,13 +1,14 @@
--- Which operation a request names (Airflow 2, "Stable REST API"): its path is one of the table's, its parts are names of their
+-- What a request asks for (Airflow 2, "Stable REST API"): its path is one of the table's, its parts are names of their
 -- kinds, and its method is one that the path has.
 use Rattle.std.specs.Prelude.{ℕ, ◌≡◌, ◌==◌, ◌&&◌, Bool, true, false, not, List, [], ◌∷◌, Option, Some, None, option_map, option_and_then, ok_or, Result, Ok, Err, cond, drop, if◌then◌else◌, bytes_eq, IsOk}
 use Rattle.std.specs.List.{find}
 use Rattle.std.specs.Str.{is_utf8}
 use Rattle.percent_encoding.specs.Percent.{percent_decode}
+use Rattle.af_ops.specs.declared.call.Call.{Call}
 use Rattle.af_ops.specs.declared.endpoint.Endpoint.{Endpoint}
-use Rattle.af_ops.specs.declared.op.Op.{Op}
 use Rattle.af_ops.specs.declared.place.Place.{Place}
-use Rattle.af_ops.specs.Endpoints.{IsRead, are_names, op_of_row}
+use Rattle.af_ops.specs.Calls.{IsRead, call_of_row}
+use Rattle.af_ops.specs.Endpoints.{are_names}
 use Rattle.af_ops.specs.Methods.{method_of}
 use Rattle.af_ops.specs.Table.{Segment, Text, Part, segments_of, places, endpoint_at, methods_at}
 use Rattle.af_http.specs.declared.route_fault.RouteFault.{RouteFault}
@@ -76,41 +77,41 @@ abbrev pub endpoint_of : List ℕ → Place → Option Endpoint
 endpoint_of method place = option_and_then (λ it. endpoint_at it place) (method_of method)
 
 -- what an operation reads
-abbrev pub read : Endpoint → List (List ℕ) → List ℕ → List ℕ → Result Op RouteFault
-read endpoint parts query body = ok_or (op_of_row endpoint parts query body) NoPath
+abbrev pub read : Endpoint → List (List ℕ) → List ℕ → List ℕ → Result Call RouteFault
+read endpoint parts query body = ok_or (call_of_row endpoint parts query body) NoPath
 
 -- at a path: what the operation of the method reads, if the path has that method
-abbrev pub by_endpoint : Place → List (List ℕ) → List ℕ → List ℕ → Option Endpoint → Result Op RouteFault
+abbrev pub by_endpoint : Place → List (List ℕ) → List ℕ → List ℕ → Option Endpoint → Result Call RouteFault
 by_endpoint place parts query body None = Err (BadMethod (methods_at place))
 by_endpoint place parts query body (Some endpoint) = read endpoint parts query body
 
-abbrev pub by_method : List ℕ → Place → List (List ℕ) → List ℕ → List ℕ → Result Op RouteFault
+abbrev pub by_method : List ℕ → Place → List (List ℕ) → List ℕ → List ℕ → Result Call RouteFault
 by_method method place parts query body = by_endpoint place parts query body (endpoint_of method place)
 
-abbrev pub named : List ℕ → List ℕ → List ℕ → Place → List (List ℕ) → Result Op RouteFault
+abbrev pub named : List ℕ → List ℕ → List ℕ → Place → List (List ℕ) → Result Call RouteFault
 named method query body place parts = if are_names (method_of method) place parts then by_method method place parts query body else Err NoPath
 
-abbrev pub with_parts : List ℕ → List ℕ → List ℕ → Place → Option (List (List ℕ)) → Result Op RouteFault
+abbrev pub with_parts : List ℕ → List ℕ → List ℕ → Place → Option (List (List ℕ)) → Result Call RouteFault
 with_parts method query body place None = Err NoPath
 with_parts method query body place (Some parts) = named method query body place parts
 
-abbrev pub at_place : List ℕ → List ℕ → List ℕ → List ℕ → Option Place → Result Op RouteFault
+abbrev pub at_place : List ℕ → List ℕ → List ℕ → List ℕ → Option Place → Result Call RouteFault
 at_place method path query body None = Err NoPath
 at_place method path query body (Some place) = with_parts method query body place (parts_in (segments_of place) path)
 
--- The operation that a method, a target and a body name, or why they name none: no such path, also where a part is no text or
--- no name of its kind; then no such method.
-abbrev pub op_of : List ℕ → List ℕ → List ℕ → Result Op RouteFault
-op_of method target body = at_place method (path_of target) (query_of target) body (place_of (path_of target))
+-- What a method, a target and a body ask for, or why they ask for nothing: no such path, also where a part is no text or no name
+-- of its kind; then no such method.
+abbrev pub call_of : List ℕ → List ℕ → List ℕ → Result Call RouteFault
+call_of method target body = at_place method (path_of target) (query_of target) body (place_of (path_of target))
 
-abbrev pub IsAsked : Result Op RouteFault → Op → Type 0
-IsAsked (Ok wanted) op = IsRead (Some wanted) (Some op)
-IsAsked (Err fault) op = ⊥
+abbrev pub IsAsked : Result Call RouteFault → Call → Type 0
+IsAsked (Ok wanted) call = IsRead (Some wanted) (Some call)
+IsAsked (Err fault) call = ⊥
 
--- This was read. There was no memory to read it with only where it is an operation, whose body may be unread for that too: that
--- there is no such path or no such method is told, memory or not.
-abbrev pub IsRouted : Result Op RouteFault → Result Op RouteFault → Type 0
-IsRouted expected (Ok op) = IsAsked expected op
+-- This was read. There was no memory to read it with only where something is asked for, whose body may be unread for that too:
+-- that there is no such path or no such method is told, memory or not.
+abbrev pub IsRouted : Result Call RouteFault → Result Call RouteFault → Type 0
+IsRouted expected (Ok call) = IsAsked expected call
 IsRouted expected (Err NoPath) = expected ≡ Err NoPath
 IsRouted expected (Err (BadMethod methods)) = expected ≡ Err (BadMethod methods)
 IsRouted expected (Err OutOfMemory) = IsOk expected

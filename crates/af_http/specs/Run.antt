@@ -1,9 +1,9 @@
 -- A connection from its first byte to its last: what is made of the requests that stand in its text, and what is written.
 use Rattle.std.specs.Prelude.{◌≡◌, ◌+◌, ◌<◌, ◌≤◌, ◌⊎◌, ℕ, Bool, true, false, List, [], ◌∷◌, ◌++◌, length, map, Option, Some, None, Ok, Err, cond}
-use Rattle.af_ops.specs.declared.op.Op.{Op}
+use Rattle.af_ops.specs.declared.call.Call.{Call}
 use Rattle.af_ops.specs.declared.served.Served.{Served}
 use Rattle.af_http.specs.Requests.{Asked, is_head}
-use Rattle.af_http.specs.Routes.{IsRouted, op_of}
+use Rattle.af_http.specs.Routes.{IsRouted, call_of}
 use Rattle.af_http.specs.Answers.{memory_text}
 use Rattle.af_http.specs.Replies.{reply_text, wants_memory}
 use Rattle.af_http.specs.Reading.{Stand, IsRefused, IsEmpty, IsOpen, at_end, closes_after, status_of, refusal_text}
@@ -120,12 +120,12 @@ IsMemoryText old new end.ReadFault = ⊥
 IsMemoryText old new end.Turns = ⊥
 IsMemoryText old new (end.Refused status) = ⊥
 
-module _ {S : Type 0} (answers : S → Option (List ℕ) → Op → Served → S → Type 0) where
+module _ {S : Type 0} (answers : S → Option (List ℕ) → Call → Served → S → Type 0) where
   -- what is made of a request: the fault of its route, with the service as it was, or the service's answer
   abbrev pub Makes : S → Asked → Reply → S → Type 0
-  Makes old asked (reply.Fault fault) new = IsRouted (op_of asked.method asked.target asked.body) (Err fault) × (new ≡ old)
+  Makes old asked (reply.Fault fault) new = IsRouted (call_of asked.method asked.target asked.body) (Err fault) × (new ≡ old)
   Makes old asked (reply.Served served) new =
-      (op : Op) × IsRouted (op_of asked.method asked.target asked.body) (Ok op) × answers old asked.token op served new
+      (call : Call) × IsRouted (call_of asked.method asked.target asked.body) (Ok call) × answers old asked.token call served new
 
   -- these replies are made of these requests, in order
   abbrev pub Answered : S → List Exchange → S → Type 0

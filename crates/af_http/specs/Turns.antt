@@ -1,7 +1,7 @@
 -- What the parts of a turn do, over the bytes that they are given.
 use Rattle.std.specs.Prelude.{◌≡◌, ◌+◌, ◌*◌, ◌≤◌, ◌<◌, ◌⊎◌, ℕ, Bool, true, false, cond, List, [], ◌++◌, length, take, drop, Option, Some, None, Ok}
 use Rattle.httparse.specs.Grammar.{RequestHead}
-use Rattle.af_ops.specs.declared.op.Op.{Op}
+use Rattle.af_ops.specs.declared.call.Call.{Call}
 use Rattle.af_ops.specs.declared.served.Served.{Served}
 use Rattle.af_http.specs.Limits.{read_limit, request_limit}
 use Rattle.af_http.specs.Streams.{Given, Waiting, Grew, one_if}
@@ -74,7 +74,7 @@ WentAll true p q exchanges closing e =
     (left : List ℕ) × Broke q.sink (all_put p ++ (exchanges_text 0 exchanges ++ closing)) left × IsLeft exchanges closing left
     × (q.sink.failures ≡ p.sink.failures + 1) × (e ≡ end.WriteFault)
 
-module _ {S : Type 0} (answers : S → Option (List ℕ) → Op → Served → S → Type 0) where
+module _ {S : Type 0} (answers : S → Option (List ℕ) → Call → Served → S → Type 0) where
   -- a request, which so many went before, is answered so
   pub record Answers (count : ℕ) (old : S) (asked : Asked) (p q : Place) (new : S) (outcome : Option Ended) : Type 0 where
     pub exchange : Exchange

@@ -21,10 +21,21 @@ impl Connection {
     pub fn open(alloc: Global) -> Result<Connection, AllocError>
         ensures { IfOk result (λ c. (c.incoming ≡ []) × (c.outgoing.bytes ≡ []) × (c.outgoing.failed ≡ false)) }
     {
+        let routes = Routes::new(alloc)?;
+        let (incoming, outgoing) = buffers(alloc)?;
         Ok(Connection {
-            routes: Routes::new(alloc)?,
-            incoming: Incoming::new(alloc)?,
-            outgoing: Outgoing::new(alloc)?,
+            routes,
+            incoming,
+            outgoing,
         })
     }
+}
+
+/// Room for what comes, and for what waits for the writer.
+fn buffers(alloc: Global) -> Result<(Incoming, Outgoing), AllocError>
+    ensures { IfOk result (λ both. (both.0 ≡ []) × (both.1.bytes ≡ []) × (both.1.failed ≡ false)) }
+{
+    let incoming = Incoming::new(alloc)?;
+    let outgoing = Outgoing::new(alloc)?;
+    Ok((incoming, outgoing))
 }

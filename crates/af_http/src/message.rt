@@ -1,4 +1,5 @@
 ghost use Rattle.std.specs.Prelude.{◌≡◌, ◌+◌, ◌<◌, ◌≤◌, ℕ, List, length, Some, false};
+ghost use Rattle.std.specs.Option.{option_copied};
 ghost use Rattle.af_http.specs.Limits.{outgoing_room, request_limit};
 ghost use Rattle.af_http.specs.Requests.{seen};
 ghost use Rattle.af_http.specs.Reading.{closes_after, refusal_text, status_of};
@@ -18,12 +19,22 @@ use crate::request::Request;
 use crate::routes::Routes;
 use crate::service::Service;
 use crate::stream::Sink;
+use af_ops::{Call, Served};
 
 /// The most requests of a connection.
 pub const REQUEST_LIMIT: u32 = 1000;
 
-/// What is made of a request. No other function calls the service, and none is asked once a write has failed, since its
-/// answer would not leave: a change would be made unseen.
+/// The service's answer to a call. No other function calls the service.
+fn answered<S: Service>(service: &mut S, token: Option<&[u8]>, call: Call) -> Served
+    ensures { S.answers service.old (option_copied token.entry) call result service.new }
+{
+    let served = service.answer(token, &call);
+    drop(call);
+    served
+}
+
+/// What is made of a request. No other function has a call answered, and none is once a write has failed, since its answer would
+/// not leave: a change would be made unseen.
 fn make<S: Service>(
     routes: &mut Routes,
     service: &mut S,
@@ -34,8 +45,8 @@ fn make<S: Service>(
     requires sound { _outgoing.now.failed ≡ false }
     ensures { Makes S.answers service.old (seen request.now body.now) result service.new }
 {
-    match routes.read_op(request.method, request.target, body) {
-        Ok(op) => Reply::Served(service.answer(request.token, &op)),
+    match routes.read_call(request.method, request.target, body) {
+        Ok(call) => Reply::Served(answered(service, request.token, call)),
         Err(fault) => Reply::Fault(fault),
     }
 }

@@ -1,5 +1,6 @@
 // The texts of a path's parts.
 ghost use Rattle.std.specs.Prelude.{◌≡◌, ◌<◌, ◌≤◌, ◌++◌, ◌∷◌, [], List, ℕ, IfOk, Some, false, length, map, string_bytes, true, vec_capacity, string_capacity};
+ghost use Rattle.std.specs.List.{All};
 ghost use Rattle.percent_encoding.specs.Percent.{percent_decode};
 ghost use Rattle.af_http.specs.Limits.{name_limit, part_limit};
 ghost use Rattle.af_http.specs.Parts.{IsUnfitPart};
@@ -46,15 +47,12 @@ impl Parts {
     pub fn new(alloc: Global) -> Result<Parts, AllocError>
         ensures { IfOk result (λ p. p ≡ []) }
     {
-        let texts = [
-            String::with_capacity(alloc, NAME_LIMIT)?,
-            String::with_capacity(alloc, NAME_LIMIT)?,
-            String::with_capacity(alloc, NAME_LIMIT)?,
-        ];
+        let texts = room(alloc)?;
+        let bytes = Vec::with_capacity(alloc, NAME_LIMIT)?;
         Ok(Parts {
-            texts: Vec::from_array(alloc, texts)?,
+            texts,
             count: 0,
-            bytes: Vec::with_capacity(alloc, NAME_LIMIT)?,
+            bytes,
         })
     }
 
@@ -92,6 +90,19 @@ impl Parts {
             Err(_) => false,
         }
     }
+}
+
+/// As many texts as a path may have parts, each with room for a name.
+fn room(alloc: Global) -> Result<Vec<String>, AllocError>
+    ensures { IfOk result (λ texts. (length texts.items ≡ part_limit) × All (λ text. name_limit ≤ string_capacity text) texts.items) }
+{
+    let texts = [
+        String::with_capacity(alloc, NAME_LIMIT)?,
+        String::with_capacity(alloc, NAME_LIMIT)?,
+        String::with_capacity(alloc, NAME_LIMIT)?,
+    ];
+    let texts = Vec::from_array(alloc, texts)?;
+    Ok(texts)
 }
 
 /// Puts a part without its percent-encoding in place of what is there, and tells whether it is not too long for a name.

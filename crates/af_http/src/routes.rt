@@ -2,12 +2,12 @@ ghost use Rattle.std.specs.Prelude.{◌≡◌, ◌+◌, ◌≤◌, Some, false, 
 ghost use Rattle.af_ops.specs.Segments.{seen};
 ghost use Rattle.af_http.specs.Limits.{part_limit};
 ghost use Rattle.af_http.specs.Parts.{IsUnfit, part_count, with_all};
-ghost use Rattle.af_http.specs.Routes.{IsRouted, before, endpoint_of, has_form, named, onward, op_of, parts_in, path_of, place_of, query_of, read, stands_for};
+ghost use Rattle.af_http.specs.Routes.{IsRouted, before, endpoint_of, has_form, named, onward, call_of, parts_in, path_of, place_of, query_of, read, stands_for};
 
 use crate::parts::Parts;
 use crate::route_fault::RouteFault;
 use af_ops::{
-    Endpoint, Method, Op, PLACES, Place, Segment, are_names, endpoint_at, methods_at, read_row,
+    Call, Endpoint, Method, PLACES, Place, Segment, are_names, endpoint_at, methods_at, read_row,
 };
 use matchit::Router;
 use memchr::memchr;
@@ -97,11 +97,11 @@ fn read(
     parts: &[String],
     query: &[u8],
     body: &[u8],
-) -> Result<Op, RouteFault>
+) -> Result<Call, RouteFault>
     ensures { IsRouted (read endpoint (map (λ part. string_bytes part) parts.now) query.now body.now) result }
 {
     match read_row(alloc, endpoint, parts, query, body) {
-        Ok(Some(op)) => Ok(op),
+        Ok(Some(call)) => Ok(call),
         Ok(None) => Err(RouteFault::NoPath),
         Err(_) => Err(RouteFault::OutOfMemory),
     }
@@ -116,7 +116,7 @@ fn named(
     parts: &[String],
     query: &[u8],
     body: &[u8],
-) -> Result<Op, RouteFault>
+) -> Result<Call, RouteFault>
     ensures { IsRouted (named method.now query.now body.now place (map (λ part. string_bytes part) parts.now)) result }
 {
     match endpoint_of(method, place) {
@@ -148,19 +148,26 @@ fn query_of(target: &[u8]) -> &[u8]
     }
 }
 
+/// A router of all paths of the table.
+fn router_of_places(alloc: Global) -> Result<Router<Place>, AllocError> {
+    let mut router = Router::new(alloc);
+    for place in PLACES {
+        if router.insert(place.text(), place).is_err() {
+            return Err(AllocError);
+        }
+    }
+    Ok(router)
+}
+
 impl Routes {
     /// The table. It is made once for a connection.
     pub fn new(alloc: Global) -> Result<Routes, AllocError> {
-        let mut router = Router::new(alloc);
-        for place in PLACES {
-            if router.insert(place.text(), place).is_err() {
-                return Err(AllocError);
-            }
-        }
+        let router = router_of_places(alloc)?;
+        let parts = Parts::new(alloc)?;
         Ok(Routes {
             alloc,
             router,
-            parts: Parts::new(alloc)?,
+            parts,
         })
     }
 
@@ -184,10 +191,15 @@ impl Routes {
         }
     }
 
-    /// The operation that a method, a target and a body name, or why they name none. Want of memory is told only where they
-    /// name one.
-    pub fn read_op(&mut self, method: &[u8], target: &[u8], body: &[u8]) -> Result<Op, RouteFault>
-        ensures { IsRouted (op_of method.now target.now body.now) result }
+    /// What a method, a target and a body ask for, or why they ask for nothing. Want of memory is told only where they ask for
+    /// something.
+    pub fn read_call(
+        &mut self,
+        method: &[u8],
+        target: &[u8],
+        body: &[u8],
+    ) -> Result<Call, RouteFault>
+        ensures { IsRouted (call_of method.now target.now body.now) result }
     {
         let path = path_of(target);
         let Some(place) = self.place_of(path) else {

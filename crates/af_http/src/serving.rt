@@ -59,6 +59,23 @@ fn serve_all<R: Source, W: Sink, S: Service>(
     ended
 }
 
+/// Serves a connection that was opened just now.
+fn serve_opened<R: Source, W: Sink, S: Service>(
+    connection: Connection,
+    reader: &mut R,
+    writer: &mut W,
+    service: &mut S,
+) -> Ended
+    requires fresh { connection.incoming ≡ [] }
+    requires empty { connection.outgoing.bytes ≡ [] }
+    requires sound { connection.outgoing.failed ≡ false }
+    ensures { Connects S.answers (R.given reader.old) (R.given reader.new) (W.taken writer.old) (W.taken writer.new)
+        service.old service.new result }
+{
+    let mut connection = connection;
+    serve_all(&mut connection, reader, writer, service)
+}
+
 /// There is no memory to begin with.
 fn turn_away<W: Sink>(writer: &mut W) -> Ended
     ensures { IsMemoryText (W.taken writer.old) (W.taken writer.new) result }
@@ -83,7 +100,7 @@ pub fn serve<R: Source, W: Sink, S: Service>(
         service.old service.new result }
 {
     match Connection::open(alloc) {
-        Ok(mut connection) => serve_all(&mut connection, reader, writer, service),
+        Ok(connection) => serve_opened(connection, reader, writer, service),
         Err(_) => turn_away(writer),
     }
 }

@@ -42,6 +42,15 @@ fn go_on<W: Sink>(writer: &mut W, outgoing: &mut Outgoing, found: Gathered) -> O
     ensures failed { result ≡ None → outgoing.new.failed ≡ true }
 {
     outgoing.make_room(writer);
+    unless_failed(outgoing, found)
+}
+
+/// What was found, unless a write has failed.
+fn unless_failed(outgoing: &Outgoing, found: Gathered) -> Option<Gathered>
+    ensures found { IfSome result (λ g. g ≡ found) }
+    ensures sound { IfSome result (λ g. outgoing.now.failed ≡ false) }
+    ensures failed { result ≡ None → outgoing.now.failed ≡ true }
+{
     if outgoing.has_failed() {
         return None;
     }

@@ -27,6 +27,9 @@ pub const BAD_METHOD_OF_ROWS: &str =
 pub const BAD_METHOD_OF_ROW: &str =
     "HTTP/1.1 405 Method Not Allowed\r\nContent-Type: application/problem+json\r\nContent-Length: 94\r\nAllow: GET, PATCH, DELETE\r\n\r\n{\"detail\":\"method not allowed\",\"status\":405,\"title\":\"Method Not Allowed\",\"type\":\"about:blank\"}";
 
+pub const BAD_METHOD_OF_SYNC: &str =
+    "HTTP/1.1 405 Method Not Allowed\r\nContent-Type: application/problem+json\r\nContent-Length: 94\r\nAllow: POST\r\n\r\n{\"detail\":\"method not allowed\",\"status\":405,\"title\":\"Method Not Allowed\",\"type\":\"about:blank\"}";
+
 pub const BAD_METHOD_OF_HEAD: &str =
     "HTTP/1.1 405 Method Not Allowed\r\nContent-Type: application/problem+json\r\nContent-Length: 94\r\nAllow: GET\r\n\r\n";
 

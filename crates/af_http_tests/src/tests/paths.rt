@@ -1,5 +1,6 @@
 use crate::tests::answers::{
-    BAD_METHOD_OF_DAG, BAD_METHOD_OF_ROW, BAD_METHOD_OF_ROWS, NO_PATH, NO_TOKEN,
+    BAD_METHOD, BAD_METHOD_OF_DAG, BAD_METHOD_OF_ROW, BAD_METHOD_OF_ROWS, BAD_METHOD_OF_SYNC,
+    NO_PATH, NO_TOKEN,
 };
 use crate::tests::asserts::{holds, number_holds};
 use crate::tests::cases::is_joined;
@@ -58,6 +59,57 @@ const ROW_PATHS: [(&str, &str); 22] = [
     ("PUT /api/v1/variables/%0A", NO_PATH),
 ];
 
+/// The same for roles and users. Their names are printed ASCII as those of pools are.
+const ACCOUNT_PATHS: [(&str, &str); 23] = [
+    ("GET /api/v1/roles", NO_TOKEN),
+    ("POST /api/v1/roles", NO_TOKEN),
+    ("PATCH /api/v1/roles", BAD_METHOD_OF_ROWS),
+    ("GET /api/v1/roles/", NO_PATH),
+    ("GET /api/v1/roles/a%20b", NO_TOKEN),
+    ("PATCH /api/v1/roles/a%2Fb", NO_TOKEN),
+    ("DELETE /api/v1/roles/~", NO_TOKEN),
+    ("GET /api/v1/roles/a/b", NO_PATH),
+    ("GET /api/v1/roles/%7F", NO_PATH),
+    ("PATCH /api/v1/roles/%C3%A9", NO_PATH),
+    ("POST /api/v1/roles/Op", BAD_METHOD_OF_ROW),
+    ("POST /api/v1/roles/%7F", NO_PATH),
+    ("GET /api/v1/users", NO_TOKEN),
+    ("POST /api/v1/users", NO_TOKEN),
+    ("DELETE /api/v1/users", BAD_METHOD_OF_ROWS),
+    ("GET /api/v1/users/%61dam", NO_TOKEN),
+    ("PATCH /api/v1/users/adam", NO_TOKEN),
+    ("DELETE /api/v1/users/adam", NO_TOKEN),
+    ("DELETE /api/v1/users/%0A", NO_PATH),
+    ("GET /api/v1/users/%FF", NO_PATH),
+    ("GET /api/v1/users/%2525?", NO_TOKEN),
+    ("PUT /api/v1/users/adam", BAD_METHOD_OF_ROW),
+    ("PUT /api/v1/users/%0A", NO_PATH),
+];
+
+/// The same for the event logs, and for the paths beside the API's, where `~` is no DAG. Texts of a path are not decoded.
+const OTHER_PATHS: [(&str, &str); 20] = [
+    ("GET /api/v1/eventLogs", NO_TOKEN),
+    ("GET /api/v1/eventLogs?limit=x", NO_TOKEN),
+    ("POST /api/v1/eventLogs", BAD_METHOD),
+    ("GET /api/v1/eventlogs", NO_PATH),
+    ("GET /api/v1/eventLogs/1", NO_PATH),
+    ("GET /own/me", NO_TOKEN),
+    ("POST /own/me", BAD_METHOD),
+    ("GET /own/m%65", NO_PATH),
+    ("GET /own/me/", NO_PATH),
+    ("GET /own", NO_PATH),
+    ("GET /api/v1/own/me", NO_PATH),
+    ("POST /own/dags/b/sync", NO_TOKEN),
+    ("POST /own/dags/%62/sync", NO_TOKEN),
+    ("GET /own/dags/b/sync", BAD_METHOD_OF_SYNC),
+    ("POST /own/dags/~/sync", NO_PATH),
+    ("GET /own/dags/%7E/sync", NO_PATH),
+    ("POST /own/dags//sync", NO_PATH),
+    ("POST /own/dags/a%20b/sync", NO_PATH),
+    ("POST /own/dags/b", NO_PATH),
+    ("POST /api/v1/own/dags/b/sync", NO_PATH),
+];
+
 /// What answers this method and path, twice on one connection.
 fn is_answered(alloc: Global, asked: &str, wanted: &str) -> Result<bool, Fail> {
     let input = format!(in alloc;
@@ -89,6 +141,24 @@ fn row_paths(rt: HostRuntime) -> Result<(), Fail> {
     Ok(())
 }
 
+#[test]
+fn account_paths(rt: HostRuntime) -> Result<(), Fail> {
+    for (asked, wanted) in ACCOUNT_PATHS {
+        let is_answered = is_answered(rt.alloc(), asked, wanted)?;
+        holds(&rt, is_answered, asked);
+    }
+    Ok(())
+}
+
+#[test]
+fn other_paths(rt: HostRuntime) -> Result<(), Fail> {
+    for (asked, wanted) in OTHER_PATHS {
+        let is_answered = is_answered(rt.alloc(), asked, wanted)?;
+        holds(&rt, is_answered, asked);
+    }
+    Ok(())
+}
+
 /// Names of 249 to 251 bytes, plain and with each byte encoded: 250 are the most, of the text and not of its encoding.
 const NAMES: [(&str, usize, &str); 6] = [
     ("x", 249, NO_TOKEN),
@@ -100,13 +170,27 @@ const NAMES: [(&str, usize, &str); 6] = [
 ];
 
 /// What stands before and after a name in a path.
-const AROUND: [(&str, &str); 5] = [
+const AROUND: [(&str, &str); 6] = [
     ("GET /api/v1/dags/", ""),
     ("GET /api/v1/dags/", "/dagRuns"),
     ("GET /api/v1/dags/b/dagRuns/", ""),
     ("GET /api/v1/pools/", ""),
     ("GET /api/v1/variables/", ""),
+    ("POST /own/dags/", "/sync"),
 ];
+
+/// Names of roles and users: 64 bytes are the most.
+const ACCOUNT_NAMES: [(&str, usize, &str); 6] = [
+    ("x", 63, NO_TOKEN),
+    ("x", 64, NO_TOKEN),
+    ("x", 65, NO_PATH),
+    ("x", 251, NO_PATH),
+    ("%78", 64, NO_TOKEN),
+    ("%78", 65, NO_PATH),
+];
+
+/// What stands before the name of a role or a user.
+const BEFORE_ACCOUNT: [(&str, &str); 2] = [("GET /api/v1/roles/", ""), ("GET /api/v1/users/", "")];
 
 /// A text so many times.
 fn repeated(alloc: Global, letter: &str, count: usize) -> Result<String, Fail> {
@@ -128,16 +212,15 @@ fn is_name_answered(
     is_answered(alloc, asked.as_str(), wanted)
 }
 
-/// Whether this answers each path with a name of so many of these letters.
+/// Whether this answers each of these paths with a name of so many of these letters.
 fn is_long_name_answered(
     alloc: Global,
-    letter: &str,
-    count: usize,
-    wanted: &str,
+    places: &[(&str, &str)],
+    (letter, count, wanted): (&str, usize, &str),
 ) -> Result<bool, Fail> {
     let name = repeated(alloc, letter, count)?;
-    for around in AROUND {
-        if !is_name_answered(alloc, around, name.as_str(), wanted)? {
+    for around in places {
+        if !is_name_answered(alloc, *around, name.as_str(), wanted)? {
             return Ok(false);
         }
     }
@@ -146,9 +229,18 @@ fn is_long_name_answered(
 
 #[test]
 fn long_names(rt: HostRuntime) -> Result<(), Fail> {
-    for (letter, count, wanted) in NAMES {
-        let is_answered = is_long_name_answered(rt.alloc(), letter, count, wanted)?;
-        number_holds(&rt, is_answered, letter, count);
+    for name in NAMES {
+        let is_answered = is_long_name_answered(rt.alloc(), &AROUND, name)?;
+        number_holds(&rt, is_answered, name.0, name.1);
+    }
+    Ok(())
+}
+
+#[test]
+fn long_account_names(rt: HostRuntime) -> Result<(), Fail> {
+    for name in ACCOUNT_NAMES {
+        let is_answered = is_long_name_answered(rt.alloc(), &BEFORE_ACCOUNT, name)?;
+        number_holds(&rt, is_answered, name.0, name.1);
     }
     Ok(())
 }

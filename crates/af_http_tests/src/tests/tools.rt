@@ -1,5 +1,5 @@
 use af_http::{Counted, Ended, Service, serve};
-use af_ops::{Body, Op, Served, Shown, Status};
+use af_ops::{Body, Call, Op, Served, Shown, Status};
 use std::alloc::{AllocError, Global};
 use std::io;
 use std::io::{Read, Write};
@@ -98,7 +98,7 @@ impl Write for Paper {
     }
 }
 
-/// The operations' answers: the version to everybody; of all else, what the token says.
+/// The answers: the version to everybody; of all else, what the token says.
 #[derive(Drop)]
 pub struct Fixed {
     pub alloc: Global,
@@ -141,8 +141,8 @@ impl Fixed {
         Ok(Fixed::told(Status::Ok, Some(body)))
     }
 
-    fn served(&self, token: Option<&[u8]>, op: &Op) -> Result<Served, AllocError> {
-        if matches!(op, Op::Version) {
+    fn served(&self, token: Option<&[u8]>, call: &Call) -> Result<Served, AllocError> {
+        if matches!(call, Call::State(Op::Version)) {
             return self.version();
         }
         match token.unwrap_or(b"") {
@@ -157,11 +157,11 @@ impl Fixed {
 }
 
 impl Service for Fixed {
-    ghost answers = { λ old token op served new. Unit {0} };
+    ghost answers = { λ old token call served new. Unit {0} };
 
-    fn answer(&mut self, token: Option<&[u8]>, op: &Op) -> Served {
+    fn answer(&mut self, token: Option<&[u8]>, call: &Call) -> Served {
         self.calls = self.calls.saturating_add(1);
-        match self.served(token, op) {
+        match self.served(token, call) {
             Ok(served) => served,
             Err(_) => Served::NothingDone,
         }

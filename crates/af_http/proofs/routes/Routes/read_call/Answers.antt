@@ -5,7 +5,7 @@ use Rattle.af_ops.specs.declared.place.Place.{Place}
 use Rattle.af_http.specs.Parts.{IsUnfit}
 use Rattle.af_http.specs.Routes.{IsRouted, at_place, named, parts_in, path_of, place_of, query_of, with_parts}
 use Rattle.af_http.proofs.PartLemmas.{all_texts, unfit_path}
-use Rattle.af_http.proofs.routes.Routes.read_op.Goals as goal
+use Rattle.af_http.proofs.routes.Routes.read_call.Goals as goal
 
 pub returns-then-not-read_parts : goal.returns-then-not-read_parts
 returns-then-not-read_parts c =
