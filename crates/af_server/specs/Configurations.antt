@@ -1,5 +1,6 @@
 -- What a whole configuration says, from its bytes: the roles, the users, the pools, the variables and the DAGs in this order,
--- rows in theirs, then its limits, and the first fault decides the reason (this product's own rule).
+-- rows in theirs, then the access control of the DAGs, then its limits, and the first fault decides the reason (this product's
+-- own rule).
 use Rattle.std.specs.Prelude.{ℕ, ◌*◌, List, length, nat_lt, codes, is_some, ok_or, Result, Ok, Err, if◌then◌else◌}
 use Rattle.serde_json.specs.Data.{Data}
 use Rattle.serde_json.specs.Find.{as_object}
@@ -13,6 +14,7 @@ use Rattle.af_base.specs.Readings.{◌>>=◌, taking}
 use Rattle.af_server.specs.declared.config.limits.Limits.{Limits}
 use Rattle.af_server.specs.declared.reason.Reason.{Reason}
 use Rattle.af_server.specs.declared.reason.Reason.TheVariants.{Admin, Shape, Syntax, Unreadable}
+use Rattle.af_server.specs.Accesses.{access_taken}
 use Rattle.af_server.specs.Accounts.{role_in, user_in}
 use Rattle.af_server.specs.DagRows.{dag_taken}
 use Rattle.af_server.specs.Drafts.{Draft, opening_draft}
@@ -54,6 +56,10 @@ draft_in config = do
   with_variables ← with_rows variable_taken (codes "variables") config with_pools
   with_rows dag_taken (codes "dags") config with_variables
 
+-- the policy after the access control of each DAG that is listed is taken over, in their order
+abbrev pub synced_in : Data → PolicyRows → Result PolicyRows Reason
+synced_in config policy = with_rows access_taken (codes "dags") config policy
+
 -- how many entries the audit may have, and the last version of the policy
 abbrev pub limits_in : Data → Result Limits Reason
 limits_in config = do
@@ -77,8 +83,9 @@ configuration_in value = do
   config ← object_or value
   policy ← policy_in config
   draft ← draft_in config
+  synced ← synced_in config policy
   limits ← limits_in config
-  Ok (record { policy = policy; state = draft.state; scripts = draft.scripts; limits = limits })
+  Ok (record { policy = synced; state = draft.state; scripts = draft.scripts; limits = limits })
 
 -- 16 MiB
 abbrev pub longest : ℕ

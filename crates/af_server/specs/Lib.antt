@@ -1,6 +1,7 @@
 pub mod Reasons
 pub mod Members
 pub mod Accounts
+pub mod Accesses
 pub mod Drafts
 pub mod PoolRows
 pub mod VariableRows

@@ -7,20 +7,22 @@ use Rattle.af_http.specs.declared.ended.Ended.{Ended}
 use Rattle.af_server.specs.declared.reason.Reason.{Reason}
 use Rattle.af_server.specs.declared.reason.Reason.TheVariants.{Memory}
 use Rattle.af_server.specs.Configurations.{ConfigurationRows, configuration_of}
-use Rattle.af_server.specs.Desks.{Decides, DeskRows, opened}
+use Rattle.af_server.specs.Desks.{Decides, DeskRows, IsKept, opened}
 use Rattle.af_server.specs.Files.{CameWhole, IsFileFault}
 
 -- nothing was read, and nothing was written
 abbrev pub IsUntouched : Given → Given → Taken → Taken → Type 0
 IsUntouched before after start finish = (after ≡ before) × (finish ≡ start)
 
--- The exchanges of a connection, one after another, each answered by the verdict on the state that the one before left, from
--- the desk under a configuration on, at a moment. Where the bytes of the configuration are refused, or there is no memory to
--- read them, nothing is read and nothing is written.
+-- The exchanges of a connection, one after another, each answered by the verdict on the desk that the one before left, from the
+-- desk under a configuration on, at a moment; and what is left has kept what a desk keeps: the state is the replay of the entries
+-- over that of the configuration, and each version of the policy follows the one before, from that of the configuration on. Where
+-- the bytes of the configuration are refused, or there is no memory to read them and to keep what they say, nothing is read and
+-- nothing is written.
 abbrev pub IsOnce : List ℕ → ℕ → Given → Given → Taken → Taken → Result Ended Reason → Type 0
 IsOnce bytes now before after start finish (Ok ended) =
     (configuration : ConfigurationRows) × (configuration_of bytes ≡ Ok configuration)
-    × ((left : DeskRows) × Connects Decides before after start finish (opened configuration now) left ended)
+    × ((left : DeskRows) × Connects Decides before after start finish (opened configuration now) left ended × IsKept configuration left)
 IsOnce bytes now before after start finish (Err reason) =
     ((configuration_of bytes ≡ Err reason) ⊎ (reason ≡ Memory)) × IsUntouched before after start finish
 

@@ -2,6 +2,8 @@
 use Rattle.std.specs.Prelude.{ℕ, List, codes}
 use Rattle.af_names.specs.declared.name_error.NameError.{NameError}
 use Rattle.af_names.specs.declared.name_error.NameError.TheVariants as name
+use Rattle.af_policy.specs.declared.change_fault.ChangeFault.{ChangeFault}
+use Rattle.af_policy.specs.declared.change_fault.ChangeFault.TheVariants as change
 use Rattle.af_policy.specs.declared.row_fault.RowFault.{RowFault}
 use Rattle.af_policy.specs.declared.row_fault.RowFault.TheVariants as row
 use Rattle.af_graph.specs.declared.dag_fault.DagFault.{DagFault}
@@ -79,3 +81,17 @@ dag_reason add.NoSuchPool = Pool
 dag_reason add.Exists = Duplicate
 dag_reason add.Full = Limit
 dag_reason add.OutOfMemory = Memory
+
+-- a change of the policy that is refused
+abbrev pub change_reason : ChangeFault → Reason
+change_reason (change.BadAction text) = Action
+change_reason (change.PairNotAllowed text) = Pair
+change_reason (change.UnknownRole name) = Role
+change_reason change.NoSuchRole = Role
+change_reason change.NoSuchUser = Name
+change_reason change.DefaultRole = Role
+change_reason change.Exists = Duplicate
+change_reason change.RoleInUse = Role
+change_reason change.LastAdmin = Admin
+change_reason change.TooMany = Limit
+change_reason change.OutOfMemory = Memory

@@ -5,6 +5,9 @@ use Rattle.serde_json.specs.Read.{read as read_text}
 use Rattle.af_graph.specs.declared.rule.Rule.TheVariants.{AllSuccess}
 use Rattle.af_graph.specs.declared.task_spec.TaskSpec.{TaskSpec}
 use Rattle.af_policy.specs.Drafts.{opening}
+use Rattle.af_policy.specs.Rows.{PolicyRows}
+use Rattle.af_role.specs.Pairs.{PairRow, on_dag}
+use Rattle.af_role.specs.declared.action.Action.TheVariants.{Edit, Read}
 use Rattle.af_pool.specs.Pools.{default_name}
 use Rattle.af_pool.specs.declared.pool.Pool.{Pool}
 use Rattle.af_sched.specs.State.{StateRows}
@@ -103,3 +106,31 @@ configuration = record {
   scripts = [];
   limits = limits 1_000_000 4_294_967_295;
 }
+
+-- the access control of a DAG
+abbrev pub access_row : Data → Data
+access_row value = object (member (codes "access_control") value (member (codes "dag_id") (string (codes "a")) no_members))
+
+-- one role
+abbrev pub access_to : List ℕ → Data → Data
+access_to name actions = object (member name actions no_members)
+
+-- two roles, in byte order of their names
+abbrev pub access_to_two : List ℕ → Data → List ℕ → Data → Data
+access_to_two name actions other others = object (member name actions (member other others no_members))
+
+abbrev pub texts : List Data → Data
+texts values = array (items values)
+
+-- two roles with these permissions, and no user
+abbrev pub two_roles : List PairRow → List PairRow → PolicyRows
+two_roles admins others = record {
+  users = [];
+  roles = record { name = codes "Admin"; pairs = admins } ∷ record { name = codes "R"; pairs = others } ∷ [];
+}
+
+abbrev pub reads : List ℕ → PairRow
+reads dag = on_dag Read dag
+
+abbrev pub edits : List ℕ → PairRow
+edits dag = on_dag Edit dag

@@ -9,6 +9,7 @@ ghost use Rattle.af_base.specs.Readings.{OrMemory, seen};
 ghost use Rattle.af_server.specs.declared.reason.Reason.{Reason};
 ghost use Rattle.af_server.specs.Configurations.{configuration_in, configuration_of, longest};
 
+mod access;
 mod dags;
 mod draft;
 mod limits;
@@ -24,6 +25,7 @@ mod users;
 mod variables;
 
 use crate::reason::Reason;
+use access::sync_dags;
 use af_base::{Json, json_in};
 use af_policy::Policy;
 use af_sched::{Script, State};
@@ -61,10 +63,10 @@ impl Model for Configuration {
 }
 
 impl Configuration {
-    /// Reads a configuration. The lists are taken in order, roles, users, pools, variables and DAGs, and rows in theirs, and then
-    /// the limits; the first fault decides the reason. Of a row, its members are read first, in order (kind, then name, then limits), and then
-    /// its own faults are looked for. `Memory` comes only of bytes that are not too long, where a growth was refused before
-    /// a fault was met.
+    /// Reads a configuration. The lists are taken in order, roles, users, pools, variables and DAGs, and rows in theirs, then the
+    /// access control of the DAGs, and then the limits; the first fault decides the reason. Of a row, its members are read first, in
+    /// order (kind, then name, then limits), and then its own faults are looked for. `Memory` comes only of bytes that are not too
+    /// long, where a growth was refused before a fault was met.
     pub fn read(alloc: Global, bytes: &[u8]) -> Result<Configuration, Reason>
         ensures read { OrMemory Reason.Memory (configuration_of bytes.now) result }
         ensures long { longest < length bytes.now → result ≡ Err Reason.Unreadable }
@@ -99,10 +101,11 @@ impl Configuration {
         }
         let policy = lists::read_policy(alloc, value)?;
         let draft = lists::read_state(alloc, value)?;
+        let synced = sync_dags(alloc, policy, value)?;
         let limits = read_limits(value)?;
         let StateDraft { state, scripts, .. } = draft;
         Ok(Configuration {
-            policy,
+            policy: synced,
             state,
             scripts,
             limits,

@@ -11,8 +11,7 @@ use af_http::{Ended, Sink, Source, serve};
 use af_names::Instant;
 use std::alloc::Global;
 
-/// Answers the requests that come from the reader, one after another, each by the verdict on the state that the one before
-/// left.
+/// Answers the requests that come from the reader, one after another, each by the verdict on the desk that the one before left.
 pub fn converse<R: Source, W: Sink>(
     alloc: Global,
     desk: &mut Desk,
@@ -26,6 +25,7 @@ pub fn converse<R: Source, W: Sink>(
 }
 
 /// One connection under a configuration, at one moment. A configuration that is refused reads and writes nothing.
+#[tactic(auto, using(crate::proofs::DeskLemmas::connects_kept))]
 pub fn once<R: Source, W: Sink>(
     alloc: Global,
     config: &[u8],
@@ -37,6 +37,8 @@ pub fn once<R: Source, W: Sink>(
     ensures long { longest < length config.now → result ≡ Err Reason.Unreadable }
 {
     let configuration = Configuration::read(alloc, config)?;
-    let mut desk = Desk::open(alloc, configuration, now);
-    Ok(converse(alloc, &mut desk, reader, writer))
+    let mut desk = Desk::open(alloc, configuration, now)?;
+    let ended = converse(alloc, &mut desk, reader, writer);
+    desk.conditions();
+    Ok(ended)
 }

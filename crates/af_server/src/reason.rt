@@ -1,10 +1,10 @@
 ghost use Rattle.std.specs.Prelude.{◌≡◌};
 ghost use Rattle.af_server.specs.declared.reason.Reason.TheVariants.{Memory};
-ghost use Rattle.af_server.specs.Reasons.{name_reason, reason_text, row_reason, dag_reason, graph_reason, pool_reason, variable_reason};
+ghost use Rattle.af_server.specs.Reasons.{change_reason, name_reason, reason_text, row_reason, dag_reason, graph_reason, pool_reason, variable_reason};
 
 use af_graph::DagFault;
 use af_names::NameError;
-use af_policy::RowFault;
+use af_policy::{ChangeFault, RowFault};
 use af_pool::PoolFault;
 use af_sched::AddDagFault;
 use af_vars::VariableFault;
@@ -23,9 +23,9 @@ pub enum Reason {
     Name,
     /// Two rows have one name, two users have one digest, or a role has a default role's name.
     Duplicate,
-    /// A user's role is not there.
+    /// A role that a user has, or that access control names, is not there.
     Role,
-    /// An action is none of the four.
+    /// An action is none of the four; in access control, none of the three that a single DAG carries.
     Action,
     /// A resource is not known, or `can_create` is listed on a single DAG.
     Pair,
@@ -103,6 +103,26 @@ impl From<RowFault> for Reason {
             RowFault::Exists => Reason::Duplicate,
             RowFault::TooMany => Reason::Limit,
             RowFault::OutOfMemory => Reason::Memory,
+        }
+    }
+}
+
+impl From<ChangeFault> for Reason {
+    ghost from_gives = { λ fault reason. reason ≡ change_reason fault };
+
+    fn from(fault: ChangeFault) -> Reason {
+        match fault {
+            ChangeFault::BadAction(_) => Reason::Action,
+            ChangeFault::PairNotAllowed(_) => Reason::Pair,
+            ChangeFault::UnknownRole(_) => Reason::Role,
+            ChangeFault::NoSuchRole | ChangeFault::DefaultRole | ChangeFault::RoleInUse => {
+                Reason::Role
+            }
+            ChangeFault::NoSuchUser => Reason::Name,
+            ChangeFault::Exists => Reason::Duplicate,
+            ChangeFault::LastAdmin => Reason::Admin,
+            ChangeFault::TooMany => Reason::Limit,
+            ChangeFault::OutOfMemory => Reason::Memory,
         }
     }
 }

@@ -1,18 +1,22 @@
 //! Whole connections under the sample configuration, byte for byte, and each reason for which a configuration is refused.
+mod access;
 mod asserts;
 mod calls;
 mod clears;
 mod configurations;
 mod connections;
 mod dags;
+mod histories;
 mod instances;
 mod listings;
 mod many;
 mod marks;
 mod pages;
+mod policies;
 mod pools;
 mod rows;
 mod variables;
+mod versions;
 
 use crate::once::once;
 use crate::reason::Reason;
@@ -102,6 +106,12 @@ fn run(
 fn is_told(alloc: Global, input: &[u8], size: usize, told: &str, end: Ended) -> Result<bool, Fail> {
     let (ended, written) = run(alloc, BASE, input, size)?;
     Ok(written.as_slice() == told.as_bytes() && ended == Ok(end))
+}
+
+/// Whether this is what is written in a connection with this input under a configuration, which then closes.
+fn is_told_under(alloc: Global, config: &str, input: &str, told: &str) -> Result<bool, Fail> {
+    let (ended, written) = run(alloc, config, input.as_bytes(), 4_096)?;
+    Ok(written.as_slice() == told.as_bytes() && ended == Ok(Ended::Closed))
 }
 
 /// A request, and what is told of it.

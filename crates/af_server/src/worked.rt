@@ -2,11 +2,12 @@
 ghost use Rattle.std.specs.Prelude.{◌≡◌, [], ◌∷◌, codes, pos, negsuc, Err, Ok, None, Some, true, false};
 ghost use Rattle.af_sched.specs.declared.outcome.Outcome.TheVariants as outcome;
 ghost use Rattle.af_server.specs.declared.reason.Reason.TheVariants as reason;
+ghost use Rattle.af_server.specs.Accesses.{access_taken};
 ghost use Rattle.af_server.specs.Configurations.{draft_in, limits_in};
 ghost use Rattle.af_server.specs.DagRows.{dag_in};
 ghost use Rattle.af_server.specs.Tasks.{no_tasks, task_in, task_taken};
-ghost use Rattle.af_server.specs.Worked.{configuration, dag, dag_of_tasks, dag_row, dag_with, dags, default_pool, items, limits, pool, pools, said, state_of, task, task_row, task_with, variable, variables, with_limit};
-ghost use Rattle.serde_json.specs.Data.{array, boolean, null, number, string, unsigned, negative};
+ghost use Rattle.af_server.specs.Worked.{access_row, access_to, access_to_two, configuration, dag, dag_of_tasks, dag_row, dag_with, dags, default_pool, edits, items, limits, pool, pools, reads, said, state_of, task, task_row, task_with, texts, two_roles, variable, variables, with_limit};
+ghost use Rattle.serde_json.specs.Data.{array, boolean, no_members, null, number, object, string, unsigned, negative};
 
 /// The first fault of each of these decides.
 pub fn refusals_by_the_rule()
@@ -84,4 +85,18 @@ pub fn dags_by_the_rule()
     ensures too_many { dag_in [] (dag_with (codes "a") (codes "max_active_runs") (number (unsigned 1001))) ≡ Err reason.Limit }
     ensures no_truth { dag_in [] (dag_with (codes "a") (codes "is_paused") (number (unsigned 0))) ≡ Err reason.Shape }
     ensures bad_name { dag_in [] (dag_with (codes "a/b") (codes "schedule") (boolean true)) ≡ Err reason.Name }
+{}
+
+/// Access control: absent, empty, listed; each kind of fault, in its order.
+pub fn access_by_the_rule()
+    ensures absent { access_taken (two_roles (edits (codes "a") ∷ []) (reads (codes "a") ∷ [])) (access_row null) ≡ Ok (two_roles (edits (codes "a") ∷ []) (reads (codes "a") ∷ [])) }
+    ensures empty { access_taken (two_roles (edits (codes "a") ∷ []) (reads (codes "a") ∷ reads (codes "b") ∷ [])) (access_row (object no_members)) ≡ Ok (two_roles (edits (codes "a") ∷ []) (reads (codes "b") ∷ [])) }
+    ensures listed { access_taken (two_roles [] (reads (codes "b") ∷ [])) (access_row (access_to (codes "R") (texts (string (codes "can_edit") ∷ string (codes "can_read") ∷ string (codes "can_edit") ∷ [])))) ≡ Ok (two_roles [] (reads (codes "a") ∷ edits (codes "a") ∷ reads (codes "b") ∷ [])) }
+    ensures to_admin { access_taken (two_roles (edits (codes "a") ∷ []) []) (access_row (access_to (codes "Admin") (texts (string (codes "can_read") ∷ [])))) ≡ Ok (two_roles (reads (codes "a") ∷ edits (codes "a") ∷ []) []) }
+    ensures no_object { access_taken (two_roles [] []) (access_row (texts [])) ≡ Err reason.Shape }
+    ensures no_list { access_taken (two_roles [] []) (access_row (access_to (codes "R") null)) ≡ Err reason.Shape }
+    ensures kinds_before_names { access_taken (two_roles [] []) (access_row (access_to_two (codes "") (texts []) (codes "R") (texts (null ∷ [])))) ≡ Err reason.Shape }
+    ensures no_name { access_taken (two_roles [] []) (access_row (access_to (codes "") (texts (string (codes "can_fly") ∷ [])))) ≡ Err reason.Name }
+    ensures action_before_role { access_taken (two_roles [] []) (access_row (access_to_two (codes "Nobody") (texts []) (codes "R") (texts (string (codes "can_create") ∷ [])))) ≡ Err reason.Action }
+    ensures no_role { access_taken (two_roles [] []) (access_row (access_to (codes "Nobody") (texts []))) ≡ Err reason.Role }
 {}

@@ -18,7 +18,7 @@ const DAGS: [(&str, Option<Reason>); 21] = [
         r#""schedule":31536000,"start_date":"2024-01-01T00:00:00Z""#,
         None,
     ),
-    (r#""max_active_runs":1000,"access_control":7"#, None),
+    (r#""max_active_runs":1000"#, None),
     (
         r#""schedule":true,"start_date":"2024-01-01T00:00:00Z""#,
         Some(Reason::Shape),
