@@ -46,7 +46,7 @@ SECONDS = 120
 # Under valgrind the C library is not to fill and copy by `rep`, of which callgrind counts each byte.
 PLAIN = {"GLIBC_TUNABLES": "glibc.cpu.x86_rep_stosb_threshold=1000000000:glibc.cpu.x86_rep_movsb_threshold=1000000000"}
 # What the oracle is asked for: all that the baseline has.
-HAS = having("landed")
+HAS = having("baseline")
 RULES = ["all_success", "all_done", "none_failed", "one_success", "none_failed_min_one_success"]
 
 

@@ -11,11 +11,11 @@
 
 A case is one run of the program: words, a configuration and an input of one or more requests, as they should be
 or hostile, few or hundreds that build on one another. Exit status, standard output and standard error must be the oracle's. The first difference is shown,
-with as few of its requests as it needs, and its configuration and input are left in bench/out/ with the command that shows it again. The last line is
-`N passed, N failed`, and the status 0 only where nothing failed.
+with as few of its requests as it needs, and its configuration and input are left in bench/out/ with the command that shows it again. Standard error tells
+how many answers of each status were compared. The last line is `N passed, N failed`, and the status 0 only where nothing failed.
 """
 import argparse
-import json
+import collections
 import os
 import random
 import re
@@ -25,32 +25,18 @@ import sys
 import tempfile
 
 import bench
-import config_cases
 import oracle
 import oracle_bodies
 import oracle_config
 import oracle_names
-import policy_cases
-import request_cases
-import state_cases
-import worked_cases
+from all_cases import NOW, ROOT, Random, fixed_cases
 from oracle_table import GROUPS, having
 
-ROOT = os.path.dirname(os.path.dirname(os.path.realpath(__file__)))
 PROGRAM = os.path.join(ROOT, "crates", "af_server", "out", "af_server")
 OUT = os.path.join(ROOT, "bench", "out")
-NOW = "2024-01-01T00:00:00Z"
 SECONDS = 30
 MOST_TRIES = 300
 MOST_CONFIG = 100_000
-MOMENTS = [
-    *["2024-01-01T00:00:00.000001+00:00", "2024-01-01 00:00:00z", "20240101T000000Z", "2024-01-01T00Z", "2024-02-29T00:00Z", "2023-02-29T00:00Z"],
-    *["1970-01-01T00:00:00Z", "1969-12-31T23:59:59Z", "1969-12-31T23:59:59.9999999Z", "1970-01-01T01:00:00+01:00", "1970-01-01T00:00:00+01:00"],
-    *["9998-12-31T23:59:59.9999999Z", "9999-01-01T00:00:00Z", "2024-13-01T00:00:00Z", "2024-01-01T24:00:00Z", "2024-01-01T23:59:60Z", "2024-01-01T23:59:61Z"],
-    *["2024-01-01T00:00:00", "2024-01-01", "", "now", "0", " 2024-01-01T00:00:00Z", "2024-01-01T00:00:00Z ", "2024-01-01T00:00:00,5Z", "2024-01-01T00:00:00.Z"],
-    *["+002024-01-01T00:00:00Z", "2024-01-01T00:00:00.1234567891Z", "2024-01-01T00:00:00-0530", "2024-01-01T00:00:00+25:59", "2024-01-01T00:00:00+26:00"],
-    *["2024-01-01T00:00:00+01:60", "2024-1-01T00:00:00Z", "2024-01-01T00:00:00\u00a0Z", "-000000-01-01T00:00:00Z", "-002024-01-01T00:00:00Z"],
-]
 
 
 def ran(program, words, data):
@@ -64,6 +50,10 @@ def ran(program, words, data):
 def first_difference(wanted, got):
     at = next((i for i, (a, b) in enumerate(zip(wanted, got)) if a != b), min(len(wanted), len(got)))
     return f"byte {at}: wanted .. {wanted[max(0, at - 120):at + 200]!r}\n{' ' * len(f'byte {at}:')} got    .. {got[max(0, at - 120):at + 200]!r}"
+
+
+def statuses(text):
+    return re.findall(rb"HTTP/1\.1 (\d\d\d) ", text)
 
 
 def pieces_of(data):
@@ -84,7 +74,7 @@ class Files:
     """In place of a program: the cases as files for `rt try --cases`, which builds what is not proved yet and runs it on each."""
 
     def __init__(self, folder, has):
-        self.folder, self.has, self.passed, self.failed, self.answers, self.configs = folder, has, 0, 0, 0, {}
+        self.folder, self.has, self.passed, self.failed, self.answers, self.configs = folder, has, 0, 0, collections.Counter(), {}
         os.makedirs(os.path.join(folder, "cases"))
 
     def case(self, name, words, data):
@@ -99,7 +89,7 @@ class Files:
             file.write(config)
         out = oracle.run(words, data, self.has)[1]
         self.passed += 1
-        self.answers += out.count(b"HTTP/1.1 ")
+        self.answers.update(statuses(out))
         path = os.path.join(self.folder, "cases", f"n{self.passed}")
         for end, text in (("", data), (".args", f"{words[0]}\n{stem}\n{words[2]}\n".encode()), (".stdout", out)):
             with open(path + end, "wb") as file:
@@ -112,12 +102,12 @@ class Files:
 
 class Comparison:
     def __init__(self, program, has):
-        self.program, self.has, self.passed, self.failed, self.answers = program, has, 0, 0, 0
+        self.program, self.has, self.passed, self.failed, self.answers = program, has, 0, 0, collections.Counter()
 
     def case(self, name, words, data):
         """Runs one case; `words` name the configuration's file."""
         wanted, got = oracle.run(words, data, self.has), ran(self.program, words, data)
-        self.answers += wanted[1].count(b"HTTP/1.1 ")
+        self.answers.update(statuses(wanted[1]))
         if wanted == got:
             self.passed += 1
             return
@@ -174,65 +164,17 @@ def answer_as_baseline():
     oracle.USAGE = "usage: baseline once CONFIG NOW"
 
 
-def check_examples(it):
-    """The examples, against the files that stand beside them."""
-    folder = os.path.join(ROOT, "examples")
-    for name in sorted(os.listdir(os.path.join(folder, "expected"))):
-        stem = name.removesuffix(".out")
-        with open(os.path.join(folder, stem + ".http"), "rb") as file:
-            data = file.read()
-        with open(os.path.join(folder, "expected", name), "rb") as file:
-            expected = file.read()
-        words = ["once", os.path.join(folder, "base.json" if stem in ("viewer", "pause") else "team.json"), NOW]
-        if oracle.run(words, data, it.has)[1] != expected:
-            sys.exit(f"examples/expected/{name} is not what the oracle writes")
-        it.case(f"example {stem}", words, data)
-
-
-def check_calls(it, folder):
-    base = os.path.join(ROOT, "examples", "base.json")
-    no_end = b"GET / HT"
-    for words in ([], ["once"], ["once", base], ["once", base, NOW, "x"], ["Once", base, NOW], ["verify", base], ["serve", base, "0", "1"], ["once", "", NOW]):
-        it.case(f"call {words}", words, no_end)
-    for moment in MOMENTS:
-        it.case(f"moment {moment!r}", ["once", base, moment], request_cases.PLAIN)
-    it.case("no such file", ["once", os.path.join(folder, "none"), NOW], no_end)
-    it.case("a folder", ["once", folder, NOW], no_end)
-    it.case("a bad moment before a bad file", ["once", os.path.join(folder, "none"), "x"], no_end)
-
-
-def fixed_cases(it, folder, write):
-    """The examples, the calls, the worked connections, and what lies at the limits: once each."""
-    check_examples(it)
-    check_calls(it, folder)
-    words = ["once", os.path.join(ROOT, "examples", "base.json"), NOW]
-    with open(words[1], "rb") as file:
-        base = json.load(file)
-    for n, data in enumerate(request_cases.fixed_inputs(b"test")):
-        it.case(f"limit of requests {n}", words, data)
-    for title, _, now, members, steps in worked_cases.CONNECTIONS:
-        data = b"".join(worked_cases.request(*step[:3]) for step in steps)
-        it.case(f"worked: {title}", [*write(json.dumps({**base, **members}).encode())[:2], now], data)
-    for n, data in enumerate(state_cases.fixed()):
-        it.case(f"each operation {n}", words, data)
-    for n, data in enumerate(state_cases.fixed_rows()):
-        it.case(f"pools and variables {n}", words, data)
-    for n, data in enumerate(config_cases.fixed_configs()):
-        it.case(f"limit of configurations {n}", write(data), request_cases.list_request(b"test"))
-    for n, (data, requests) in enumerate(policy_cases.fixed_full()):
-        it.case(f"full lists {n}", write(data), requests)
-
-
 def main():
     options = argparse.ArgumentParser(description=__doc__, formatter_class=argparse.RawDescriptionHelpFormatter)
     options.add_argument("--program", default=None, metavar="COMMAND", help="in place of the built program")
     options.add_argument("--cases", type=int, default=2000, help="random cases (0 to 10,000,000)")
     options.add_argument("--seed", type=int, default=1)
-    options.add_argument("--has", type=having, default=having("landed"), metavar="NAMES", help=f"what the program has: {', '.join(GROUPS)}, or single names")
+    options.add_argument("--has", type=having, default=None, metavar="NAMES", help=f"what the program has: {', '.join(GROUPS)}, or single names")
     options.add_argument("--baseline", action="store_true", help="compile baseline.rs, and compare that")
     options.add_argument("--write", metavar="FOLDER", help="write the cases as files for `rt try --cases` into a new folder, and run nothing")
     options.add_argument("--random-only", action="store_true", help="without the examples and the limits")
     args = options.parse_args()
+    args.has = args.has or having("baseline" if args.baseline else "landed")
     program = shlex.split(args.program) if args.program else [PROGRAM]
     if args.baseline:
         bench.build_baseline()
@@ -257,24 +199,11 @@ def main():
             fixed_cases(it, folder, write)
         before = it.passed + it.failed
         print(f"{before} fixed cases, {it.failed} failed", file=sys.stderr)
+        cases = Random(rng, it, write, args.seed)
         for n in range(args.cases):
-            if n % 20 == 0:
-                made, tokens = config_cases.good(rng)
-                good = config_cases.written(rng, made)
-            if n % 4 == 3:
-                data = request_cases.list_request(rng.choice(config_cases.TOKENS))
-                spoil = lambda made: policy_cases.add_fault(rng, made)
-                it.case(f"seed {args.seed}, configuration {n}", write(config_cases.faulty(rng, spoil)), data)
-            elif n % 4 == 0:
-                it.case(f"seed {args.seed}, connection {n}", write(good), request_cases.connection(rng, tokens))
-            else:
-                if n % 8 == 1:
-                    state, users = state_cases.config(rng, args.has)
-                    wide = config_cases.written(rng, state)
-                data = state_cases.Asker(rng, state, users, args.has).connection()
-                words = write(wide)
-                it.case(f"seed {args.seed}, operations {n}", [*words[:2], rng.choice(state_cases.NOWS)], data)
-    print(f"{it.answers} answers", file=sys.stderr)
+            cases.case(n)
+    told = ", ".join(f"{count} of {status.decode()}" for status, count in sorted(it.answers.items()))
+    print(f"{sum(it.answers.values())} answers: {told}", file=sys.stderr)
     if args.write:
         print(it.command())
         sys.exit()

@@ -2,13 +2,14 @@
 """afplane once more, plain and slow, to compare its answers with.
 
   python3 bench/oracle.py CONFIG NOW < requests > answers
-  python3 bench/oracle.py --has landed,audit CONFIG NOW < requests > answers
+  python3 bench/oracle.py --has dags,variables CONFIG NOW < requests > answers
 
 It is written from the words that say what afplane does, not from its code: it reads the configuration
 (oracle_config.py), then the HTTP/1.1 requests of standard input, and answers them one after another (oracle_table.py has
-the operations, oracle_state.py and oracle_policy.py what they do). Its exit status and its words on standard error are
-the program's own. `--has` names the operations that there are: `landed` (where nothing is said), which is `dags`, `pools`,
-`variables`, `limits` and `pages`; `audit`, `policy`, `all`, or single ones.
+the operations, oracle_verdict.py the order of the rules, oracle_state.py and oracle_policy.py what is done). Its exit
+status and its words on standard error are the program's own. `--has` names the operations that there are: `landed` (where
+nothing is said), which is all that the program has, or fewer of them: `dags`, `pools`, `variables`, `limits`, `pages`,
+`audit`, `policy`, `baseline`, or single ones.
 """
 import re
 import sys
@@ -16,7 +17,8 @@ import sys
 from oracle_config import MOST_BYTES, Refused, read_config
 from oracle_json import compact
 from oracle_names import instant_of
-from oracle_table import LANDED, Plane as OpenPlane, decide, having, told
+from oracle_table import LANDED, having
+from oracle_verdict import Plane as OpenPlane, decide, told
 
 USAGE = "usage: afplane once CONFIG NOW | serve CONFIG PORT WORKERS | verify TRACE"
 MOST_HEAD, MOST_FIELDS, MOST_BODY, MOST_REQUESTS = 16384, 64, 65536, 1000

@@ -1,4 +1,8 @@
-"""What is read of a body, member by member: part of oracle.py."""
+"""What is read of a body, member by member: part of oracle.py.
+
+A body is read whole before anything else is asked of it: that it is a JSON object, and then each member, in the order in which the functions below take
+them. The first that is missing though needed, or of a wrong kind or value, is told. Members that the operation does not name are not looked at.
+"""
 from oracle_config import MOST_SLOTS
 from oracle_json import read_json
 from oracle_names import instant_of, is_label, is_pool_name, is_run_id, is_task_id, is_variable_key
@@ -47,10 +51,12 @@ def is_named(is_good):
 
 
 def is_pair(value):
+    """An action and a resource by any names: whether there are such is asked later."""
     return type(value) is dict and all(is_named(lambda it: True)(value.get(it)) for it in ("action", "resource"))
 
 
 def is_access(value):
+    """An object with, for names of roles, lists of texts: neither null nor anything else stands in place of a list."""
     return type(value) is dict and all(is_label(it) for it in value) and all(list_of(is_text)(it) for it in value.values())
 
 
@@ -114,6 +120,7 @@ def new_role_body(members):
 
 
 def role_names(members, default):
+    """A list of names that may be a role's; whether they are is asked later."""
     found = take(members, "roles", list_of(is_named(is_label)), default)
     return None if found is None else [it["name"] for it in found]
 

@@ -88,7 +88,12 @@ def read_users(config, roles):
 
 
 def read_access(config, policy):
-    """The policy after the `access_control` of each DAG."""
+    """The policy after the `access_control` of each DAG, which is version 0.
+
+    It is read after all DAGs, and they are taken in the order of the file, each as if it were synced: of one, that it is an object, and each of its
+    members a list of texts (`shape`), comes before the names of its roles (`name`), these before the actions (`action`), and these before the roles that
+    are not there (`role`). The roles are those of the policy, so a default one may stand here too.
+    """
     for row in rows(config, "dags"):
         access = member(row, "access_control", dict, required=False)
         for actions in (access or {}).values():
@@ -197,7 +202,7 @@ def read_dags(config, pools):
 
 
 def limit_of(config, name, most, default, obeyed, having):
-    """What a limit comes to: it is judged where it is read, and counts where it is obeyed."""
+    """What a limit comes to, an integer from 1: it is judged where it is read, and counts where it is obeyed. The two come last of all."""
     given = number(config, name, 1, most, default) if name in having else default
     return given if obeyed in having else default
 

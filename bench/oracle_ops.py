@@ -33,7 +33,7 @@ class Call:
         return policies.meets(self.granted, READ, DAGS, dag_id, [])
 
     def page(self, name, rows, show):
-        """A listing: the rows asked for, each as it is shown, and how many there are in all."""
+        """A listing of the rows that the user may see: so many are passed over, then so many shown, and all are counted."""
         return {name: [show(it) for it in rows[self.offset : self.offset + self.limit]], "total_entries": len(rows)}
 
 
@@ -153,11 +153,13 @@ def delete_variable(call):
 
 
 def list_entries(call):
+    """The entries in the order of their numbers: those of DAGs that the user reads, and those that name no DAG. The others are not counted either."""
     shown = [it for it in call.entries if it["dag_id"] is None or call.reads(it["dag_id"])]
     return call.state, call.page("event_logs", shown, lambda it: {**it, "when": isoformat(it["when"])})
 
 
 # ---- Operations of the policy --------------------------------------------------------------------------------
+# Who may read roles or users sees all of them, in byte order of name.
 
 
 def list_roles(call):
@@ -171,6 +173,7 @@ def show_role(call):
 
 
 def add_role(call):
+    """A change answers the row as it then stands; a deletion nothing."""
     policy = policies.add_role(call.policy, *call.input)
     return policy, lambda version: policies.show_role(policy, call.input[0])
 
@@ -208,9 +211,11 @@ def drop_user(call):
 
 
 def sync(call):
+    """It answers the DAG and the version that the sync made."""
     policy = policies.sync_dag(call.policy, *call.names, call.input)
     return policy, lambda version: {"dag_id": call.names[0], "policy_version": version}
 
 
 def me(call):
+    """Whoever brings a token that is somebody's may ask this."""
     return None, lambda version: policies.show_me(call.policy, version, call.user)

@@ -1,7 +1,19 @@
 """Who may do what, and how that changes, put plainly: part of oracle.py.
 
 A policy is replaced whole by each change, and never altered: roles are sets of pairs by name, users a digest and a list
-of role names by name.
+of role names by name. No two users have one digest, every role that a user names is there, and some user has Admin.
+
+The faults of a change are tested in this order, whatever the order of the body's members, and the first that applies is told:
+
+1. an action that there is not, the first in the body (of a sync by name of role, and then in the role's list);
+2. a pair that no role may have, the first in the body;
+3. a role that is named and is not there, the first in the body (of a sync by name);
+4. the role or the user that is changed or deleted is not there;
+5. it is a default role, which no one changes or deletes;
+6. the name is taken, or the digest is another user's: the name of the user that is added or changed is told;
+7. the role that is deleted is some user's;
+8. no user would have Admin;
+9. there would be more than 4,096 roles, the five default ones counted, or more than 65,536 users.
 """
 from dataclasses import dataclass, replace
 from functools import cached_property
@@ -11,6 +23,8 @@ from oracle_names import is_dag_id
 ACTIONS = ["can_create", "can_read", "can_edit", "can_delete"]
 DAG_ACTIONS = ["can_read", "can_edit", "can_delete"]
 RESOURCES = ["DAGs", "DAG Runs", "Task Instances", "Pools", "Variables", "Audit Logs", "Roles", "Users"]
+# Public may do nothing; Viewer reads DAGs, their runs and instances; User also edits and deletes these, and creates runs and instances; Op also has
+# all of pools and variables, and reads the event logs; Admin also has all of roles and users.
 VIEWER = {("can_read", it) for it in ("DAGs", "DAG Runs", "Task Instances")}
 USER = VIEWER | {(action, it) for action in ("can_edit", "can_delete") for it in ("DAGs", "DAG Runs", "Task Instances")}
 USER |= {("can_create", it) for it in ("DAG Runs", "Task Instances")}
@@ -46,7 +60,11 @@ class Policy:
 
 
 def meets(granted, action, resource, dag_id, dags):
-    """Whether a requirement is met: on DAGs at one DAG, on DAGs as a whole (no DAG named), or on anything else."""
+    """Whether a requirement is met.
+
+    One on DAGs is met by that action on `DAGs`; where it is at one DAG, also by the action on that DAG; where it names none, also by the action on some
+    DAG that is there. Any other requirement is met by just that permission.
+    """
     if resource != "DAGs" or (action, "DAGs") in granted:
         return (action, resource) in granted
     return any((action, "DAG:" + it) in granted for it in ([dag_id] if dag_id else dags))
@@ -60,6 +78,7 @@ def permission_text(action, resource, dag_id):
 
 
 def pair_order(pair):
+    """Pairs are shown in the order of resources, those of single DAGs last, by id; of one resource in the order of actions."""
     action, resource = pair
     place = RESOURCES.index(resource) if resource in RESOURCES else len(RESOURCES)
     return place, resource, ACTIONS.index(action)
@@ -71,10 +90,12 @@ def show_role(policy, name):
 
 
 def show_user(policy, name):
+    """A user with the roles in order of name; one that the user has twice is shown twice. The digest is told to nobody."""
     return {"roles": [{"name": it} for it in sorted(policy.users[name].roles)], "username": name}
 
 
 def show_me(policy, version, name):
+    """A user's own permissions: those of all the user's roles, each once, in the order in which a role's are shown."""
     texts = [f"{resource}.{action}" for action, resource in sorted(policy.grants(name), key=pair_order)]
     return {"permissions": texts, "policy_version": version, "roles": sorted(policy.users[name].roles), "username": name}
 
@@ -83,12 +104,14 @@ def show_me(policy, version, name):
 
 
 def is_allowed(action, resource):
+    """Whether a role may have the pair: on one of the eight resources, or on one DAG, there or not, where nothing is created."""
     if resource.startswith("DAG:") and is_dag_id(resource[4:]):
         return action != "can_create"
     return resource in RESOURCES
 
 
 def check_pairs(pairs):
+    """Every action is tested before any pair is."""
     for action, _ in pairs:
         if action not in ACTIONS:
             raise Fault("bad action", action)
@@ -109,11 +132,13 @@ def check_admin(users):
 
 
 def check_digest(policy, name, digest):
+    """A user may be given the digest that the user has."""
     if policy.by_digest.get(digest, name) != name:
         raise Fault("exists", name)
 
 
 def check_own_role(policy, name):
+    """The role is there, and is no default one."""
     if name not in policy.roles:
         raise Fault("no such role", name)
     if name in DEFAULT_ROLES:
@@ -135,6 +160,7 @@ def add_role(policy, name, pairs):
 
 
 def set_role(policy, name, pairs):
+    """The pairs take the place of all that the role had, those on single DAGs too."""
     check_pairs(pairs)
     check_own_role(policy, name)
     return replace(policy, roles={**policy.roles, name: frozenset(pairs)})
@@ -158,7 +184,7 @@ def add_user(policy, name, roles, digest):
 
 
 def set_user(policy, name, roles, digest):
-    """Roles and digest that are none stay as they are."""
+    """Roles and digest that are none stay as they are; roles that are given take the place of all that the user had."""
     check_roles_there(policy, roles or [])
     check_user_there(policy, name)
     if digest is not None:
@@ -178,7 +204,11 @@ def drop_user(policy, name):
 
 
 def sync_dag(policy, dag_id, access):
-    """Each role but Admin loses the DAG's own pairs, and those listed are added; none leaves all as it is."""
+    """What each role may do on one DAG, which need not be there.
+
+    Where nothing is listed (none), all stays as it is. Else each role but Admin loses the pairs on this DAG, and then each role, Admin too, gets those that
+    are listed for it: an empty list or no list takes away. The action on `DAGs` as a whole is left to the roles that have it.
+    """
     if access is None:
         return policy
     listed = sorted(access.items())

@@ -1,9 +1,8 @@
-"""The table of operations, and the verdict on a request: part of oracle.py.
+"""The table of operations, and which of them a request names: part of oracle.py.
 
 Which operations there are is a set of names, so that a program can be compared that has not all of them yet: a path that
 none of them has is not found, and `Allow` leaves the others out.
 """
-import hashlib
 from dataclasses import dataclass
 from urllib.parse import unquote_to_bytes
 
@@ -11,7 +10,6 @@ import oracle_bodies as bodies
 import oracle_names as names
 import oracle_ops as ops
 from oracle_ops import CREATE, DAGS, DELETE, EDIT, INSTANCES, LOGS, POOLS, READ, ROLES, RUNS, USERS, VARIABLES
-from oracle_policy import Fault, meets, permission_text
 
 KINDS = {
     "{dag_id}": names.is_dag_id,
@@ -35,9 +33,9 @@ class Operation:
     needs: list
     act: object
     body: object = None  # what reads its body, where it has one
-    event: object = None  # what the audit calls it, where it changes the state
-    is_listing: bool = False
-    on_policy: bool = False
+    event: object = None  # what the event logs call it, where it changes the state
+    is_listing: bool = False  # whether `limit` and `offset` are read
+    on_policy: bool = False  # whether it is of the policy, and not of the state
 
 
 def table():
@@ -110,9 +108,9 @@ GROUPS = {
     "audit": {"list_entries", "full_history"},
     "policy": {it.name for it in OPERATIONS if it.on_policy} | {"access_control", "full_versions"},
 }
-LANDED = GROUPS["dags"] | GROUPS["pools"] | GROUPS["variables"] | GROUPS["limits"] | GROUPS["pages"]
-GROUPS["landed"] = LANDED
+GROUPS["baseline"] = set().union(*(GROUPS[it] for it in ("dags", "pools", "variables", "limits")))
 GROUPS["all"] = set().union(*GROUPS.values())
+LANDED = GROUPS["landed"] = GROUPS["all"]
 
 
 def having(text):
@@ -159,139 +157,3 @@ def route(path, method, has):
     if any("{~}" in it.path for it, _ in found):
         return None, []
     return None, sorted({it.method for it, _ in found}, key=METHODS.index)
-
-
-# ---- The verdict ---------------------------------------------------------------------------------------------
-
-TITLES = {
-    400: "Bad Request",
-    401: "Unauthorized",
-    403: "Forbidden",
-    404: "Not Found",
-    405: "Method Not Allowed",
-    409: "Conflict",
-    413: "Content Too Large",
-    431: "Request Header Fields Too Large",
-    501: "Not Implemented",
-    507: "Insufficient Storage",
-}
-
-
-def told(status, detail, *fields):
-    """A fault: its status line's end, its body and its fields."""
-    body = {"detail": detail, "status": status, "title": TITLES[status], "type": "about:blank"}
-    return f"{status} {TITLES[status]}", body, list(fields)
-
-
-def status_of(fault):
-    """The status of a permitted operation's fault."""
-    kind, _ = fault.args
-    if kind in ("bad action", "pair not allowed", "unknown role"):
-        return 400
-    if kind.startswith("no such "):
-        return 404
-    return 507 if kind.endswith(" full") else 409
-
-
-def parameters(query):
-    """`limit` and `offset`, each the first of its name."""
-    given = {}
-    for piece in query.split(b"&"):
-        name, _, value = piece.partition(b"=")
-        given.setdefault(unquote_to_bytes(name.replace(b"+", b" ")), unquote_to_bytes(value.replace(b"+", b" ")))
-    found = []
-    for name, default in (("limit", ops.PAGE), ("offset", 0)):
-        digits = given.get(name.encode())
-        if digits is not None and not (digits and all(it in b"0123456789" for it in digits)):
-            raise bodies.BadInput(f"bad parameter: {name}")
-        short = None if digits is None else digits.lstrip(b"0") or b"0"
-        found.append(default if short is None else int(short) if len(short) < 18 else 10**18)
-    return {"limit": min(found[0], ops.PAGE), "offset": found[1]}
-
-
-def permitted(plane, operation, parts, token):
-    """Who brings the token and what it grants; a fault where that is nobody, or a permission is missing."""
-    policy = plane.versions[-1]
-    user = None if token is None else policy.by_digest.get(hashlib.sha256(token).digest())
-    if user is None:
-        return None, None, told(401, "authentication required", "WWW-Authenticate: Bearer")
-    granted, dag_id = policy.grants(user), parts[0] if "{dag_id}" in operation.path else None
-    for action, resource in operation.needs:
-        if not meets(granted, action, resource, dag_id, plane.state.dags):
-            return user, granted, told(403, f"missing permission {permission_text(action, resource, dag_id)}")
-    return user, granted, None
-
-
-def done_on_state(plane, operation, call):
-    """What is answered, and one entry more where the state has changed."""
-    state, answer = operation.act(call)
-    if state != plane.state:
-        if len(plane.entries) >= plane.most_entries:
-            raise Fault("history full", None)
-        plane.state = state
-        plane.record(operation, call)
-    return answer
-
-
-def done_on_policy(plane, operation, call):
-    """What is answered, and one version more where the policy was to change."""
-    policy, answer = operation.act(call)
-    if policy is not None:
-        if len(plane.versions) > plane.most_versions:
-            raise Fault("versions full", None)
-        plane.versions.append(policy)
-    return answer(len(plane.versions) - 1)
-
-
-def decide(plane, method, target, token, body):
-    """Status and reason, the body or none, and the fields of the answer to a request."""
-    path, _, query = target.partition(b"?")
-    if path == b"/api/v1/version":
-        if method != b"GET":
-            return told(405, "method not allowed", "Allow: GET")
-        return "200 OK", {"git_version": None, "version": "afplane 1"}, []
-    operation, parts = route(path, method, plane.has)
-    if operation is None:
-        return told(405, "method not allowed", "Allow: " + ", ".join(parts)) if parts else told(404, "no such path")
-    user, granted, denied = permitted(plane, operation, parts, token)
-    if denied is None:
-        call = ops.Call(plane.versions[-1], plane.state, plane.entries, user, granted, plane.now, parts)
-        try:
-            if operation.is_listing and "pages" in plane.has:
-                call.limit, call.offset = parameters(query).values()
-            if operation.body:
-                call.input = bodies.read_body(body, operation.body)
-            answer = (done_on_policy if operation.on_policy else done_on_state)(plane, operation, call)
-            decided = ("200 OK" if answer is not None else "204 No Content", answer, [])
-        except bodies.BadInput as why:
-            decided = told(400, why.args[0])
-        except Fault as why:
-            decided = told(status_of(why), ": ".join(it for it in why.args if it is not None))
-    status, answer, fields = denied or decided
-    fields.append(f"X-Policy-Version: {len(plane.versions) - 1}")
-    if not operation.on_policy:
-        fields.append(f"X-Plane-Seq: {len(plane.entries)}")
-    return status, answer, fields
-
-
-class Plane:
-    """The opening and what came of it: policies by version, the state, the entries; and which operations there are."""
-
-    def __init__(self, opening, now=0, has=frozenset(LANDED)):
-        policy, self.state, self.most_entries, self.most_versions = opening
-        self.versions, self.entries, self.now, self.has = [policy], [], now, has
-
-    def add_entry(self, event, owner, now, dag_id=None, run_id=None, task_id=None):
-        told_of = {"dag_id": dag_id, "event": event, "event_log_id": len(self.entries) + 1, "owner": owner}
-        told_of.update({"policy_version": len(self.versions) - 1, "run_id": run_id, "task_id": task_id, "when": now})
-        self.entries.append(told_of)
-
-    def record(self, operation, call):
-        """The entry of a change that a user has made."""
-        named = dict(zip([it for it in operation.path if it in KINDS], call.names))
-        run_id = named.get("{dag_run_id}")
-        if operation.name == "trigger_run":
-            run_id = self.state.runs[-1].run_id
-        if operation.name == "clear_instances":
-            run_id = call.input["run_id"]
-        self.add_entry(operation.event, call.user, self.now, named.get("{dag_id}"), run_id)

@@ -2,23 +2,23 @@
 """Answers that are written out by hand, of which the oracle must give each byte.
 
   python3 bench/oracle_test.py
+  python3 -m unittest discover -s bench -p '*_test.py'       with the other tests of the oracle
 """
 import json
-import os
 import unittest
 
 import oracle
 import oracle_names as names
 import oracle_state
 import worked_cases
+import worked_policies
 from oracle_names import instant_of, isoformat
-from oracle_sched import claim, report, tick
 from oracle_policy import Fault
-from oracle_table import having
-from worked_cases import request
+from oracle_sched import claim, report, tick
+from oracle_table import OPERATIONS, having, route
+from test_tools import BASE, NOW, one_answer, opened
+from worked_rows import exchanges, request
 
-BASE = os.path.join(os.path.dirname(os.path.realpath(__file__)), "..", "examples", "base.json")
-NOW = "2024-01-01T00:00:00Z"
 VERSION = b"GET /api/v1/version HTTP/1.1\r\nHost: h\r\n\r\n"
 VERSION_ANSWER = (
     b'HTTP/1.1 200 OK\r\nContent-Type: application/json\r\nContent-Length: 42\r\n\r\n{"git_version":null,"version":"afplane 1"}'
@@ -97,106 +97,36 @@ class Answers(unittest.TestCase):
             self.assertIsNone(instant_of(text))
         self.assertEqual(instant_of("9998-12-31T23:59:59.9999999Z"), names.LAST)
 
-    def test_refused_configurations(self):
-        user = {"username": "u", "roles": [{"name": "Admin"}], "token_sha256": "0" * 64}
-        cycle = {"tasks": [{"task_id": "x", "upstream": ["y"]}, {"task_id": "y", "upstream": ["x"]}]}
-        one = {"tasks": [{"task_id": "t"}]}
-        for reason, dag, more in (
-            ("graph", cycle, {}),
-            ("graph", {}, {}),
-            ("pool", {"tasks": [{"task_id": "t", "pool": "p"}]}, {}),
-            ("schedule", {**one, "schedule": "@daily"}, {}),
-            ("schedule", {**one, "schedule": "@yearly", "start_date": NOW}, {}),
-            ("limit", {**one, "schedule": 0, "start_date": NOW}, {}),
-            ("shape", {**one, "schedule": 1.5, "start_date": NOW}, {}),
-            ("role", {**one, "access_control": {"Nobody": ["can_read"]}}, {}),
-            ("action", {**one, "access_control": {"Nobody": ["can_create"]}}, {}),
-            ("name", {**one, "access_control": {"": ["can_create"]}}, {}),
-            ("shape", {**one, "access_control": {"Viewer": None}}, {}),
-            ("duplicate", one, {"variables": [{"key": "k", "value": ""}] * 2}),
-            ("name", one, {"variables": [{"key": "", "value": 1}]}),
-            ("shape", one, {"variables": [{"key": "k", "value": 1}]}),
-            ("shape", one, {"variables": {}}),
-            ("shape", one, {"variables": ["k"]}),
-            ("shape", one, {"variables": [{"key": "k"}]}),
-            ("name", one, {"variables": [{"key": "k" * 251, "value": ""}]}),
-            ("name", {}, {"variables": [{"key": "\u00e9", "value": ""}]}),
-            ("duplicate", one, {"pools": [{"name": "p", "slots": 1}] * 2, "variables": 1}),
-            ("limit", one, {"history_limit": 0}),
-            ("limit", one, {"history_limit": 2**32 - 1}),
-            ("limit", one, {"version_limit": 2**32}),
-            ("limit", one, {"version_limit": 0}),
-            ("shape", one, {"history_limit": 1.0}),
-            ("shape", one, {"history_limit": True, "version_limit": 0}),
-            ("limit", one, {"history_limit": -1, "version_limit": "1"}),
-            ("graph", {}, {"history_limit": 0}),
-            ("role", {**one, "access_control": {"Nobody": ["can_read"]}}, {"history_limit": 0}),
-            ("admin", one, {"users": []}),
-        ):
-            with self.subTest(reason=reason, dag=dag, more=more), self.assertRaises(oracle.Refused) as why:
-                oracle.Plane(json.dumps({"users": [user], "dags": [{"dag_id": "a", **dag}], **more}).encode(), has=having("all"))
-            self.assertEqual(why.exception.args[0], reason)
-
-    def test_limits(self):
-        for limits, wanted in (
-            ({}, (1_000_000, 2**32 - 1)),
-            ({"history_limit": None, "version_limit": None}, (1_000_000, 2**32 - 1)),
-            ({"history_limit": 1, "version_limit": 1}, (1, 1)),
-            ({"history_limit": 2**32 - 2, "version_limit": 2**32 - 1}, (2**32 - 2, 2**32 - 1)),
-        ):
-            plane = opened("all", members=limits.items())
-            self.assertEqual((plane.most_entries, plane.most_versions), wanted)
-            plane = opened("landed", members=limits.items())
-            self.assertEqual((plane.most_entries, plane.most_versions), (1_000_000, 2**32 - 1))
-
-    def test_full_lists(self):
-        rows = {"pools": [{"name": f"p{n}", "slots": 1} for n in range(65534)], "variables": [{"key": f"k{n}", "value": ""} for n in range(65535)]}
-        plane = opened("landed", members=rows.items())
-        for path, body in (("pools", '{"name":"%s","slots":1}'), ("variables", '{"key":"%s","value":""}')):
-            for name, wanted in (("x", 200), ("x", "exists: x"), ("y", "too many")):
-                status, told, *_ = one_answer(plane, request("adam", f"POST /{path}", body % name))
-                self.assertIn(wanted, (status, told))
-            _, told, *_ = one_answer(plane, request("adam", f"GET /{path}"))
-            self.assertEqual((len(json.loads(told)[path]), json.loads(told)["total_entries"]), (100, 65536))
-
     def test_refused_calls(self):
         usage = b"usage: afplane once CONFIG NOW | serve CONFIG PORT WORKERS | verify TRACE\n"
         self.assertEqual(oracle.run(["once", BASE], b""), (2, b"", usage))
         self.assertEqual(oracle.run(["once", BASE + "x", NOW], b""), (3, b"", b"afplane: configuration refused: unreadable\n"))
 
 
-def one_answer(plane, data):
-    """Status, what is told, version and number of entries of the answer to one request; none for a field that is not there."""
-    text, closed = oracle.answers(plane, data)
-    assert closed
-    head, _, body = text.decode().partition("\r\n\r\n")
-    status, *lines = head.split("\r\n")
-    fields = dict(it.split(": ", 1) for it in lines)
-    assert int(fields.get("Content-Length", 0)) == len(body.encode())
-    numbers = [int(fields[it]) if it in fields else None for it in ("X-Policy-Version", "X-Plane-Seq")]
-    status = int(status.split(" ")[1])
-    return status, body if status < 300 else json.loads(body)["detail"], *numbers
-
-
-def opened(has, now=NOW, members=()):
-    """What stands when base.json, with some members changed, has been read."""
-    with open(BASE, "rb") as file:
-        config = json.dumps({**json.load(file), **dict(members)}).encode()
-    return oracle.Plane(config, instant_of(now), having(has))
-
-
 class Connections(unittest.TestCase):
     def test_worked_connections(self):
-        for title, has, now, members, steps in worked_cases.CONNECTIONS:
+        """Each answer, byte for byte, by what the connection wants alone and by all that there is."""
+        for title, has, now, members, steps in worked_cases.CONNECTIONS + worked_policies.CONNECTIONS:
             for names in (has, "all"):
-                if names == "all" and title.endswith(" yet"):
-                    continue
-                plane, version = opened(names, now, members.items()), 0
-                for name, asked, body, status, wanted, seq, *more in steps:
-                    with self.subTest(title=title, has=names, name=name, asked=asked, body=body):
-                        version = more[0] if more and more[0] is not None else version
-                        got = one_answer(plane, worked_cases.request(name, asked, body))
-                        self.assertEqual(got, (status, got[1] if wanted is None else wanted, None if more == [None] else version, seq))
+                plane = opened(names, now, members.items())
+                for number, (asked, wanted) in enumerate(exchanges(steps)):
+                    with self.subTest(title=title, has=names, step=steps[number][:3]):
+                        self.assertEqual(oracle.answers(plane, asked), (wanted, True))
+
+    def test_worked_operations(self):
+        """Of each operation some connection has a success; of those on event logs and policies also a denial and, where there is a body, a fault of it."""
+        seen = set()
+        for _, has, now, members, steps in worked_cases.CONNECTIONS + worked_policies.CONNECTIONS:
+            for (_, asked, *_), (_, wanted) in zip(steps, exchanges(steps)):
+                method, path = asked.split(" ")
+                path = (path if path.startswith("/own/") else "/api/v1" + path).partition("?")[0]
+                operation, _ = route(path.encode(), method.encode(), having("all"))
+                seen |= {(operation.name, int(wanted[9:12]))} if operation else set()
+        for it in OPERATIONS:
+            self.assertTrue({(it.name, 200), (it.name, 204)} & seen, it.name)
+        for it in (it for it in OPERATIONS if it.on_policy or it.name == "list_entries"):
+            self.assertTrue(not it.needs or (it.name, 403) in seen, it.name)
+            self.assertTrue(not it.body or (it.name, 400) in seen, it.name)
 
     def test_clear_and_try_again(self):
         plane, now = opened("all"), instant_of(NOW)

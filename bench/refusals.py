@@ -1,15 +1,16 @@
 #!/usr/bin/env python3
 """Refuses each allocation of afplane in turn, and looks at what it does then.
 
-  python3 bench/refusals.py                           the examples, and each kind of change: a DAG paused, a run triggered
+  python3 bench/refusals.py                           the examples, each kind of change, event logs, readings of the policy, faults
   python3 bench/refusals.py --program 'PATH/PROGRAM'
   python3 bench/refusals.py --has dags,variables      the changes of these kinds alone
   python3 bench/refusals.py --tests                   each test of the crates below af_http whose tests `rt test` has built
 
 A run is refused its first allocation, the next its second, and so on, until a run meets none to refuse. Each is to end in
 one of four ways: as the run with all its memory does, which is as the oracle says; with some of its answers, whole and in
-order, and then the fixed 503, status 1; the same with the fixed 500, where the next answer is that of a change; or with the
-configuration refused for want of memory, status 3, and nothing on standard output. Where each request names a path or a
+order, and then the fixed 503, status 1; the same with the fixed 500, where the next answer is that of a change of the state, which makes an entry; or with the
+configuration refused for want of memory, status 3, and nothing on standard output. The reply to a change of the policy is made before the change is,
+so it is never lost: no 500 stands in its place. Where each request names a path or a
 method that is not there, the 503 comes at the opening alone. A test is to pass, or to end in the fault for want of memory and in no other. The last line is `N runs as they must be, M not`, and the
 status 0 only where M is 0. It wants a C compiler (`cc`).
 """
@@ -23,11 +24,9 @@ import sys
 
 import oracle
 from oracle_table import GROUPS, having
-from request_cases import head, with_body
+from refusal_cases import EXAMPLES, OUT, ROOT, inputs
 
-ROOT = os.path.dirname(os.path.dirname(os.path.realpath(__file__)))
 PROGRAM = os.path.join(ROOT, "crates", "af_server", "out", "af_server")
-OUT = os.path.join(ROOT, "bench", "out")
 NOW = "2024-01-01T00:00:00Z"
 BODY = b'{"detail":"out of memory","status":503,"title":"Service Unavailable","type":"about:blank"}'
 NO_MEMORY = (
@@ -39,75 +38,6 @@ REPLY_LOST = (
 )
 REFUSED = b"afplane: configuration refused: memory\n"
 MOST = 100_000
-INPUTS = [("base.json", "viewer.http"), ("team.json", "one-team.http"), ("team.json", "denied.http"), ("team.json", "wrong-token.http"), ("base.json", "pause.http"), ("team.json", "morning.http")]
-INPUTS += [("team.json", it) for it in ("everything.http", "pools.http", "variables.http")]
-# Changes over base.json, of each kind one or more, after what has to stand before them; what they do is looked at, and they are asked for again. Of
-# one kind the last is the one that is done before others.
-CHANGES = [
-    ("patch_dag", "PATCH /dags/b", '{"is_paused":true}', "/dags/b"),
-    ("patch_dag", "PATCH /dags/a", '{"is_paused":false}', "/dags"),
-    ("trigger_run", "POST /dags/b/dagRuns", "{}", "/dags/b/dagRuns"),
-    ("trigger_run", "POST /dags/b/dagRuns", '{"dag_run_id":"r2"}', "/dags/b/dagRuns/r2"),
-    ("trigger_run", "POST /dags/b/dagRuns", '{"dag_run_id":"r2","logical_date":"2024-02-29T12:00:00.5Z","conf":{}}', "/dags/~/dagRuns"),
-    ("trigger_run", "POST /dags/b/dagRuns", '{"execution_date":"2024-02-29T12:00:00+01:00"}', "/dags/b/dagRuns"),
-    ("trigger_run", "POST /dags/b/dagRuns", '{"dag_run_id":"r1"}', "/dags/b/dagRuns/r1"),
-    ("mark_run", "PATCH /dags/b/dagRuns/r1", '{"state":"failed"}', "/dags/b/dagRuns/r1"),
-    ("delete_run", "DELETE /dags/b/dagRuns/r1", "", "/dags/b/dagRuns"),
-    ("clear_run", "POST /dags/b/dagRuns/r1/clear", '{"dry_run":false}', "/dags/b/dagRuns/r1"),
-    ("clear_instances", "POST /dags/b/clearTaskInstances", '{"dry_run":false,"only_failed":false}', "/dags/b/dagRuns/r1/taskInstances"),
-    ("add_pool", "POST /pools", '{"name":"q \\u0072","slots":0}', "/pools/q%20r"),
-    ("add_pool", "POST /pools", '{"name":"p","slots":2}', "/pools"),
-    ("set_pool", "PATCH /pools/default_pool", '{"slots":2}', "/pools"),
-    ("delete_pool", "DELETE /pools/p", "", "/pools"),
-    ("add_variable", "POST /variables", '{"key":"a \\"b\\"","value":"' + "\\n" * 300 + '"}', "/variables/a%20%22b%22"),
-    ("add_variable", "POST /variables", '{"key":"k","value":"v"}', "/variables"),
-    ("set_variable", "PATCH /variables/k", '{"value":"w"}', "/variables"),
-    ("set_variable", "PATCH /variables/k", '{"value":"' + "w" * 300 + '"}', "/variables/k"),
-    ("delete_variable", "DELETE /variables/k", "", "/variables"),
-    ("add_role", "POST /roles", '{"name":"X","actions":[]}', "/roles"),
-    ("set_role", "PATCH /roles/EditB", '{"actions":[]}', "/roles/EditB"),
-    ("drop_role", "DELETE /roles/X", "", "/roles"),
-    ("add_user", "POST /users", '{"username":"x","roles":[],"token_sha256":"' + "0" * 64 + '"}', "/users"),
-    ("set_user", "PATCH /users/bob", '{"roles":[]}', "/users/bob"),
-    ("drop_user", "DELETE /users/zoe", "", "/users"),
-    ("sync", "POST /own/dags/b/sync", '{"access_control":{"OnlyB":[]}}', "/roles/OnlyB"),
-]
-# What has to be done before them.
-BEFORE = {"trigger_run": ["trigger_run"], "mark_run": ["trigger_run"], "delete_run": ["trigger_run"], "clear_run": ["mark_run"], "clear_instances": ["mark_run"]}
-BEFORE.update({"delete_pool": ["add_pool"], "set_variable": ["add_variable"], "delete_variable": ["add_variable"], "drop_role": ["add_role"]})
-# Paths and methods that are not there: no memory is wanted to say so.
-NOWHERE = ["GET /nope", "GET /dags/%20", "PUT /dags/%62", "GET /dags/b/dagRuns/%FF", "GET /dags/%7E/dagRuns/r1", "DELETE /dags/b/dagRuns"]
-SETUP = {"trigger_run": ("POST /dags/b/dagRuns", '{"dag_run_id":"r1","logical_date":"2023-12-31T00:00:00Z"}')}
-
-
-def request(asked, body=""):
-    """A request by adam, who may do everything."""
-    method, path = asked.split(" ")
-    first = f"{method} {path if path.startswith('/own/') else '/api/v1' + path} HTTP/1.1".encode()
-    if method in ("POST", "PATCH"):
-        return with_body(first, b"admin", body.encode())
-    return head(first, [b"Host: h", b"Authorization: Bearer admin"])
-
-
-def done_before(name):
-    """The requests after which a change is one."""
-    rows = {it[0]: it[1:3] for it in CHANGES}
-    text = b""
-    for it in BEFORE.get(name, []):
-        text += (b"" if it in SETUP else done_before(it)) + request(*SETUP.get(it, rows[it]))
-    return text
-
-
-def inputs(has):
-    """Name, configuration and requests of each case."""
-    for config, requests in INPUTS:
-        with open(os.path.join(ROOT, "examples", requests), "rb") as file:
-            yield f"{config} {requests}", config, file.read()
-    yield "nowhere", "base.json", b"".join(request(asked) for asked in NOWHERE)
-    for name, asked, body, look in CHANGES:
-        if name in has:
-            change = request(asked, body)
-            yield f"{asked} {body}", "base.json", done_before(name) + change + request(f"GET {look}") + change
 
 
 def build():
@@ -197,21 +127,21 @@ def refuse_program(program, library, has):
     return right, wrong
 
 
-def numbers_in(answer):
-    """The version and the number of entries that an answer names."""
-    return [int(it) for it in re.findall(rb"\r\nX-P\w+-\w+: (\d+)", answer.split(b"\r\n\r\n")[0])]
+def entries_in(answer):
+    """The number of entries that an answer names, or none."""
+    found = re.search(rb"\r\nX-Plane-Seq: (\d+)\r\n", answer.split(b"\r\n\r\n")[0] + b"\r\n")
+    return found and int(found[1])
 
 
 def fronts_of(text):
-    """Fronts of the output that end with an answer, and those after which a change is answered."""
+    """Fronts of the output that end with an answer, and those after which a change of the state is answered: there is one entry more."""
     ends = answers_in(text)
-    fronts, changed, last = [text[:end] for end in ends], [], [0, 0]
+    fronts, changed, last = [text[:end] for end in ends], [], 0
     for start, end in zip(ends, ends[1:]):
-        numbers = numbers_in(text[start:end])
-        now = [*numbers, last[1]][:2] if numbers else last
-        if now != last:
+        now = entries_in(text[start:end])
+        if now is not None and now != last:
             changed.append(text[:start])
-        last = now
+            last = now
     return fronts, changed
 
 
@@ -225,7 +155,7 @@ def is_right(whole, fronts, changed, status, out, err):
 
 def refuse_each(program, library, has, name, config, data):
     """How many runs ended as they must, and how many did not."""
-    words = ["once", os.path.join(ROOT, "examples", config), NOW]
+    words = ["once", os.path.join(EXAMPLES, config), NOW]
     *whole, _ = run(program, words, data)
     whole = tuple(whole)
     if whole != oracle.run(words, data, has):

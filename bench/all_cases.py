@@ -1,0 +1,123 @@
+"""The cases of differential.py, in order: the examples, the calls, the worked connections, and what lies at the limits, once each; then random ones."""
+import json
+import os
+import sys
+
+import config_cases
+import fault_cases
+import mixed_cases
+import oracle
+import oracle_names
+import policy_cases
+import request_cases
+import state_cases
+import worked_cases
+import worked_policies
+from oracle_table import having
+from worked_rows import exchanges
+
+ROOT = os.path.dirname(os.path.dirname(os.path.realpath(__file__)))
+NOW = "2024-01-01T00:00:00Z"
+ON_BASE = ("viewer", "pause")  # the examples over base.json; the others are over team.json
+MOMENTS = [
+    *["2024-01-01T00:00:00.000001+00:00", "2024-01-01 00:00:00z", "20240101T000000Z", "2024-01-01T00Z", "2024-02-29T00:00Z", "2023-02-29T00:00Z"],
+    *["1970-01-01T00:00:00Z", "1969-12-31T23:59:59Z", "1969-12-31T23:59:59.9999999Z", "1970-01-01T01:00:00+01:00", "1970-01-01T00:00:00+01:00"],
+    *["9998-12-31T23:59:59.9999999Z", "9999-01-01T00:00:00Z", "2024-13-01T00:00:00Z", "2024-01-01T24:00:00Z", "2024-01-01T23:59:60Z", "2024-01-01T23:59:61Z"],
+    *["2024-01-01T00:00:00", "2024-01-01", "", "now", "0", " 2024-01-01T00:00:00Z", "2024-01-01T00:00:00Z ", "2024-01-01T00:00:00,5Z", "2024-01-01T00:00:00.Z"],
+    *["+002024-01-01T00:00:00Z", "2024-01-01T00:00:00.1234567891Z", "2024-01-01T00:00:00-0530", "2024-01-01T00:00:00+25:59", "2024-01-01T00:00:00+26:00"],
+    *["2024-01-01T00:00:00+01:60", "2024-1-01T00:00:00Z", "2024-01-01T00:00:00\u00a0Z", "-000000-01-01T00:00:00Z", "-002024-01-01T00:00:00Z"],
+]
+
+
+def check_examples(it):
+    """The examples, against the files that stand beside them."""
+    folder = os.path.join(ROOT, "examples")
+    for name in sorted(os.listdir(os.path.join(folder, "expected"))):
+        stem = name.removesuffix(".out")
+        with open(os.path.join(folder, stem + ".http"), "rb") as file:
+            data = file.read()
+        with open(os.path.join(folder, "expected", name), "rb") as file:
+            expected = file.read()
+        words = ["once", os.path.join(folder, "base.json" if stem in ON_BASE else "team.json"), NOW]
+        if oracle.run(words, data)[1] != expected:
+            sys.exit(f"examples/expected/{name} is not what the oracle writes")
+        it.case(f"example {stem}", words, data)
+
+
+def check_worked(it, base, write):
+    """The connections that were worked out by hand, against the bytes that were."""
+    for title, has, now, members, steps in worked_cases.CONNECTIONS + worked_policies.CONNECTIONS:
+        asked, wanted = (b"".join(texts) for texts in zip(*exchanges(steps)))
+        words = [*write(json.dumps({**base, **members}).encode())[:2], now]
+        if oracle.run(words, asked, having(has)) != (0, wanted, b""):
+            sys.exit(f"differential.py: the oracle does not write what was worked out: {title}")
+        it.case(f"worked: {title}", words, asked)
+
+
+def check_calls(it, folder):
+    base = os.path.join(ROOT, "examples", "base.json")
+    no_end = b"GET / HT"
+    for words in ([], ["once"], ["once", base], ["once", base, NOW, "x"], ["Once", base, NOW], ["verify", base], ["serve", base, "0", "1"], ["once", "", NOW]):
+        it.case(f"call {words}", words, no_end)
+    for moment in MOMENTS:
+        it.case(f"moment {moment!r}", ["once", base, moment], request_cases.PLAIN)
+    it.case("no such file", ["once", os.path.join(folder, "none"), NOW], no_end)
+    it.case("a folder", ["once", folder, NOW], no_end)
+    it.case("a bad moment before a bad file", ["once", os.path.join(folder, "none"), "x"], no_end)
+
+
+def fixed_cases(it, folder, write):
+    """The examples, the calls, the worked connections, and what lies at the limits: once each."""
+    check_examples(it)
+    check_calls(it, folder)
+    words = ["once", os.path.join(ROOT, "examples", "base.json"), NOW]
+    with open(words[1], "rb") as file:
+        base = json.load(file)
+    for n, data in enumerate(request_cases.fixed_inputs(b"test")):
+        it.case(f"limit of requests {n}", words, data)
+    check_worked(it, base, write)
+    for n, data in enumerate(state_cases.fixed()):
+        it.case(f"each operation {n}", words, data)
+    for n, data in enumerate(state_cases.fixed_rows()):
+        it.case(f"pools and variables {n}", words, data)
+    for n, data in enumerate(config_cases.fixed_configs()):
+        it.case(f"limit of configurations {n}", write(data), request_cases.list_request(b"test"))
+    for n, (data, requests) in enumerate(policy_cases.fixed_full()):
+        it.case(f"full lists {n}", write(data), requests)
+    for n, (members, requests) in enumerate(fault_cases.fixed(base)):
+        it.case(f"changes of the policy {n}", write(json.dumps({**base, **members}).encode()), requests)
+
+
+class Random:
+    """The random cases, one after another: a quarter each configurations with faults, hostile requests, operations on few names, and long connections
+    in which users and roles come and go (where the program has changes of the policy; else operations again)."""
+
+    def __init__(self, rng, it, write, seed):
+        self.rng, self.it, self.write, self.seed, self.has = rng, it, write, seed, it.has
+
+    def case(self, n):
+        if n % 20 == 0:
+            made, self.tokens = config_cases.good(self.rng)
+            self.good = config_cases.written(self.rng, made)
+        kinds = [self.hostile, self.operations, self.mixed if "set_user" in self.has else self.operations, self.configuration]
+        if n % 8 == 1:
+            self.state, self.users = state_cases.config(self.rng, self.has)
+            self.wide = config_cases.written(self.rng, self.state)
+        kinds[n % 4](f"seed {self.seed}, case {n}")
+
+    def configuration(self, name):
+        data = request_cases.list_request(self.rng.choice(config_cases.TOKENS))
+        self.it.case(name, self.write(config_cases.faulty(self.rng, lambda made: policy_cases.add_fault(self.rng, made))), data)
+
+    def hostile(self, name):
+        self.it.case(name, self.write(self.good), request_cases.connection(self.rng, self.tokens))
+
+    def operations(self, name):
+        data = state_cases.Asker(self.rng, self.state, self.users, self.has).connection()
+        self.it.case(name, [*self.write(self.wide)[:2], self.rng.choice(state_cases.NOWS)], data)
+
+    def mixed(self, name):
+        made, tokens = state_cases.config(self.rng, self.has)
+        now = self.rng.choice(state_cases.NOWS)
+        data = mixed_cases.Mixer(self.rng, made, tokens, oracle_names.instant_of(now), self.has).connection()
+        self.it.case(name, [*self.write(config_cases.written(self.rng, made))[:2], now], data)
