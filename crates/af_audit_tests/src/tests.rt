@@ -1,3 +1,4 @@
+mod asserts;
 mod entries;
 mod event_logs;
 mod opening;

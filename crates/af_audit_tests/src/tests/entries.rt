@@ -1,4 +1,5 @@
 //! What the entries of a ledger say: their numbers, who did what, when, and under which policy version.
+use crate::tests::asserts::row_holds;
 use crate::tests::opening::ledger;
 use crate::tests::playing::{EVERYBODY, NOBODY, Readers, played};
 use crate::tests::rows::{FAILED, JANUARY, MARCH, POOLS, VARIABLES};
@@ -43,9 +44,16 @@ fn failed(alloc: Global) -> Result<Ledger, Fail> {
 /// Whether the entries after these rows are of these events, and name no DAG.
 fn are_events(alloc: Global, rows: &[Row], events: &[&str]) -> Result<bool, Fail> {
     let ledger = after(alloc, rows)?;
-    let entries = ledger.audit().entries();
-    let mut pairs = entries.iter().zip(events);
-    Ok(entries.len() == events.len() && pairs.all(|pair| is_event(pair.0, *pair.1)))
+    Ok(have_events(ledger.audit().entries(), events))
+}
+
+fn have_events(entries: &[Entry], events: &[&str]) -> bool {
+    for (entry, event) in entries.iter().zip(events) {
+        if !is_event(entry, event) {
+            return false;
+        }
+    }
+    entries.len() == events.len()
 }
 
 fn is_event(entry: &Entry, event: &str) -> bool {
@@ -65,11 +73,17 @@ fn entries_name_changes_of_pools_and_variables(rt: HostRuntime) -> Result<(), Fa
 /// How many entries are told as these rows, up to the first that is not.
 fn told_as(alloc: Global, entries: &[Entry], rows: &[&[u8]]) -> Result<usize, Fail> {
     for (place, (entry, row)) in entries.iter().zip(rows).enumerate() {
-        if row_text(alloc, entry)?.as_slice() != *row {
+        if !is_told_as(alloc, entry, row)? {
             return Ok(place);
         }
     }
     Ok(entries.len())
+}
+
+/// Whether an entry is told as this row.
+fn is_told_as(alloc: Global, entry: &Entry, row: &[u8]) -> Result<bool, Fail> {
+    let text = row_text(alloc, entry)?;
+    Ok(text.as_slice() == row)
 }
 
 /// How many entries of a run that fails are told as they should be.
@@ -109,7 +123,8 @@ fn window(query: &[u8]) -> Result<Window, Fail> {
 
 /// Whether a page of these entries is as its row says.
 fn is_page(alloc: Global, entries: &[Entry], row: PageRow) -> Result<bool, Fail> {
-    let page = entries_page(alloc, entries, &row.0, window(row.1)?)?;
+    let window = window(row.1)?;
+    let page = entries_page(alloc, entries, &row.0, window)?;
     Ok(page.places() == row.2 && page.total() == row.3)
 }
 
@@ -138,15 +153,25 @@ fn pages_show_entries_that_are_read(rt: HostRuntime) -> Result<(), Fail> {
 
 /// Whether the entry of a tick in March says that moment, and the version that was looked at before.
 fn is_under_the_version(alloc: Global) -> Result<bool, Fail> {
-    let mut ledger = ledger(alloc, 9)?;
     let at = Instant::read(MARCH)?;
-    if ledger.version() <= 7 {
-        ledger.look(7);
-    }
+    let mut ledger = ledger(alloc, 9)?;
+    look(&mut ledger, 7);
     let _changed = ledger.tick(alloc, at);
-    match ledger.audit().entries().first() {
-        Some(entry) => Ok(ledger.version() == 7 && entry.version == 7 && entry.moment == at),
-        None => Ok(false),
+    Ok(ledger.version() == 7 && is_of(ledger.audit().entries().first(), 7, at))
+}
+
+/// Looks at a version, if it is no earlier one.
+fn look(ledger: &mut Ledger, version: u32) {
+    if ledger.version() <= version {
+        ledger.look(version);
+    }
+}
+
+/// Whether an entry is of this version and this moment.
+fn is_of(entry: Option<&Entry>, version: u32, at: Instant) -> bool {
+    match entry {
+        Some(entry) => entry.version == version && entry.moment == at,
+        None => false,
     }
 }
 
@@ -179,8 +204,9 @@ fn counts(audit: &mut Audit, at: Instant, row: CountRow) -> bool {
 fn an_audit_counts_from_one(rt: HostRuntime) -> Result<(), Fail> {
     let at = Instant::read(JANUARY)?;
     let mut audit = Audit::new(rt.alloc(), 2);
-    for row in COUNTED {
-        assert!(rt; counts(&mut audit, at, *row), "{row:?}");
+    for (place, row) in COUNTED.iter().enumerate() {
+        let counts = counts(&mut audit, at, *row);
+        row_holds(&rt, counts, place);
     }
     Ok(())
 }

@@ -106,17 +106,24 @@ fn event_logs_are_told_to_those_who_may_read_them(rt: HostRuntime) -> Result<(),
 
 /// Has uma pause b, in January.
 fn pause(alloc: Global, ledger: &mut Ledger, policy: &Policy) -> Result<(), Fail> {
+    let now = Instant::read(JANUARY)?;
     let op = op(alloc, Endpoint::PauseDag, PAUSED)?;
-    let _served = ledger.answer(alloc, policy, token("uma"), &op, Instant::read(JANUARY)?);
+    let _served = ledger.answer(alloc, policy, token("uma"), &op, now);
     Ok(())
+}
+
+/// The ledger after two pauses.
+fn paused_twice(alloc: Global, policy: &Policy) -> Result<Ledger, Fail> {
+    let mut ledger = ledger(alloc, 1_000_000)?;
+    pause(alloc, &mut ledger, policy)?;
+    pause(alloc, &mut ledger, policy)?;
+    Ok(ledger)
 }
 
 /// Whether adam is told one entry after uma paused b twice.
 fn is_one_pause_told(alloc: Global) -> Result<bool, Fail> {
     let policy = policy(alloc)?;
-    let mut ledger = ledger(alloc, 1_000_000)?;
-    pause(alloc, &mut ledger, &policy)?;
-    pause(alloc, &mut ledger, &policy)?;
+    let ledger = paused_twice(alloc, &policy)?;
     Ok(is_served(alloc, &ledger, &policy, ("adam", b"", Status::Ok, ONE)))
 }
 

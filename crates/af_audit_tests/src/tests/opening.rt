@@ -1,7 +1,7 @@
 use af_audit::Ledger;
 use af_graph::{Dag, DagSpec, Points, Rule, Schedule, TaskIds, TaskSpec, TaskSpecs};
 use af_names::{DagId, Instant, PoolName, Preset, TaskId};
-use af_ops::{Endpoint, Op, read_row};
+use af_ops::{Call, Endpoint, Op, read_row};
 use af_sched::{DagRow, State};
 use std::alloc::Global;
 use std::test::Fail;
@@ -21,9 +21,10 @@ fn task(alloc: Global) -> Result<TaskSpec, Fail> {
 
 /// A DAG of one task.
 fn dag(alloc: Global, id: &str, schedule: Option<Schedule>) -> Result<DagRow, Fail> {
+    let dag_id = DagId::parse(alloc, id)?;
     let tasks = vec![in alloc; task(alloc)?]?;
     let spec = DagSpec {
-        dag_id: DagId::parse(alloc, id)?,
+        dag_id,
         tasks: TaskSpecs::of(tasks),
         schedule,
         catchup: true,
@@ -76,7 +77,8 @@ pub fn op_of_run(alloc: Global, endpoint: Endpoint, body: &str) -> Result<Op, Fa
 
 fn read(alloc: Global, endpoint: Endpoint, parts: &[String], body: &str) -> Result<Op, Fail> {
     match read_row(alloc, endpoint, parts, b"", body.as_bytes())? {
-        Some(op) => Ok(op),
+        Some(Call::State(op)) => Ok(op),
+        Some(_) => Err(Fail::new("no operation on the state")),
         None => Err(Fail::new("a part is no name")),
     }
 }

@@ -101,9 +101,13 @@ fn taken(
     at: Instant,
 ) -> Result<Told, Fail> {
     match step {
-        Step::Ask(endpoint, body) => asked(alloc, ledger, &op(alloc, endpoint, body)?, at),
+        Step::Ask(endpoint, body) => {
+            let op = op(alloc, endpoint, body)?;
+            asked(alloc, ledger, &op, at)
+        }
         Step::AskOfRun(endpoint, body) => {
-            asked(alloc, ledger, &op_of_run(alloc, endpoint, body)?, at)
+            let op = op_of_run(alloc, endpoint, body)?;
+            asked(alloc, ledger, &op, at)
         }
         Step::Tick => Ok(ticked(alloc, ledger, at)),
         Step::Claim => Ok(claimed(alloc, ledger, last, at)),
@@ -111,12 +115,23 @@ fn taken(
     }
 }
 
+/// Whether the step of a row goes as it should.
+fn goes(
+    alloc: Global,
+    ledger: &mut Ledger,
+    last: &mut Option<Claim>,
+    row: Row,
+) -> Result<bool, Fail> {
+    let at = Instant::read(row.1)?;
+    let told = taken(alloc, ledger, last, row.0, at)?;
+    Ok(told == row.2 && ledger.audit().count() == row.3)
+}
+
 /// Takes the steps of these rows on a ledger: how many go as they should, up to the first that does not.
 pub fn played(alloc: Global, ledger: &mut Ledger, rows: &[Row]) -> Result<usize, Fail> {
     let mut last = None;
     for (place, row) in rows.iter().enumerate() {
-        let told = taken(alloc, ledger, &mut last, row.0, Instant::read(row.1)?)?;
-        if told != row.2 || ledger.audit().count() != row.3 {
+        if !goes(alloc, ledger, &mut last, *row)? {
             return Ok(place);
         }
     }
@@ -138,26 +153,39 @@ fn is_same(one: &State, other: &State) -> bool {
 
 /// Whether two states have the same DAGs, paused or not and with the same cursors.
 fn have_same_dags(one: &State, other: &State) -> bool {
-    let mut dags = one.dags().iter().zip(other.dags());
+    for (one, other) in one.dags().iter().zip(other.dags()) {
+        if one.is_paused != other.is_paused || one.cursor != other.cursor {
+            return false;
+        }
+    }
     one.dags().len() == other.dags().len()
-        && dags.all(|pair| pair.0.is_paused == pair.1.is_paused && pair.0.cursor == pair.1.cursor)
 }
 
 fn have_same_runs(one: &State, other: &State) -> bool {
-    let mut runs = one.runs().iter().zip(other.runs());
-    one.runs().len() == other.runs().len() && runs.all(|pair| is_same_run(pair.0, pair.1))
+    for (one, other) in one.runs().iter().zip(other.runs()) {
+        if !is_same_run(one, other) {
+            return false;
+        }
+    }
+    one.runs().len() == other.runs().len()
 }
 
 fn have_same_pools(one: &State, other: &State) -> bool {
-    let mut pools = one.pools().iter().zip(other.pools());
+    for (one, other) in one.pools().iter().zip(other.pools()) {
+        if one.name != other.name || one.slots != other.slots {
+            return false;
+        }
+    }
     one.pools().len() == other.pools().len()
-        && pools.all(|pair| pair.0.name == pair.1.name && pair.0.slots == pair.1.slots)
 }
 
 fn have_same_variables(one: &State, other: &State) -> bool {
-    let mut variables = one.variables().iter().zip(other.variables());
+    for (one, other) in one.variables().iter().zip(other.variables()) {
+        if !is_same_variable(one, other) {
+            return false;
+        }
+    }
     one.variables().len() == other.variables().len()
-        && variables.all(|pair| is_same_variable(pair.0, pair.1))
 }
 
 fn is_same_variable(one: &Variable, other: &Variable) -> bool {
@@ -173,14 +201,15 @@ fn is_same_run(one: &Run, other: &Run) -> bool {
 }
 
 fn have_same_instances(one: &Run, other: &Run) -> bool {
-    let others = other.instances.as_slice();
-    let mut instances = one.instances.as_slice().iter().zip(others);
-    one.instances.as_slice().len() == others.len() && instances.all(|pair| *pair.0 == *pair.1)
+    one.instances.as_slice() == other.instances.as_slice()
 }
 
 /// Whether a run failed, and each of its instances at the first try.
 pub fn is_failed(run: &Run) -> bool {
+    for instance in run.instances.as_slice() {
+        if instance.state != TaskState::Failed || instance.try_number != 1 {
+            return false;
+        }
+    }
     run.state == RunState::Failed
-        && run.instances.as_slice().iter().all(|instance| instance.state == TaskState::Failed
-            && instance.try_number == 1)
 }

@@ -83,8 +83,8 @@ const THREE: &[Row] = &[
 
 /// Whether what is served of a row is what it says.
 fn is_served(alloc: Global, ledger: &mut Ledger, policy: &Policy, row: Row) -> Result<bool, Fail> {
-    let op = op(alloc, row.1, row.2)?;
     let now = Instant::read(JANUARY)?;
+    let op = op(alloc, row.1, row.2)?;
     match ledger.answer(alloc, policy, token(row.0), &op, now) {
         Served::Shown(shown) => Ok(shown.status == row.3 && shown.seq == row.4),
         _ => Ok(false),
@@ -110,12 +110,22 @@ fn is_umas(entry: &Entry) -> bool {
     }
 }
 
+/// Whether each entry is of something that uma did to b.
+fn are_umas(entries: &[Entry]) -> bool {
+    for entry in entries {
+        if !is_umas(entry) {
+            return false;
+        }
+    }
+    true
+}
+
 /// How many rows are served as they should be; whether each entry is of something that uma did to b; and whether the entries make
 /// the state.
 fn entered(alloc: Global) -> Result<(usize, bool, bool), Fail> {
     let mut ledger = ledger(alloc, 2)?;
     let count = served(alloc, &mut ledger, REQUESTS)?;
-    let are_umas = ledger.audit().entries().iter().all(is_umas);
+    let are_umas = are_umas(ledger.audit().entries());
     Ok((count, are_umas, is_replay(alloc, &ledger)?))
 }
 
@@ -148,9 +158,10 @@ fn a_full_history_refuses_changes(rt: HostRuntime) -> Result<(), Fail> {
 
 /// What a tick comes to that would change the state, after these three entries, and how many there are then.
 fn ticked_when_full(alloc: Global) -> Result<(Result<bool, AuditFault>, u32), Fail> {
+    let march = Instant::read(MARCH)?;
     let mut ledger = ledger(alloc, 3)?;
     let _count = served(alloc, &mut ledger, THREE)?;
-    let told = ledger.tick(alloc, Instant::read(MARCH)?);
+    let told = ledger.tick(alloc, march);
     Ok((told, ledger.audit().count()))
 }
 

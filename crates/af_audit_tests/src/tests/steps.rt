@@ -2,7 +2,7 @@ use af_ops::Endpoint;
 use af_sched::Outcome;
 
 /// What is done: uma asks for something of DAG b, or of its run, with this body; a tick, a claim, a report of the last claim.
-#[derive(Clone, Copy, Debug)]
+#[derive(Clone, Copy)]
 pub enum Step {
     Ask(Endpoint, &'static str),
     AskOfRun(Endpoint, &'static str),
@@ -12,7 +12,7 @@ pub enum Step {
 }
 
 /// What comes of it.
-#[derive(Clone, Copy, Debug, PartialEq, Eq)]
+#[derive(Clone, Copy, PartialEq, Eq)]
 pub enum Told {
     /// It is done. Of a tick: it changed something.
     Done,

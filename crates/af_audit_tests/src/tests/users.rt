@@ -22,12 +22,19 @@ fn add_reading(permissions: &mut Permissions, resource: Resource) -> Result<(), 
     }
 }
 
-/// The role LogsOfB, which reads event logs, and of the DAGs b alone.
-fn logs_of_b(alloc: Global) -> Result<Role, Fail> {
+/// That event logs are read, and of the DAGs b alone.
+fn reading_logs_of_b(alloc: Global) -> Result<Permissions, Fail> {
+    let b = DagId::parse(alloc, "b")?;
     let mut permissions = Permissions::new(alloc);
     add_reading(&mut permissions, Resource::Kind(ResourceKind::AuditLogs))?;
-    add_reading(&mut permissions, Resource::Dag(DagId::parse(alloc, "b")?))?;
-    Ok(Role::new(RoleName::parse(alloc, "LogsOfB")?, permissions))
+    add_reading(&mut permissions, Resource::Dag(b))?;
+    Ok(permissions)
+}
+
+/// The role LogsOfB, which reads event logs, and of the DAGs b alone.
+fn logs_of_b(alloc: Global) -> Result<Role, Fail> {
+    let name = RoleName::parse(alloc, "LogsOfB")?;
+    Ok(Role::new(name, reading_logs_of_b(alloc)?))
 }
 
 fn user(alloc: Global, name: &str, role: &str) -> Result<User, Fail> {
@@ -36,12 +43,19 @@ fn user(alloc: Global, name: &str, role: &str) -> Result<User, Fail> {
     Ok(User::new(UserName::parse(alloc, name)?, digest, roles))
 }
 
+/// Adds a user of this name and this role.
+fn add_user(alloc: Global, draft: &mut PolicyDraft, name: &str, role: &str) -> Result<(), Fail> {
+    let user = user(alloc, name, role)?;
+    draft.add_user(alloc, user)?;
+    Ok(())
+}
+
 /// The policy of all users.
 pub fn policy(alloc: Global) -> Result<Policy, Fail> {
     let mut draft = PolicyDraft::new(alloc)?;
     draft.add_role(logs_of_b(alloc)?)?;
     for (name, role) in USERS {
-        draft.add_user(alloc, user(alloc, name, role)?)?;
+        add_user(alloc, &mut draft, name, role)?;
     }
     Ok(draft.finish(alloc)?)
 }
