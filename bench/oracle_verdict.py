@@ -52,15 +52,17 @@ class Plane:
         self.entries.append(told_of)
 
     def record(self, operation, call):
-        """The entry of a change that a user has made.
+        """The entry of a change that a user has made, and that stands in the state already.
 
-        It names the DAG and the run of the path, so that of a trigger names its DAG alone. A clear of a DAG's instances names the run of its body, if
-        there is one, and no task. What is done to pools and variables names no DAG.
+        It names the DAG and the run of the path; of a trigger, the run that was added, which is the last one. A clear of a DAG's instances names the
+        run of its body, if there is one, and no task. What is done to pools and variables names no DAG.
         """
         named = dict(zip([it for it in operation.path if it in KINDS], call.names))
         run_id = named.get("{dag_run_id}")
         if operation.name == "clear_instances":
             run_id = call.input["run_id"]
+        if operation.name == "trigger_run":
+            run_id = self.state.runs[-1].run_id
         self.add_entry(operation.event, call.user, self.now, named.get("{dag_id}"), run_id)
 
 

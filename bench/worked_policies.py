@@ -15,7 +15,7 @@ FAILED = run_row("b", "r2", SECOND, "failed", ENDED)
 B_ALONE = listed("dags", 1, dag_row("b"))
 NO_LOGS, NO_DAGS = "missing permission Audit Logs.can_read", "missing permission DAGs.can_read"
 FIFTEEN = [
-    *["patch_dag b", "trigger_dag_run b", "patch_dag_run b r2", "clear_dag_run b r2", "patch_dag_run b r2", "clear_task_instances b r2"],
+    *["patch_dag b", "trigger_dag_run b r2", "patch_dag_run b r2", "clear_dag_run b r2", "patch_dag_run b r2", "clear_task_instances b r2"],
     *["patch_dag_run b r2", "clear_task_instances b", "delete_dag_run b r2", "post_pool", "patch_pool", "delete_pool"],
     *["post_variable", "patch_variable", "delete_variable"],
 ]
@@ -71,9 +71,9 @@ LOGS = [
     ]),
     ("an entry of a moment with microseconds", "baseline,pages,audit", T1, {}, [
         ("uma", "POST /dags/c/dagRuns", '{"dag_run_id":"x:1"}', 200, run_row("c", "x:1", T1), 1),
-        ("adam", "GET /eventLogs", "", 200, listed("event_logs", 1, entry_row(1, "trigger_dag_run", "uma", "c", when=T1)), 1),
+        ("adam", "GET /eventLogs", "", 200, listed("event_logs", 1, entry_row(1, "trigger_dag_run", "uma", "c", "x:1", when=T1)), 1),
         ("uma", "POST /dags/b/dagRuns", "{}", 200, run_row("b", f"manual__{T1}", T1), 2),
-        ("adam", "GET /eventLogs?offset=1", "", 200, listed("event_logs", 2, entry_row(2, "trigger_dag_run", "uma", "b", when=T1)), 2),
+        ("adam", "GET /eventLogs?offset=1", "", 200, listed("event_logs", 2, entry_row(2, "trigger_dag_run", "uma", "b", f"manual__{T1}", when=T1)), 2),
     ]),
     ("each kind of entry, and what adds none", "baseline,pages,audit", NOW, {}, [
         ("uma", "PATCH /dags/b", ON, 200, dag_row("b", "true"), 1),

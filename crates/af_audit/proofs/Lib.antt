@@ -9,4 +9,5 @@ pub mod OperatedLemmas
 pub mod ReplayLemmas
 pub mod RequestLemmas
 pub mod TickedLemmas
+pub mod TriggerLemmas
 pub mod RowLemmas

@@ -1,20 +1,19 @@
 -- What a request for event logs comes to on a ledger: who asks is the user of the token, who needs the permission to read audit
 -- logs (Airflow 2, "Access Control"); what is told is a page of the entries. It changes nothing.
-use Rattle.std.specs.Prelude.{ℕ, [], ◌∷◌, List, Bool, Option, Some, None, Result, Ok, Err}
+use Rattle.std.specs.Prelude.{ℕ, List, Bool, Option, Some, None, Result, Ok, Err}
 use Rattle.serde_json.specs.Written.{compact_text}
 use Rattle.af_listing.specs.Windows.{Cut}
 use Rattle.af_role.specs.Pairs.{PairRow}
-use Rattle.af_role.specs.declared.action.Action.TheVariants.{Read}
 use Rattle.af_role.specs.declared.need.Need.{Need}
-use Rattle.af_role.specs.declared.resource.ResourceKind.TheVariants.{AuditLogs}
 use Rattle.af_policy.specs.declared.bad_input.Parameter.{Parameter}
 use Rattle.af_policy.specs.Rows.{PolicyRows}
 use Rattle.af_policy.specs.Identity.{bearer_of}
 use Rattle.af_policy.specs.Grants.{first_unmet, grants, reads_dag}
 use Rattle.af_ops.specs.declared.answer.OpFault.TheVariants.{BadParameter}
+use Rattle.af_ops.specs.declared.endpoint.Endpoint.TheVariants.{ListEntries}
 use Rattle.af_ops.specs.declared.op.Op.{Op}
 use Rattle.af_ops.specs.declared.op.Op.TheVariants as op
-use Rattle.af_ops.specs.Table.{on_all}
+use Rattle.af_ops.specs.Table.{needs_of}
 use Rattle.af_ops.specs.Verdicts.{Verdict, Stranger, Lacks, Refuses, Tells, dag_ids}
 use Rattle.af_audit.specs.declared.entry.Entry.{Entry}
 use Rattle.af_audit.specs.Ledgers.{LedgerRows}
@@ -24,9 +23,9 @@ use Rattle.af_audit.specs.Logs.{entries_data}
 abbrev pub nameless : Op
 nameless = op.Version
 
--- what is required of who asks
+-- what the table of operations requires of who asks
 abbrev pub log_needs : List Need
-log_needs = on_all Read AuditLogs ∷ []
+log_needs = needs_of ListEntries
 
 -- the verdict by what is asked, for a reader of these DAGs: a page, or the first faulty parameter
 abbrev pub entries_told : (List ℕ → Bool) → List Entry → Result Cut Parameter → Verdict

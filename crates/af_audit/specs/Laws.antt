@@ -1,5 +1,5 @@
 -- Laws about the audit, in words of their own.
-use Rattle.std.specs.Prelude.{ℕ, ◌≡◌, ◌≤◌, ◌+◌, ◌<◌, ◌++◌, List, All, Bool, true, Option, Some, None, Result, Ok, length, slice_index_or, take, ⊤}
+use Rattle.std.specs.Prelude.{ℕ, ◌≡◌, ◌≤◌, ◌+◌, ◌<◌, ◌++◌, List, [], ◌∷◌, All, Bool, true, Option, Some, None, Result, Ok, length, slice_index_or, take, ⊤}
 use Rattle.serde_json.specs.Written.{compact_text}
 use Rattle.af_listing.specs.Pages.{cut}
 use Rattle.af_listing.specs.Windows.{Cut}
@@ -7,18 +7,23 @@ use Rattle.af_policy.specs.declared.bad_input.Parameter.{Parameter}
 use Rattle.af_policy.specs.Grants.{reads}
 use Rattle.af_policy.specs.Identity.{bearer_of}
 use Rattle.af_policy.specs.Rows.{PolicyRows}
+use Rattle.af_runs.specs.declared.run.Run.{Run}
 use Rattle.af_sched.specs.State.{StateRows}
 use Rattle.af_sched.specs.declared.claim.Claim.{Claim}
 use Rattle.af_sched.specs.declared.outcome.Outcome.{Outcome}
+use Rattle.af_ops.specs.declared.body_fault.BodyFault.{BodyFault}
 use Rattle.af_ops.specs.declared.op.Op.{Op}
+use Rattle.af_ops.specs.declared.op.Op.TheVariants as op
 use Rattle.af_ops.specs.declared.served.Served.{Served}
 use Rattle.af_ops.specs.declared.served.Served.TheVariants as served
 use Rattle.af_ops.specs.declared.shown_answer.Shown.{Shown}
+use Rattle.af_ops.specs.declared.trigger.Trigger.{Trigger}
 use Rattle.af_ops.specs.Effects.{effect_of}
 use Rattle.af_ops.specs.Served.{IsChange, IsServed}
 use Rattle.af_ops.specs.Standings.{StandingRows}
 use Rattle.af_ops.specs.Verdicts.{Changes, Tells}
 use Rattle.af_audit.specs.declared.act.Act.TheVariants.{Did}
+use Rattle.af_audit.specs.declared.actor.Actor.{Actor}
 use Rattle.af_audit.specs.declared.actor.Actor.TheVariants.{User}
 use Rattle.af_audit.specs.declared.audit_fault.AuditFault.{AuditFault}
 use Rattle.af_audit.specs.declared.entry.Entry.{Entry}
@@ -28,8 +33,8 @@ use Rattle.af_audit.specs.Answered.{MayEnter, ledger_left, standing_of, verdict_
 use Rattle.af_audit.specs.Claimed.{IsClaimed}
 use Rattle.af_audit.specs.Entries.{AreNumbered, IsReplay}
 use Rattle.af_audit.specs.EventLogs.{entries_verdict, nameless}
-use Rattle.af_audit.specs.Ledgers.{Follows, IsLedger, LedgerRows, entered}
-use Rattle.af_audit.specs.Logs.{act_dag, logs_data, shown_entries}
+use Rattle.af_audit.specs.Ledgers.{Enters, Follows, IsLedger, LedgerRows, entered, entry_of}
+use Rattle.af_audit.specs.Logs.{act_dag, entry_run, logs_data, shown_entries}
 use Rattle.af_audit.specs.Reported.{IsReported}
 use Rattle.af_audit.specs.Ticked.{IsTicked}
 
@@ -88,6 +93,14 @@ NothingDoneLeavesTheLedger =
     → IsServed asked (verdict_on policy old token asked t) (standing_of old) served.NothingDone (standing_of new)
     → MayEnter (bearer_of policy token) asked t old new
     → new ≡ old
+
+-- the entry of a trigger names the run that it added, the last of all
+abbrev pub TriggersNameTheirRun : Type 0
+TriggersNameTheirRun =
+    (who : Actor) (dag_id : List ℕ) (input : Result Trigger BodyFault) (t : ℕ) (old new : LedgerRows)
+    → IsLedger old → Enters who (Did (op.TriggerRun dag_id input)) t old new
+    → (run : Run) × (new.state.runs ≡ old.state.runs ++ run ∷ []) × (run.dag_id ≡ dag_id)
+    × (entry_run (entry_of old who (Did (op.TriggerRun dag_id input)) t) ≡ Some run.run_id)
 
 -- ---- event logs
 

@@ -1,15 +1,18 @@
 -- Event logs: the entries as rows that are told (Airflow 2, "Stable REST API": event logs). The names of events that have no
 -- operation of Airflow's are this product's own rule.
-use Rattle.std.specs.Prelude.{ℕ, List, [], ◌∷◌, Bool, Option, Some, None, codes, filter, length, map}
+use Rattle.std.specs.Prelude.{ℕ, List, [], ◌∷◌, Bool, Option, Some, None, unwrap_or, Result, Ok, Err, codes, filter, length, map}
 use Rattle.serde_json.specs.Data.{Data, null, number, unsigned, string}
 use Rattle.af_listing.specs.Pages.{cut, shows}
 use Rattle.af_listing.specs.Windows.{Cut}
+use Rattle.af_ops.specs.declared.body_fault.BodyFault.{BodyFault}
 use Rattle.af_ops.specs.declared.op.Op.{Op}
 use Rattle.af_ops.specs.declared.op.Op.TheVariants as op
 use Rattle.af_ops.specs.declared.pool_op.PoolOp.{PoolOp}
 use Rattle.af_ops.specs.declared.pool_op.PoolOp.TheVariants as pool
+use Rattle.af_ops.specs.declared.trigger.Trigger.{Trigger}
 use Rattle.af_ops.specs.declared.variable_op.VariableOp.{VariableOp}
 use Rattle.af_ops.specs.declared.variable_op.VariableOp.TheVariants as variable
+use Rattle.af_ops.specs.Effects.{id_or, made_id}
 use Rattle.af_ops.specs.Endpoints.{dag_of, run_of, task_of}
 use Rattle.af_ops.specs.Fields.{Field, instant_data, listing_of, object_of}
 use Rattle.af_audit.specs.declared.act.Act.{Act}
@@ -17,6 +20,8 @@ use Rattle.af_audit.specs.declared.act.Act.TheVariants as act
 use Rattle.af_audit.specs.declared.actor.Actor.{Actor}
 use Rattle.af_audit.specs.declared.actor.Actor.TheVariants as actor
 use Rattle.af_audit.specs.declared.entry.Entry.{Entry}
+use Rattle.af_audit.specs.declared.run_name.RunName.{RunName}
+use Rattle.af_audit.specs.declared.run_name.RunName.TheVariants.{Given, Made}
 
 -- the event of an operation on pools; one that never changes anything has none
 abbrev pub pool_event : PoolOp → List ℕ
@@ -57,12 +62,30 @@ act_dag act.Tick = None
 act_dag (act.Claim claimed) = Some claimed.dag_id
 act_dag (act.Report claimed outcome) = Some claimed.dag_id
 
--- the run
-abbrev pub act_run : Act → Option (List ℕ)
-act_run (act.Did asked) = run_of asked
-act_run act.Tick = None
-act_run (act.Claim claimed) = Some claimed.run_id
-act_run (act.Report claimed outcome) = Some claimed.run_id
+-- the id of a run: one that was given, or the one that is made of a date
+abbrev pub id_named : RunName → List ℕ
+id_named (Given run_id) = run_id.now
+id_named (Made date) = made_id date.now
+
+-- the run that a trigger adds at a moment, by what was read of its body
+abbrev pub triggered_in : Result Trigger BodyFault → ℕ → Option (List ℕ)
+triggered_in (Ok asked) t = Some (id_or asked.dag_run_id (unwrap_or asked.logical_date t))
+triggered_in (Err fault) t = None
+
+-- the run that an operation at a moment names: the one that it triggers, or that of its path or its body
+abbrev pub op_run : Op → ℕ → Option (List ℕ)
+op_run (op.TriggerRun dag_id input) t = triggered_in input t
+op_run asked t = run_of asked
+
+-- the run that an act at a moment names
+abbrev pub act_run : Act → ℕ → Option (List ℕ)
+act_run (act.Did asked) t = op_run asked t
+act_run act.Tick t = None
+act_run (act.Claim claimed) t = Some claimed.run_id
+act_run (act.Report claimed outcome) t = Some claimed.run_id
+
+abbrev pub entry_run : Entry → Option (List ℕ)
+entry_run entry = act_run entry.act entry.moment
 
 -- the task
 abbrev pub act_task : Act → Option (List ℕ)
@@ -88,7 +111,7 @@ entry_fields entry =
     ∷ (codes "event_log_id", number (unsigned entry.seq))
     ∷ (codes "owner", string (owner_of entry.actor))
     ∷ (codes "policy_version", number (unsigned entry.version))
-    ∷ (codes "run_id", name_data (act_run entry.act))
+    ∷ (codes "run_id", name_data (entry_run entry))
     ∷ (codes "task_id", name_data (act_task entry.act))
     ∷ (codes "when", instant_data (Some entry.moment))
     ∷ []

@@ -1,8 +1,9 @@
-ghost use Rattle.std.specs.Prelude.{◌≡◌};
+ghost use Rattle.std.specs.Prelude.{◌≡◌, option_map};
 ghost use Rattle.std.specs.Option.{option_copied};
-ghost use Rattle.af_audit.specs.Logs.{act_dag, act_run, act_task, event_of, op_event, pool_event, variable_event};
+ghost use Rattle.af_audit.specs.Logs.{act_dag, act_run, act_task, event_of, id_named, op_event, pool_event, variable_event};
 
-use af_names::{DagId, RunId, TaskId};
+use crate::run_name::{RunName, op_run};
+use af_names::{DagId, Instant, TaskId};
 use af_ops::{Op, PoolOp, VariableOp};
 use af_sched::{Claim, Outcome};
 
@@ -31,14 +32,14 @@ impl Act {
         }
     }
 
-    /// The run that it names, if it names one.
-    pub fn run(&self) -> Option<&RunId>
-        ensures { option_copied result ≡ act_run self.now }
+    /// The run that it names where it is done at this moment, if it names one.
+    pub fn run<'a>(&'a self, at: &'a Instant) -> Option<RunName<'a>>
+        ensures { option_map id_named result ≡ act_run self.now at.now }
     {
         match self {
-            Act::Did(op) => op.run(),
+            Act::Did(op) => op_run(op, at),
             Act::Tick => None,
-            Act::Claim(claim) | Act::Report(claim, _) => Some(&claim.run_id),
+            Act::Claim(claim) | Act::Report(claim, _) => Some(RunName::Given(&claim.run_id)),
         }
     }
 

@@ -1,5 +1,9 @@
+ghost use Rattle.std.specs.Prelude.{◌≡◌, option_map};
+ghost use Rattle.af_audit.specs.Logs.{entry_run, id_named};
+
 use crate::act::Act;
 use crate::actor::Actor;
+use crate::run_name::RunName;
 use af_names::Instant;
 
 /// One entry of the audit: a change that was done.
@@ -15,4 +19,13 @@ pub struct Entry {
     pub version: u32,
     /// What was done.
     pub act: Act,
+}
+
+impl Entry {
+    /// The run that it names, if it names one: of a trigger, the one that was added.
+    pub fn run(&self) -> Option<RunName<'_>>
+        ensures { option_map id_named result ≡ entry_run self.now }
+    {
+        self.act.run(&self.moment)
+    }
 }

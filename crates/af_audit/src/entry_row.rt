@@ -1,13 +1,14 @@
 // Entries as rows of event logs: which a reader is shown, and how they are told.
-ghost use Rattle.std.specs.Prelude.{◌≡◌, ◌∷◌, [], IsTrue, OnOk, IfOk, false};
+ghost use Rattle.std.specs.Prelude.{◌≡◌, ◌∷◌, [], IsTrue, OnOk, IfOk, codes, false, true};
 ghost use Rattle.std.specs.Option.{option_copied};
 ghost use Rattle.af_listing.specs.Pages.{page_of, shows};
 ghost use Rattle.af_ops.specs.Texts.{Adds, is_name};
-ghost use Rattle.af_audit.specs.Logs.{act_dag, act_run, act_task, entry_fields, name_data, owner_of};
+ghost use Rattle.af_audit.specs.Logs.{act_dag, act_task, entry_fields, entry_run, name_data, owner_of};
 
 use crate::act::Act;
 use crate::actor::Actor;
 use crate::entry::Entry;
+use crate::run_name::{RunName, made_text};
 use af_listing::{Listed, Page, Window, page};
 use af_names::DagId;
 use af_ops::{Row, Text};
@@ -56,7 +57,7 @@ fn put_entry(alloc: Global, out: &mut Text, entry: &Entry) -> Result<(), AllocEr
     out.number(true, "event_log_id", u64::from(entry.seq))?;
     out.text(alloc, true, "owner", owner(&entry.actor))?;
     out.number(true, "policy_version", u64::from(entry.version))?;
-    put_name(alloc, out, true, "run_id", run_text(&entry.act))?;
+    put_run(alloc, out, entry)?;
     put_name(alloc, out, true, "task_id", task_text(&entry.act))?;
     out.instant(true, "when", Some(entry.moment))?;
     Ok(())
@@ -79,6 +80,17 @@ fn put_name(
     }
 }
 
+/// The id of the run that an entry names, or null for none.
+fn put_run(alloc: Global, out: &mut Text, entry: &Entry) -> Result<(), AllocError>
+    ensures { OnOk result (Adds true out.old out.new ((codes "run_id", name_data (entry_run entry.now)) ∷ [])) }
+{
+    match entry.run() {
+        None => out.null(true, "run_id"),
+        Some(RunName::Given(run_id)) => out.run_id(true, "run_id", run_id),
+        Some(RunName::Made(date)) => out.text(alloc, true, "run_id", made_text(date).as_str()),
+    }
+}
+
 /// Who is named as the owner.
 fn owner(actor: &Actor) -> &str
     ensures { result.now ≡ owner_of actor.now }
@@ -95,16 +107,6 @@ fn dag_text(act: &Act) -> Option<&str>
     ensures { option_copied result ≡ act_dag act.now }
 {
     match act.dag() {
-        Some(id) => Some(id.as_str()),
-        None => None,
-    }
-}
-
-/// The id of the run that an act names, as a text.
-fn run_text(act: &Act) -> Option<&str>
-    ensures { option_copied result ≡ act_run act.now }
-{
-    match act.run() {
         Some(id) => Some(id.as_str()),
         None => None,
     }

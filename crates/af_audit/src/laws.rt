@@ -1,5 +1,6 @@
-ghost use Rattle.af_audit.specs.Laws.{ChangesNameTheUser, ClaimsFollow, EventLogsLeaveTheLedger, EventLogsTellWhatIsRead, FollowersFollow, FrontsMakeTheStateAsItWas, FrontsMakeTheStateThatStood, LooksFollow, NoChangeDependsOnTheReader, NothingDoneLeavesTheLedger, NumbersHaveNoGap, ReplayIsOne, ReportsFollow, RequestsFollow, TicksFollow, VerdictsLeaveOneLedger, VersionsNeverFall, WhatIsNoChangeLeavesTheLedger};
+ghost use Rattle.af_audit.specs.Laws.{ChangesNameTheUser, ClaimsFollow, EventLogsLeaveTheLedger, EventLogsTellWhatIsRead, FollowersFollow, FrontsMakeTheStateAsItWas, FrontsMakeTheStateThatStood, LooksFollow, NoChangeDependsOnTheReader, NothingDoneLeavesTheLedger, NumbersHaveNoGap, ReplayIsOne, ReportsFollow, RequestsFollow, TicksFollow, TriggersNameTheirRun, VerdictsLeaveOneLedger, VersionsNeverFall, WhatIsNoChangeLeavesTheLedger};
 
+use af_ops::laws::triggers_add_a_run;
 use af_sched::laws::{a_claim_is_one, a_tick_is_one};
 
 /// The entries of an audit are counted from 1, and no number is left out.
@@ -36,6 +37,13 @@ pub fn what_is_no_change_leaves_the_ledger()
 pub fn changes_name_the_user()
     ensures { ChangesNameTheUser }
 {}
+
+/// The entry of a trigger names the run that it added, the last of all.
+pub fn triggers_name_their_run()
+    ensures { TriggersNameTheirRun }
+{
+    triggers_add_a_run();
+}
 
 /// What is told of a request leaves the ledger that the verdict on it says; where memory was wanted in its place, the ledger is as it was.
 pub fn verdicts_leave_one_ledger()

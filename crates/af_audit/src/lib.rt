@@ -16,6 +16,7 @@ mod ledger;
 mod nobody;
 mod replaying;
 mod report_refusal;
+mod run_name;
 
 pub use act::Act;
 pub use actor::Actor;
@@ -27,3 +28,4 @@ pub use event_logs::entries_text;
 pub use ledger::Ledger;
 pub use replaying::replay;
 pub use report_refusal::ReportRefusal;
+pub use run_name::RunName;

@@ -5,5 +5,6 @@ mod opening;
 mod playing;
 mod requests;
 mod rows;
+mod runs;
 mod steps;
 mod users;

@@ -9,17 +9,9 @@ ghost use Rattle.af_audit.specs.EventLogs.{entries_granted, entries_verdict, nam
 use crate::event_logs::entries_text;
 use crate::ledger::Ledger;
 use af_listing::Window;
-use af_ops::{Body, CallFault, Op, OpFault, Served, refused, shown_reply};
+use af_ops::{Body, CallFault, Endpoint, Op, OpFault, Served, needs, refused, shown_reply};
 use af_policy::{Parameter, Policy, PolicyView};
-use af_role::{Action, Need, ResourceKind};
 use std::alloc::Global;
-
-/// What is required of who asks for event logs.
-const READ_LOGS: [Need; 1] = [Need {
-    action: Action::Read,
-    kind: ResourceKind::AuditLogs,
-    at_dag: false,
-}];
 
 impl Ledger {
     /// Tells who holds the token a page of the event logs, under a policy: of the entries that name a DAG which the user reads, and
@@ -55,7 +47,8 @@ impl Ledger {
         ensures kept { result ≢ ReplyLost }
     {
         let under = self.under();
-        if let Some(need) = view.missing(&READ_LOGS, None, self.state.dags()) {
+        let needs = needs(Endpoint::ListEntries);
+        if let Some(need) = view.missing(needs, None, self.state.dags()) {
             return refused(alloc, &nameless(), CallFault::Denied(need), under);
         }
         let window = match asked {

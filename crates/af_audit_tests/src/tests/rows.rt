@@ -122,9 +122,9 @@ const CLEAR_RUN: Step = Step::AskOfRun(Endpoint::ClearRun, "{\"dry_run\":false}"
 
 const CLEAR: Step = Step::Ask(Endpoint::ClearInstances, "{\"dry_run\":false}");
 
-const FAIL_RUN: Step = Step::AskOfRun(Endpoint::MarkRun, "{\"state\":\"failed\"}");
+pub const FAIL_RUN: Step = Step::AskOfRun(Endpoint::MarkRun, "{\"state\":\"failed\"}");
 
-const DELETE_RUN: Step = Step::AskOfRun(Endpoint::DeleteRun, "");
+pub const DELETE_RUN: Step = Step::AskOfRun(Endpoint::DeleteRun, "");
 
 /// Changes of all kinds, with room for 19 entries: a paused DAG's run waits; b's run succeeds, the scheduled one fails; b's is cleared, goes
 /// again, is marked failed and deleted. What changes nothing is told in a full history too.

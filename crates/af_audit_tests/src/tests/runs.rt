@@ -1,0 +1,106 @@
+//! Which run the entries of a DAG's runs name: of a trigger the one that it added, of a clear the one that its body names.
+use crate::tests::entries::told_as;
+use crate::tests::opening::ledger;
+use crate::tests::playing::{is_replay, played};
+use crate::tests::rows::{DELETE_RUN, FAIL_RUN, JANUARY, MARCH};
+use crate::tests::steps::{Row, Step, Told};
+use af_ops::Endpoint;
+use std::alloc::Global;
+use std::test::Fail;
+
+/// Clears the instances of one run, which the body names.
+const CLEAR_ONE: Step = Step::Ask(
+    Endpoint::ClearInstances,
+    "{\"dry_run\":false,\"only_failed\":false,\"dag_run_id\":\"manual__2024-01-01T00:00:00+00:00\"}",
+);
+
+/// Runs are triggered with and without an id and a date; then the first of them is marked, cleared with all others, marked, cleared
+/// alone, and deleted.
+const ASKED: &[Row] = &[
+    (
+        Step::Ask(Endpoint::TriggerRun, "{}"),
+        JANUARY,
+        Told::Done,
+        1,
+    ),
+    (
+        Step::Ask(
+            Endpoint::TriggerRun,
+            "{\"dag_run_id\":\"x:1\",\"logical_date\":\"2024-01-02T00:00:00Z\"}",
+        ),
+        JANUARY,
+        Told::Done,
+        2,
+    ),
+    (
+        Step::Ask(
+            Endpoint::TriggerRun,
+            "{\"logical_date\":\"2024-01-03T00:00:00.000001Z\"}",
+        ),
+        JANUARY,
+        Told::Done,
+        3,
+    ),
+    (
+        Step::Ask(Endpoint::TriggerRun, "{\"dag_run_id\":\"x:1\"}"),
+        MARCH,
+        Told::RunExists,
+        3,
+    ),
+    (
+        Step::Ask(Endpoint::TriggerRun, "{\"dag_run_id\":\"~~\"}"),
+        MARCH,
+        Told::Done,
+        4,
+    ),
+    (
+        Step::Ask(
+            Endpoint::TriggerRun,
+            "{\"execution_date\":\"2024-01-04T00:00:00Z\"}",
+        ),
+        MARCH,
+        Told::Done,
+        5,
+    ),
+    (FAIL_RUN, MARCH, Told::Done, 6),
+    (
+        Step::Ask(
+            Endpoint::ClearInstances,
+            "{\"dry_run\":false,\"only_failed\":false,\"task_ids\":[\"t\"]}",
+        ),
+        MARCH,
+        Told::Done,
+        7,
+    ),
+    (FAIL_RUN, MARCH, Told::Done, 8),
+    (CLEAR_ONE, MARCH, Told::Done, 9),
+    (DELETE_RUN, MARCH, Told::Done, 10),
+];
+
+/// The rows of event logs after that. An id that is not given is made of the date, else of the moment.
+const LOGS: &[&[u8]] = &[
+    br#"{"dag_id":"b","event":"trigger_dag_run","event_log_id":1,"owner":"uma","policy_version":0,"run_id":"manual__2024-01-01T00:00:00+00:00","task_id":null,"when":"2024-01-01T00:00:00+00:00"}"#,
+    br#"{"dag_id":"b","event":"trigger_dag_run","event_log_id":2,"owner":"uma","policy_version":0,"run_id":"x:1","task_id":null,"when":"2024-01-01T00:00:00+00:00"}"#,
+    br#"{"dag_id":"b","event":"trigger_dag_run","event_log_id":3,"owner":"uma","policy_version":0,"run_id":"manual__2024-01-03T00:00:00.000001+00:00","task_id":null,"when":"2024-01-01T00:00:00+00:00"}"#,
+    br#"{"dag_id":"b","event":"trigger_dag_run","event_log_id":4,"owner":"uma","policy_version":0,"run_id":"~~","task_id":null,"when":"2024-03-01T00:00:00+00:00"}"#,
+    br#"{"dag_id":"b","event":"trigger_dag_run","event_log_id":5,"owner":"uma","policy_version":0,"run_id":"manual__2024-01-04T00:00:00+00:00","task_id":null,"when":"2024-03-01T00:00:00+00:00"}"#,
+    br#"{"dag_id":"b","event":"patch_dag_run","event_log_id":6,"owner":"uma","policy_version":0,"run_id":"manual__2024-01-01T00:00:00+00:00","task_id":null,"when":"2024-03-01T00:00:00+00:00"}"#,
+    br#"{"dag_id":"b","event":"clear_task_instances","event_log_id":7,"owner":"uma","policy_version":0,"run_id":null,"task_id":null,"when":"2024-03-01T00:00:00+00:00"}"#,
+    br#"{"dag_id":"b","event":"patch_dag_run","event_log_id":8,"owner":"uma","policy_version":0,"run_id":"manual__2024-01-01T00:00:00+00:00","task_id":null,"when":"2024-03-01T00:00:00+00:00"}"#,
+    br#"{"dag_id":"b","event":"clear_task_instances","event_log_id":9,"owner":"uma","policy_version":0,"run_id":"manual__2024-01-01T00:00:00+00:00","task_id":null,"when":"2024-03-01T00:00:00+00:00"}"#,
+    br#"{"dag_id":"b","event":"delete_dag_run","event_log_id":10,"owner":"uma","policy_version":0,"run_id":"manual__2024-01-01T00:00:00+00:00","task_id":null,"when":"2024-03-01T00:00:00+00:00"}"#,
+];
+
+/// How many of these steps go as they should, how many of the entries are told as they should be, and whether these make the state.
+fn told(alloc: Global) -> Result<(usize, usize, bool), Fail> {
+    let mut ledger = ledger(alloc, 10)?;
+    let count = played(alloc, &mut ledger, ASKED)?;
+    let told = told_as(alloc, ledger.audit().entries(), LOGS)?;
+    Ok((count, told, is_replay(alloc, &ledger)?))
+}
+
+#[test]
+fn entries_name_the_runs_that_were_triggered(rt: HostRuntime) -> Result<(), Fail> {
+    assert_eq!(rt; told(rt.alloc())?, (ASKED.len(), LOGS.len(), true));
+    Ok(())
+}
