@@ -1,0 +1,11 @@
+pub mod Rules
+pub mod Worlds
+pub mod Plane
+pub mod Moving
+pub mod Acting
+pub mod Publishing
+pub mod Steps
+pub mod Runs
+pub mod Granted
+pub mod Asked
+pub mod Laws

@@ -1,0 +1,91 @@
+ghost use Rattle.af_world.specs.Laws.{ActsCountTheEntries, AnsweredAsSeen, AnsweredVersionsClimb, AnswersAreGranted, DenialsNameTheFirst, EntriesAreGranted, EntryVersionsClimb, ListingsOfADagAreRead, ListingsTellWhatIsRead, PublishesAreGranted, RefusalsChangeNothing, RunsAreOne, SightsNeverFall, StateIsTheReplay, StrangersHaveNoUser, VersionsFollow};
+
+use af_sched::laws::{a_claim_is_one, a_tick_is_one};
+
+/// The same steps have one list of answers, and lead to one world.
+pub fn runs_are_one()
+    ensures { RunsAreOne }
+{
+    a_tick_is_one();
+    a_claim_is_one();
+}
+
+/// After every list of steps, each user's entry stands under a version in which that user's roles list a permission for each
+/// requirement, on the state at that step.
+pub fn entries_are_granted()
+    ensures { EntriesAreGranted }
+{}
+
+/// After every list of steps, the state is the replay of the entries.
+pub fn the_state_is_the_replay()
+    ensures { StateIsTheReplay }
+{}
+
+/// In every list of steps, the versions answered to one session never fall: none acts under a version earlier than one it has seen.
+pub fn answered_versions_climb()
+    ensures { AnsweredVersionsClimb }
+{}
+
+/// After every list of steps, a session is answered under a version no earlier than one that it had seen, which it has then seen; and
+/// an act under the very one that the session saw when it looked.
+pub fn answers_are_as_seen()
+    ensures { AnsweredAsSeen }
+{}
+
+/// After every list of steps, the version that a session has seen does not fall.
+pub fn sights_never_fall()
+    ensures { SightsNeverFall }
+{}
+
+/// After every list of steps, the versions of the entries never fall.
+pub fn entry_versions_climb()
+    ensures { EntryVersionsClimb }
+{}
+
+/// After every list of steps, each later version is the change of the one before it by an author whose roles there list all that the
+/// change requires.
+pub fn versions_follow()
+    ensures { VersionsFollow }
+{}
+
+/// In every world, what is answered, but for 401 and 403, was granted under the version that the answer names.
+pub fn answers_are_granted()
+    ensures { AnswersAreGranted }
+{}
+
+/// In every world, an answer 403 names the first requirement for which the user's roles list no permission.
+pub fn denials_name_the_first()
+    ensures { DenialsNameTheFirst }
+{}
+
+/// In every world, an answer 401 is told where nobody has the token.
+pub fn strangers_have_no_user()
+    ensures { StrangersHaveNoUser }
+{}
+
+/// In every world, an answer 401 or 403 leaves the versions, the state and the entries.
+pub fn refusals_change_nothing()
+    ensures { RefusalsChangeNothing }
+{}
+
+/// In every world, the answer to an act counts the entries, its own included.
+pub fn acts_count_the_entries()
+    ensures { ActsCountTheEntries }
+{}
+
+/// In every world, a change of the policy that is made was handed in under the latest version, by an author whose roles there list all
+/// that the change requires, and makes one version more.
+pub fn publishes_are_granted()
+    ensures { PublishesAreGranted }
+{}
+
+/// In every world, a listing tells exactly the page of what the user's roles let the user read, and how much that is.
+pub fn listings_tell_what_is_read()
+    ensures { ListingsTellWhatIsRead }
+{}
+
+/// In every world, a listing of the tasks, of the runs or of the instances of one DAG tells just its rows, and only where the user's
+/// roles let the user read that DAG.
+pub fn listings_of_a_dag_are_read()
+    ensures { ListingsOfADagAreRead }
+{}

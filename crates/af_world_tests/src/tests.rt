@@ -1,0 +1,9 @@
+mod limits;
+mod opening;
+mod playing;
+mod races;
+mod reruns;
+mod sights;
+mod steps;
+mod stories;
+mod users;

@@ -1,0 +1,68 @@
+//! What one session is told: its versions never fall.
+use crate::tests::opening::opening;
+use crate::tests::playing::step;
+use crate::tests::steps::Does;
+use af_ops::{Endpoint, Shown};
+use af_world::World;
+use std::alloc::Global;
+use std::test::Fail;
+
+const TO_PUBLIC: &str = r#"{"roles":[{"name":"Public"}]}"#;
+
+/// A session acts, asks who somebody is, and hands in changes, while another one makes versions.
+const STEPS: &[Does] = &[
+    Does::Look(1),
+    Does::Act(1, "test", Endpoint::ListDags, &[], ""),
+    Does::Look(1),
+    Does::Publish(0, 0, "admin", Endpoint::ChangeUser, &["pat"], TO_PUBLIC),
+    Does::Act(1, "test", Endpoint::ListDags, &[], ""),
+    Does::Publish(1, 0, "test", Endpoint::ChangeUser, &["pat"], TO_PUBLIC),
+    Does::Me(1, "foo", Endpoint::GetMe),
+    Does::Publish(0, 1, "admin", Endpoint::ChangeUser, &["pat"], TO_PUBLIC),
+    Does::Publish(1, 0, "test", Endpoint::ChangeUser, &["pat"], TO_PUBLIC),
+    Does::Publish(1, 2, "admin", Endpoint::ChangeUser, &["pat"], TO_PUBLIC),
+    Does::Look(1),
+    Does::Act(1, "test", Endpoint::ListDags, &[], ""),
+];
+
+/// The versions that the session 1 is told: of its two acts, the denied change under version 0, who bob is, the change that is below
+/// what it has seen, the one that it makes, and its last act.
+const TOLD: [u32; 7] = [0, 0, 0, 1, 2, 3, 3];
+
+/// Whether a step is one of session 1.
+fn is_own(does: Does) -> bool {
+    match does {
+        Does::Act(session, _, _, _, _) => session == 1,
+        Does::Me(session, _, _) => session == 1,
+        Does::Publish(session, _, _, _, _, _) => session == 1,
+        _ => false,
+    }
+}
+
+/// The version that an answer names, if it is to session 1.
+fn named(does: Does, answer: &Option<Shown>) -> Option<u32> {
+    match answer {
+        Some(shown) if is_own(does) => shown.version,
+        _ => None,
+    }
+}
+
+fn told(alloc: Global) -> Result<Vec<u32>, Fail> {
+    let opening = opening(alloc, 100, 100)?;
+    let mut world = World::open(alloc, &opening)?;
+    let mut versions = Vec::new(alloc);
+    for does in STEPS {
+        let step = step(alloc, *does)?;
+        let answer = world.take(alloc, &step)?;
+        if let Some(version) = named(*does, &answer) {
+            versions.push(version)?;
+        }
+    }
+    Ok(versions)
+}
+
+#[test]
+fn versions_told_to_a_session_never_fall(rt: HostRuntime) -> Result<(), Fail> {
+    assert_eq!(rt; told(rt.alloc())?.as_slice(), TOLD.as_slice());
+    Ok(())
+}
