@@ -3,7 +3,7 @@
 
     python3 tools/test_from_airflow.py
 
-The last tests hand what is written to the program; they need it built, in crates/af_server/out/af_server or where the
+The last tests hand what is written to the program; they need it built, in crates/afplane/out/afplane or where the
 variable AFPLANE_PROGRAM says, and are skipped where it is not.
 """
 import contextlib
@@ -25,7 +25,7 @@ TOOL = pathlib.Path(__file__).resolve().with_name("from_airflow.py")
 TOP = TOOL.parents[1]
 SAMPLES = TOP / "examples" / "airflow"
 README = (SAMPLES / "README.md").read_text(encoding="utf-8")
-PROGRAM = pathlib.Path(os.environ.get("AFPLANE_PROGRAM", TOP / "crates/af_server/out/af_server"))
+PROGRAM = pathlib.Path(os.environ.get("AFPLANE_PROGRAM", TOP / "crates/afplane/out/afplane"))
 ADMIN = {"username": "root", "roles": ["Admin"]}
 
 

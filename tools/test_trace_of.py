@@ -3,7 +3,7 @@
 
     python3 tools/test_trace_of.py
 
-The last test hands the traces of the examples to the program; it needs it built, in crates/af_server/out/af_server or where the variable
+The last test hands the traces of the examples to the program; it needs it built, in crates/afplane/out/afplane or where the variable
 AFPLANE_PROGRAM says, and is skipped where it is not, or where it does not check traces yet.
 """
 import contextlib
@@ -21,7 +21,7 @@ import trace_of  # noqa: E402
 
 TOP = pathlib.Path(__file__).resolve().parents[1]
 EXAMPLES = TOP / "examples"
-PROGRAM = pathlib.Path(os.environ.get("AFPLANE_PROGRAM", TOP / "crates/af_server/out/af_server"))
+PROGRAM = pathlib.Path(os.environ.get("AFPLANE_PROGRAM", TOP / "crates/afplane/out/afplane"))
 NOW = "2024-01-01T00:00:00Z"
 DENIED = '{"detail":"missing permission DAGs.can_read","status":403,"title":"Forbidden","type":"about:blank"}'
 NOBODY = '{"detail":"authentication required","status":401,"title":"Unauthorized","type":"about:blank"}'

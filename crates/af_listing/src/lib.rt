@@ -14,6 +14,3 @@ pub use listed_page::Page;
 pub use paging::page;
 pub use window::Window;
 pub use worked::{faults_by_the_rule, pages_by_the_rule, queries_by_the_rule};
-
-#[cfg(test)]
-mod tests;

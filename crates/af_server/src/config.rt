@@ -31,7 +31,8 @@ use af_policy::Policy;
 use af_sched::{Script, State};
 use draft::StateDraft;
 use json::Scratch;
-use limits::{Limits, read_limits};
+pub use limits::Limits;
+use limits::read_limits;
 use std::alloc::Global;
 use std::marker::Model;
 

@@ -14,6 +14,3 @@ pub use laws::{
     every_run_keeps_the_rule, no_seat_forgets, no_step_falls, others_keep_their_view, seats_agree,
 };
 pub use witness::Witness;
-
-#[cfg(test)]
-mod tests;

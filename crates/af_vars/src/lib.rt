@@ -12,6 +12,3 @@ pub use fault::VariableFault;
 pub use var_text::VarText;
 pub use variable::Variable;
 pub use variables::{MOST_VARIABLES, Variables};
-
-#[cfg(test)]
-mod tests;

@@ -18,10 +18,10 @@ mod rows;
 mod variables;
 mod versions;
 
-use crate::once::once;
-use crate::reason::Reason;
 use af_http::{Counted, Ended};
 use af_names::Instant;
+use af_server::Reason;
+use af_server::once::once;
 use std::alloc::Global;
 use std::io::{self, Read, Write};
 use std::test::Fail;

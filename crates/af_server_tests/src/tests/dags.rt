@@ -1,6 +1,6 @@
 use super::asserts::all_go;
 use super::configurations::{ADMIN, first_fault};
-use crate::reason::Reason;
+use af_server::Reason;
 use std::alloc::Global;
 use std::test::Fail;
 

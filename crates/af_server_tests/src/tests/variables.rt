@@ -1,8 +1,7 @@
 use super::asserts::holds;
 use super::configurations::{ADMIN, are_refused};
 use super::rows::{Row, rows_are_told};
-use crate::config::Configuration;
-use crate::reason::Reason;
+use af_server::{Configuration, Reason};
 use af_vars::Variable;
 use std::alloc::Global;
 use std::test::Fail;

@@ -2,7 +2,7 @@
 use super::asserts::{all_go, holds};
 use super::configurations::{ADMIN, are_refused, first_fault};
 use super::rows::{Row, rows_are_told_under};
-use crate::reason::Reason;
+use af_server::Reason;
 use std::alloc::Global;
 use std::test::Fail;
 

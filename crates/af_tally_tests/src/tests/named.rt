@@ -2,7 +2,7 @@
 ghost use Rattle.std.specs.Prelude.{◌≡◌, ◌+◌, ◌++◌, ◌∷◌, [], length, IfSome, IfNone};
 ghost use mathlib.Core.List.{IsPrefix};
 
-use crate::{Keeper, Witness};
+use af_tally::{Keeper, Witness};
 use std::marker::{Brand, Model, PhantomData};
 use std::process::Abort;
 use std::sync::{Mutex, Wait};
@@ -120,9 +120,7 @@ fn two_sessions<N: Named + Send + Sync, R: Threads + Wait + Sync>(
 #[test]
 fn a_keeper_counts_the_entries_of_two_threads(rt: HostRuntime) -> Result<(), Fail> {
     let (keeper, witness) = Keeper::<u8>::open(rt.alloc())?;
-    assert_eq!(rt;
-        two_sessions::<Brand, _>(&rt, keeper, witness),
-        (50, 50, 100)
-    );
+    let told = two_sessions::<Brand, _>(&rt, keeper, witness);
+    assert!(rt; told == (50, 50, 100), "what each recorded, and all");
     Ok(())
 }

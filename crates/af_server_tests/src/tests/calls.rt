@@ -1,13 +1,8 @@
 use super::asserts::{holds, number_holds, row_holds};
 use super::{BASE, Pieces, blank_paper};
-use crate::command::Command;
-use crate::console::Console;
-use crate::files::read_whole;
-use crate::reason::Reason;
-use crate::running::run_once;
-use crate::telling::{ended, usage};
 use af_http::Counted;
 use af_names::Instant;
+use af_server::{Command, Console, Reason, ended, read_whole, run_once, usage};
 use std::alloc::Global;
 use std::io::{self, ErrorKind, Read};
 use std::test::Fail;

@@ -1,7 +1,6 @@
 use super::BASE;
 use super::asserts::{all_go, holds};
-use crate::config::Configuration;
-use crate::reason::Reason;
+use af_server::{Configuration, Reason};
 use std::alloc::Global;
 use std::test::Fail;
 

@@ -1,8 +1,7 @@
 use super::asserts::row_holds;
 use super::configurations::{ADMIN, refused};
-use crate::config::Configuration;
-use crate::reason::Reason;
 use af_names::Instant;
+use af_server::{Configuration, Reason};
 use std::alloc::Global;
 use std::test::Fail;
 

@@ -1,0 +1,77 @@
+use af_listing::{Listed, Page, Window, page};
+use af_names::DagId;
+use af_policy::Reader;
+use std::alloc::Global;
+use std::test::Fail;
+
+/// A row that names a DAG, or none.
+#[derive(Drop)]
+struct Row {
+    dag: Option<DagId>,
+}
+
+impl Listed for Row {
+    ghost named = { λ row. row.dag };
+
+    fn dag(&self) -> Option<&DagId> {
+        self.dag.as_ref()
+    }
+}
+
+/// Who reads one DAG.
+#[derive(Drop)]
+pub struct ReaderOf {
+    dag: DagId,
+}
+
+impl Reader for ReaderOf {
+    ghost use Rattle.std.specs.Prelude.{nat_eq};
+    ghost use Rattle.std.specs.Cmp.Lexicographic.{pointwise};
+
+    ghost reads = { λ reader dag. pointwise nat_eq dag reader.dag };
+
+    fn readable(&self, dag: &DagId) -> bool {
+        *dag == self.dag
+    }
+}
+
+/// Who reads the DAG of this id.
+pub fn reader_of(alloc: Global, dag: &str) -> Result<ReaderOf, Fail> {
+    Ok(ReaderOf {
+        dag: DagId::parse(alloc, dag)?,
+    })
+}
+
+/// The DAG that a letter names; `-` names none.
+fn dag_of(alloc: Global, letter: &str) -> Result<Option<DagId>, Fail> {
+    if letter == "-" {
+        return Ok(None);
+    }
+    Ok(Some(DagId::parse(alloc, letter)?))
+}
+
+/// A row for each letter, which names that DAG.
+fn rows_of(alloc: Global, letters: &[&str]) -> Result<Vec<Row>, Fail> {
+    let mut rows = Vec::new(alloc);
+    for letter in letters {
+        let dag = dag_of(alloc, letter)?;
+        rows.push(Row { dag })?;
+    }
+    Ok(rows)
+}
+
+/// The window that a query asks for.
+fn window_of(query: &[u8]) -> Result<Window, Fail> {
+    match Window::read(query) {
+        Ok(window) => Ok(window),
+        Err(_) => Err(Fail::from("no window")),
+    }
+}
+
+/// The page that a query asks for, for who reads b.
+pub fn page_of(alloc: Global, letters: &[&str], query: &[u8]) -> Result<Page, Fail> {
+    let window = window_of(query)?;
+    let reader = reader_of(alloc, "b")?;
+    let rows = rows_of(alloc, letters)?;
+    Ok(page(alloc, rows.as_slice(), &reader, window)?)
+}

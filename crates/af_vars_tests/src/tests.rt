@@ -1,0 +1,5 @@
+mod asserts;
+mod limit;
+mod playing;
+mod rows;
+mod texts;
