@@ -1,3 +1,4 @@
+use super::asserts::row_holds;
 use af_graph::{Points, Schedule};
 use af_names::{Instant, Preset};
 use std::test::Fail;
@@ -13,7 +14,7 @@ const FIRST: u64 = 1_704_067_230_000_000;
 const SECOND: u64 = 1_704_067_320_000_000;
 
 /// The first moment at or after one, the first after it, or the last at or before it.
-#[derive(Clone, Copy, Debug, PartialEq, Eq)]
+#[derive(Clone, Copy)]
 enum Call {
     Next,
     After,
@@ -32,62 +33,72 @@ fn answered(points: Points, start: &str, call: Call, at: &str) -> Result<Option<
         After => schedule.next_after(at),
         Last => schedule.last_at_or_before(at),
     };
-    Ok(found.map(|instant| instant.micros()))
+    Ok(match found {
+        Some(instant) => Some(instant.micros()),
+        None => None,
+    })
 }
+
+const MONTHS: Points = Points::Preset(Preset::Monthly);
+
+const HOURS: Points = Points::Preset(Preset::Hourly);
+
+const STEPS: Points = Points::Seconds(90);
+
+const JANUARY: &str = "2024-01-31T00:00:00Z";
+
+const THIRTY: &str = "2024-01-01T00:00:30Z";
+
+const END: &str = "9998-12-31T23:59:59Z";
+
+/// Points, a start date, what is asked at which moment, and what is answered, in microseconds.
+type Row = (Points, &'static str, Call, &'static str, Option<u64>);
+
+const MOMENTS: [Row; 13] = [
+    (
+        MONTHS,
+        JANUARY,
+        Next,
+        "2020-02-02T00:00:00Z",
+        Some(FEBRUARY),
+    ),
+    (
+        MONTHS,
+        JANUARY,
+        Next,
+        "2024-02-01T00:00:00Z",
+        Some(FEBRUARY),
+    ),
+    (MONTHS, JANUARY, After, "2024-02-01T00:00:00Z", Some(MARCH)),
+    (MONTHS, JANUARY, Last, "2024-01-31T00:00:00Z", None),
+    (MONTHS, JANUARY, Last, "2024-03-01T00:00:00Z", Some(MARCH)),
+    (STEPS, THIRTY, Next, "2023-01-01T00:00:00Z", Some(FIRST)),
+    (
+        STEPS,
+        THIRTY,
+        Next,
+        "2024-01-01T00:01:59.999999Z",
+        Some(SECOND),
+    ),
+    (STEPS, THIRTY, After, "2024-01-01T00:00:30Z", Some(SECOND)),
+    (
+        STEPS,
+        THIRTY,
+        Last,
+        "2024-01-01T00:01:59.999999Z",
+        Some(FIRST),
+    ),
+    (STEPS, THIRTY, Last, "2024-01-01T00:00:29Z", None),
+    (Points::Seconds(1), END, After, END, None),
+    (HOURS, END, Next, END, None),
+    (HOURS, END, Last, END, None),
+];
 
 #[test]
 fn moments_from_a_start_date(rt: HostRuntime) -> Result<(), Fail> {
-    let months = Points::Preset(Preset::Monthly);
-    let hours = Points::Preset(Preset::Hourly);
-    let steps = Points::Seconds(90);
-    let january = "2024-01-31T00:00:00Z";
-    let thirty = "2024-01-01T00:00:30Z";
-    let end = "9998-12-31T23:59:59Z";
-    let table = [
-        (
-            months,
-            january,
-            Next,
-            "2020-02-02T00:00:00Z",
-            Some(FEBRUARY),
-        ),
-        (
-            months,
-            january,
-            Next,
-            "2024-02-01T00:00:00Z",
-            Some(FEBRUARY),
-        ),
-        (months, january, After, "2024-02-01T00:00:00Z", Some(MARCH)),
-        (months, january, Last, "2024-01-31T00:00:00Z", None),
-        (months, january, Last, "2024-03-01T00:00:00Z", Some(MARCH)),
-        (steps, thirty, Next, "2023-01-01T00:00:00Z", Some(FIRST)),
-        (
-            steps,
-            thirty,
-            Next,
-            "2024-01-01T00:01:59.999999Z",
-            Some(SECOND),
-        ),
-        (steps, thirty, After, "2024-01-01T00:00:30Z", Some(SECOND)),
-        (
-            steps,
-            thirty,
-            Last,
-            "2024-01-01T00:01:59.999999Z",
-            Some(FIRST),
-        ),
-        (steps, thirty, Last, "2024-01-01T00:00:29Z", None),
-        (Points::Seconds(1), end, After, end, None),
-        (hours, end, Next, end, None),
-        (hours, end, Last, end, None),
-    ];
-    for (points, start, call, at, wanted) in table {
-        assert_eq!(rt;
-            answered(points, start, call, at)?,
-            wanted,
-            "{call:?} at {at} of {points:?}"
-        );
+    for (row, (points, start, call, at, wanted)) in MOMENTS.iter().enumerate() {
+        let told = answered(*points, *start, *call, *at)?;
+        row_holds(&rt, told == *wanted, row);
     }
     Ok(())
 }
