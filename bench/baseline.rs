@@ -3,8 +3,8 @@
 //!   baseline once CONFIG NOW < requests > answers
 //!
 //! It reads and judges the configuration, reads the head and the body of each request, finds its fields, routes the path
-//! by its segments, hashes the token with SHA-256, looks the user up, tests the user's permissions, does the operation and
-//! writes JSON. Buffers are kept from one request to the next, and the answers to requests that came together share a
+//! by its segments, hashes the token with SHA-256, looks the user up, tests the user's permissions, reads the query of a
+//! listing, does the operation, adds the entry of a change and writes JSON. Buffers are kept from one request to the next, and the answers to requests that came together share a
 //! write. It answers what afplane answers, byte for byte, but that it reads instants of RFC 3339's form alone, and that
 //! want of memory ends it.
 use std::fs::File;
@@ -14,6 +14,8 @@ use std::process::exit;
 
 #[path = "baseline/answer.rs"]
 mod answer;
+#[path = "baseline/audit.rs"]
+mod audit;
 #[path = "baseline/changes.rs"]
 mod changes;
 #[path = "baseline/config.rs"]
@@ -36,6 +38,8 @@ mod plane;
 mod policy;
 #[path = "baseline/pools.rs"]
 mod pools;
+#[path = "baseline/query.rs"]
+mod query;
 #[path = "baseline/routes.rs"]
 mod routes;
 #[path = "baseline/rows.rs"]
@@ -44,7 +48,9 @@ mod rows;
 mod sha256;
 
 use answer::{fault, put_fault, put_head, refuse};
+use audit::Author;
 use head::{head_end, parse_head, Head, Refused, MOST_BODY, MOST_HEAD};
+use operations::Asked;
 use plane::Plane;
 use policy::Policy;
 use routes::{route, Op, Unrouted};
@@ -77,7 +83,8 @@ struct Connection {
 
 impl Connection {
     fn answer(&mut self, head: &Head<'_>, body: &[u8], closes: bool) {
-        let path = head.target.split(|&it| it == b'?').next().unwrap_or(b"");
+        let at = head.target.iter().position(|&it| it == b'?').unwrap_or(head.target.len());
+        let (path, query) = (&head.target[..at], head.target.get(at + 1..).unwrap_or_default());
         self.reply.clear();
         let op = match route(head.method, path) {
             Ok(Op::Version) => {
@@ -95,7 +102,11 @@ impl Connection {
             }
         };
         let decided = match head.token.and_then(|it| self.policy.bearer(it)) {
-            Some(bearer) => operations::decide(&mut self.plane, &bearer, &op, body, self.now, &mut self.reply),
+            Some(bearer) => {
+                let author = Author { name: bearer.name(), version: self.policy.version, now: self.now };
+                let asked = Asked { op: &op, query, body, author };
+                operations::decide(&mut self.plane, &bearer, &asked, &mut self.reply)
+            }
             None => Err(fault(401, "authentication required")),
         };
         let status = match decided {
@@ -106,7 +117,8 @@ impl Connection {
                 fault.status
             }
         };
-        put_head(&mut self.out, status, self.reply.len(), None, Some(self.plane.entries), closes);
+        let seen = Some((self.policy.version, self.plane.audit.entries.len()));
+        put_head(&mut self.out, status, self.reply.len(), None, seen, closes);
         self.out.extend_from_slice(&self.reply);
     }
 

@@ -38,7 +38,7 @@ from oracle_names import instant_of
 from oracle_table import having
 
 HERE = os.path.dirname(os.path.realpath(__file__))
-PROGRAM = os.path.join(HERE, "..", "crates", "af_server", "out", "af_server")
+PROGRAM = os.path.join(HERE, "..", "crates", "afplane", "out", "afplane")
 BASELINE = os.path.join(HERE, "out", "baseline")
 NOW = "2024-01-01T00:00:00Z"
 MOST = 999  # a connection closes with its 1,000th request
@@ -178,6 +178,38 @@ def changed(ids, before):
     return lead, played
 
 
+def paged(ids):
+    """200 triggers; then pages of a hundred runs, of one DAG and of all in turn."""
+    pages = [("~", n % 100) if n % 2 else (ids[50], n % 50) for n in range(MOST)]
+    return runs_before(ids, 200)[0], [ask(f"/dags/{dag}/dagRuns?limit=100&offset={offset}") for dag, offset in pages]
+
+
+def logged(ids):
+    """Some 490 changes; then pages of a hundred event logs."""
+    lead = [trigger(ids[n % 100], n) if n % 2 else pause(ids[n % 100], n % 200 >= 100) for n in range(500)]
+    return lead, [ask(f"/eventLogs?limit=100&offset={n % 400}") for n in range(MOST)]
+
+
+def mixed_pages(ids):
+    """A hundred triggers; then four reads of five, of five kinds, two of them pages of twenty, and changes."""
+    rng, is_paused = random.Random(6), {}
+    runs, played = [(it, f"run_{n:05}") for n, it in enumerate(ids)], []
+    lead = [trigger(it, n) for n, it in enumerate(ids)]
+    for n in range(100, MOST):
+        dag, kind, (of, run), offset = rng.choice(ids), rng.randrange(10), rng.choice(runs), rng.randrange(100)
+        path = f"/dags/{of}/dagRuns/{run}"
+        reads = [f"/dags/{dag}", path, f"{path}/taskInstances", *(f"{it}?limit=20&offset={offset}" for it in ("/dags/~/dagRuns", "/eventLogs"))]
+        if kind == 0:
+            is_paused[dag] = not is_paused.get(dag, ids.index(dag) % 5 == 0)
+            played.append(pause(dag, is_paused[dag]))
+        elif kind == 1:
+            runs.append((dag, f"run_{n:05}"))
+            played.append(trigger(dag, n))
+        else:
+            played.append(ask(rng.choice(reads)))
+    return lead, played
+
+
 # ---- Loads -------------------------------------------------------------------------------------------------
 
 
@@ -239,8 +271,11 @@ def loads():
     many = lambda: config(dags=100, tasks=5, role="Op", variables=10_000)
     yield Load("add and delete a variable, of 10,000", many, [added("/variables", {"key": f"new_{n // 2}", "value": str(n)}, n) for n in range(MOST)])
     yield Load("variables, 100 of 10,000", many, [ask("/variables")] * MOST)
-    lead, played = changed(ids, 700)
-    yield Load("reads and changes, 700 runs", made, played, lead)
+    for runs in (700, 890):
+        lead, played = changed(ids, runs)
+        yield Load(f"reads and changes, {runs} runs", made, played, lead)
+    for name, (lead, played) in (("pages of 100 runs, of 200", paged(ids)), ("pages of 100 event logs", logged(ids)), ("mixed, with pages and event logs", mixed_pages(ids))):
+        yield Load(name, made, played, lead)
     for name, made in (
         ("10 users, 3 DAGs", lambda: config()),
         ("1,024 DAGs of 1 task", lambda: config(dags=1024)),

@@ -12,10 +12,14 @@
 A case is one run of the program: words, a configuration and an input of one or more requests, as they should be
 or hostile, few or hundreds that build on one another. Exit status, standard output and standard error must be the oracle's. The first difference is shown,
 with as few of its requests as it needs, and its configuration and input are left in bench/out/ with the command that shows it again. Standard error tells
-how many answers of each status were compared. The last line is `N passed, N failed`, and the status 0 only where nothing failed.
+how many answers of each status were compared. Each answer to a whole request is also held against docs/openapi.json, where its validator is installed
+(Debian's python3-openapi-spec-validator): an answer that it does not have fails its case. The last line is `N passed, N failed`, and the status 0 only where
+nothing failed.
 """
 import argparse
 import collections
+import importlib.machinery
+import importlib.util
 import os
 import random
 import re
@@ -32,7 +36,7 @@ import oracle_names
 from all_cases import NOW, ROOT, Random, fixed_cases
 from oracle_table import GROUPS, having
 
-PROGRAM = os.path.join(ROOT, "crates", "af_server", "out", "af_server")
+PROGRAM = os.path.join(ROOT, "crates", "afplane", "out", "afplane")
 OUT = os.path.join(ROOT, "bench", "out")
 SECONDS = 30
 MOST_TRIES = 300
@@ -56,8 +60,8 @@ def statuses(text):
     return re.findall(rb"HTTP/1\.1 (\d\d\d) ", text)
 
 
-def pieces_of(data):
-    """The requests of an input, one by one, and last what is none."""
+def whole_pieces(data):
+    """The requests of an input that are whole, one by one, before any that is refused."""
     pieces, at = [], 0
     try:
         while at < len(data):
@@ -66,8 +70,49 @@ def pieces_of(data):
             pieces.append(data[at:end])
             at = end
     except oracle.Turned:
-        pieces.append(data[at:])
+        pass
     return pieces
+
+
+def pieces_of(data):
+    """The requests of an input, one by one, and last what is none."""
+    pieces = whole_pieces(data)
+    rest = data[sum(map(len, pieces)) :]
+    return [*pieces, rest] if rest else pieces
+
+
+def openapi():
+    """tools/check_openapi as a module; none where it has no validator."""
+    loader = importlib.machinery.SourceFileLoader("check_openapi", os.path.join(ROOT, "tools", "check_openapi"))
+    module = importlib.util.module_from_spec(importlib.util.spec_from_loader(loader.name, loader))
+    try:
+        loader.exec_module(module)
+    except SystemExit:
+        return None
+    return module
+
+
+class Described:
+    """Whether answers are ones that docs/openapi.json has for their requests."""
+
+    def __init__(self, module):
+        self.module, self.answers = module, 0
+
+    def fault(self, data, out):
+        """The first answer to a whole request that the document does not have, and why; or nothing."""
+        asked = [piece.lstrip(b"\r\n").decode(self.module.BYTES).split(" ")[:2] for piece in whole_pieces(data)]
+        came = self.module.messages(out.decode(self.module.BYTES))
+        for method, target in asked:
+            first, fields = next(came, ("", {}))
+            if not first:
+                return None
+            body, status = came.send(method), int(first.split(" ")[1])
+            if fields.get("Connection") == "close" and self.module.response_to(method, target, status) is None:
+                return None
+            self.answers += 1
+            for fault in self.module.faults_of(method, target, status, fields, body):
+                return f"{method} {target}: {first}: {fault}"
+        return None
 
 
 class Files:
@@ -101,15 +146,20 @@ class Files:
 
 
 class Comparison:
-    def __init__(self, program, has):
+    def __init__(self, program, has, described):
         self.program, self.has, self.passed, self.failed, self.answers = program, has, 0, 0, collections.Counter()
+        self.described = described
 
     def case(self, name, words, data):
         """Runs one case; `words` name the configuration's file."""
         wanted, got = oracle.run(words, data, self.has), ran(self.program, words, data)
         self.answers.update(statuses(wanted[1]))
         if wanted == got:
-            self.passed += 1
+            fault = self.described and self.described.fault(data, got[1])
+            self.passed += not fault
+            self.failed += bool(fault)
+            if fault and self.failed == 1:
+                print(f"The first answer that docs/openapi.json does not have ({name}): {fault}")
             return
         self.failed += 1
         if self.failed > 1:
@@ -186,7 +236,9 @@ def main():
         sys.exit(f"differential.py: {args.write} is there already; --write makes a new folder")
     if not 0 <= args.cases <= 10_000_000:
         sys.exit("differential.py: --cases is 0 to 10,000,000")
-    rng, it = random.Random(args.seed), Files(os.path.abspath(args.write), args.has) if args.write else Comparison(program, args.has)
+    module = None if args.baseline or args.write else openapi()
+    described = Described(module) if module else None
+    rng, it = random.Random(args.seed), Files(os.path.abspath(args.write), args.has) if args.write else Comparison(program, args.has, described)
     with tempfile.TemporaryDirectory(prefix="afplane-cases-") as folder:
         config = os.path.join(folder, "config.json")
 
@@ -204,6 +256,8 @@ def main():
             cases.case(n)
     told = ", ".join(f"{count} of {status.decode()}" for status, count in sorted(it.answers.items()))
     print(f"{sum(it.answers.values())} answers: {told}", file=sys.stderr)
+    if described:
+        print(f"{described.answers} answers held against docs/openapi.json", file=sys.stderr)
     if args.write:
         print(it.command())
         sys.exit()

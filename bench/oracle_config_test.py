@@ -122,7 +122,7 @@ class Limits(unittest.TestCase):
         ):
             plane = opened("all", members=limits.items())
             self.assertEqual((plane.most_entries, plane.last_version), wanted)
-            plane = opened("baseline", members=limits.items())
+            plane = opened("dags,limits", members=limits.items())
             self.assertEqual((plane.most_entries, plane.last_version), (1_000_000, 2**32 - 1))
 
     def fills(self, plane, path, body, total):

@@ -108,7 +108,7 @@ GROUPS = {
     "audit": {"list_entries", "full_history"},
     "policy": {it.name for it in OPERATIONS if it.on_policy} | {"access_control", "full_versions"},
 }
-GROUPS["baseline"] = set().union(*(GROUPS[it] for it in ("dags", "pools", "variables", "limits")))
+GROUPS["baseline"] = set().union(*(GROUPS[it] for it in GROUPS if it != "policy"))
 GROUPS["all"] = set().union(*GROUPS.values())
 LANDED = GROUPS["landed"] = GROUPS["all"]
 

@@ -1,5 +1,5 @@
 #!/usr/bin/env python3
-"""What look-ups and changes of a policy cost, beside look-ups in a sorted vector.
+"""What look-ups and changes of a policy cost, beside look-ups in sorted vectors.
 
   python3 bench/policy_bench.py                    10, 1,000 and 65,536 users; some minutes
   python3 bench/policy_bench.py --users 65536      so many users alone
@@ -8,62 +8,49 @@
 A program of its own, bench/policy/, over the proved crate af_policy makes a policy of so many users and puts the same users into
 two vectors, in order of their names and of their digests. In each round it looks up every user once, in an order without rule, by digest and by name:
 in the policy; in the vector by binary search, comparing first eight bytes as a number and then all (vector); and comparing all bytes at once (plain).
-Then it changes users one after the other, each to another token and a role, and keeps each version. Figures are medians of the
-rounds, and a ratio is that of one round, its median. `alike` is said of names that have their first bytes in common, and `apart` of others.
+policy_baseline.rs, in Rust with std alone, looks the same users up in sorted vectors of its own, comparing all bytes at once (Rust); both programs run in turn.
+Then it changes users one after the other, each to another token and a role, and keeps each version; what that takes of memory is told of 65,536 users,
+by the most that runs with more and with fewer changes held. Figures are medians of the rounds, and a ratio is that of one round, its median. `alike` is said of names that have their first bytes in common, and `apart` of others.
 """
 import argparse
 import os
-import shutil
 import statistics
 import subprocess
 import sys
 
-HERE = os.path.dirname(os.path.realpath(__file__))
-ROOT = os.path.dirname(HERE)
-PROGRAM = os.path.join(HERE, "out", "policy")
+from building import OUT, build, build_plain
 
-
-def fail(text):
-    sys.exit(f"policy_bench.py: {text}")
-
-
-def build():
-    """Proves and builds bench/policy/ as a crate beside the others, which is taken out again. Its files end in .txt there, since the gate takes
-    a .rt file for one of a crate that crates.txt names."""
-    os.makedirs(os.path.join(HERE, "out"), exist_ok=True)
-    listed, crate = os.path.join(ROOT, "crates.txt"), os.path.join(ROOT, "crates", "policy_bench")
-    with open(listed) as file:
-        before = file.read()
-    if os.path.exists(crate) or "policy_bench" in before:
-        fail(f"{crate} or its line in crates.txt is there already; remove both")
-    try:
-        os.makedirs(os.path.join(crate, "src"))
-        for name in os.listdir(os.path.join(HERE, "policy")):
-            shutil.copy(os.path.join(HERE, "policy", name), os.path.join(crate, "src", name.removesuffix(".txt")))
-        with open(listed, "a") as file:
-            file.write("policy_bench: af_names af_policy af_role\n")
-        # called with no words it ends with status 2, once it is built
-        subprocess.run(["rt", "run"], cwd=crate, stdin=subprocess.DEVNULL)
-        built = os.path.join(crate, "out", "policy_bench")
-        if not os.path.exists(built):
-            fail("bench/policy is not proved or not built")
-        shutil.copy(built, PROGRAM)
-    finally:
-        with open(listed, "w") as file:
-            file.write(before)
-        shutil.rmtree(crate, ignore_errors=True)
+PROGRAM, BASELINE = os.path.join(OUT, "policy"), os.path.join(OUT, "policy_baseline")
+TURNS = 5
 
 
 def rounds(users, count, names):
-    """The nanoseconds of each operation, a list with a figure a round for each name of what is measured."""
-    words = [PROGRAM, str(users), str(count), "500", names]
-    output = subprocess.run(words, stdout=subprocess.PIPE, check=True, text=True).stdout
+    """The nanoseconds of each operation, a list with a figure a round for each name of what is measured. Both programs run so many rounds in each of
+    some turns."""
     figures = {}
-    for line in output.splitlines():
-        parts = line.split()
-        if len(parts) == 4:
-            figures.setdefault(parts[0], []).append(int(parts[1]) / int(parts[2]))
+    for turn in range(TURNS):
+        both = [[PROGRAM, str(users), str(count), "500", names], [BASELINE, str(users), str(count), names]]
+        for words in both[::-1] if turn % 2 else both:
+            output = subprocess.run(words, stdout=subprocess.PIPE, check=True, text=True).stdout
+            for parts in map(str.split, output.splitlines()):
+                if len(parts) == 4:
+                    figures.setdefault(parts[0], []).append(int(parts[1]) / int(parts[2]))
     return figures
+
+
+def peak(users, changes, names):
+    """The most bytes that a run held, whose one round keeps so many changes."""
+    ran = subprocess.Popen([PROGRAM, str(users), "1", str(changes), names], stdout=subprocess.DEVNULL)
+    _, status, used = os.wait4(ran.pid, 0)
+    ran.returncode = os.waitstatus_to_exitcode(status)
+    if ran.returncode:
+        sys.exit(f"policy_bench.py: {PROGRAM} ended with status {ran.returncode}")
+    return used.ru_maxrss * 1024
+
+
+def kept(users, names):
+    """The bytes that a change takes while the version before it is kept, too."""
+    return (peak(users, 10_500, names) - peak(users, 500, names)) / 10_000
 
 
 def ratio(figures, what, other):
@@ -74,22 +61,26 @@ def ratio(figures, what, other):
 def main():
     parser = argparse.ArgumentParser(description=__doc__, formatter_class=argparse.RawDescriptionHelpFormatter)
     parser.add_argument("--users", type=int, action="append")
-    parser.add_argument("--rounds", type=int, default=15)
+    parser.add_argument("--rounds", type=int, default=5, help=f"in each of {TURNS} turns; 5")
     parser.add_argument("--build", action="store_true")
     args = parser.parse_args()
     if args.build or not os.path.exists(PROGRAM):
-        build()
+        build("policy", "af_names af_policy af_role")
     if args.build:
         return
-    print(f"{'':28}{'policy':>10}{'of vector':>12}{'of plain':>12}{'a change':>12}")
+    build_plain("policy_baseline")
+    print(f"Medians of {args.rounds * TURNS} rounds; load {os.getloadavg()[0]:.1f}.\n")
+    print(f"{'':28}{'policy':>10}{'of vector':>12}{'of plain':>12}{'of Rust':>12}{'a change':>12}")
     for users in args.users or (10, 1_000, 65_536):
         for names in ("alike", "apart"):
             figures = rounds(users, args.rounds, names)
             for kind in ("digest", "name"):
                 ns = statistics.median(figures[f"{kind}_policy"])
-                ratios = [ratio(figures, f"{kind}_policy", f"{kind}_{other}") for other in ("vector", "plain")]
+                ratios = [ratio(figures, f"{kind}_policy", f"{kind}_{other}") for other in ("vector", "plain", "rust")]
                 change = f"{statistics.median(figures['change']) / 1_000:9.1f} us" if kind == "name" else ""
-                print(f"{users:>7,} {names:6} by {kind:11}{ns:7.0f} ns{ratios[0]:12.2f}{ratios[1]:12.2f}{change:>12}")
+                if kind == "name" and users == 65_536:
+                    change += f"{kept(users, names) / 1_000:10.1f} KB"
+                print(f"{users:>7,} {names:6} by {kind:11}{ns:7.0f} ns{ratios[0]:12.2f}{ratios[1]:12.2f}{ratios[2]:12.2f}{change:>12}", flush=True)
 
 
 if __name__ == "__main__":

@@ -26,7 +26,7 @@ import oracle
 from oracle_table import GROUPS, having
 from refusal_cases import EXAMPLES, OUT, ROOT, inputs
 
-PROGRAM = os.path.join(ROOT, "crates", "af_server", "out", "af_server")
+PROGRAM = os.path.join(ROOT, "crates", "afplane", "out", "afplane")
 NOW = "2024-01-01T00:00:00Z"
 BODY = b'{"detail":"out of memory","status":503,"title":"Service Unavailable","type":"about:blank"}'
 NO_MEMORY = (
@@ -82,7 +82,7 @@ def run_test(program, name, library, number):
 
 
 # Those that compare whole answers, where the fixed 503 is no fault of a test: the program itself is refused its memory.
-WHOLE = {"af_http_tests", "af_server_tests"}
+WHOLE = {"af_http_tests_tests", "af_server_tests_tests"}
 WANT_OF_MEMORY = re.compile(rb"([Ee]rror: (\w+\()*(OutOfMemory|AllocError|AllocFailed|Memory)\b|left: \S*(OutOfMemory|Memory|AllocError))")
 
 

@@ -16,7 +16,6 @@ that of one round, its median and quartiles. With --count it is instructions, of
 import argparse
 import fcntl
 import os
-import shutil
 import statistics
 import struct
 import subprocess
@@ -25,10 +24,9 @@ import termios
 import time
 
 from bench import instructions, processor_time, quartiles
+from building import OUT, build, build_plain
 
-HERE = os.path.dirname(os.path.realpath(__file__))
-ROOT = os.path.dirname(HERE)
-PROGRAM, BASELINE = os.path.join(HERE, "out", "sched"), os.path.join(HERE, "out", "sched_baseline")
+PROGRAMS = [os.path.join(OUT, "sched"), os.path.join(OUT, "sched_baseline")]
 DAY, START = 86_400, 1_704_067_200
 NOON, FAR = START + DAY // 2, START + 2_000 * DAY
 
@@ -43,10 +41,10 @@ def fail(text):
 class Load:
     """An opening (DAGs, tasks of each, ended runs of each), what each round does, and how many operations are measured in it.
 
-    A round is a function of its number to lines; those that begin with a star are measured."""
+    A round is a function of its number to lines; those that begin with a star are measured. What is played before all rounds are lines, too."""
 
-    def __init__(self, name, opening, number, lines, most=1_000, unit="ns"):
-        self.name, self.opening, self.number, self.lines, self.most, self.unit = name, opening, number, lines, most, unit
+    def __init__(self, name, opening, number, lines, most=1_000, unit="ns", before=()):
+        self.name, self.opening, self.number, self.lines, self.most, self.unit, self.before = name, opening, number, lines, most, unit, list(before)
 
 
 def loads():
@@ -70,43 +68,6 @@ def loads():
     yield Load("a tick, 16 points due of 1,024 DAGs", behind, 1, lambda turn: [f"*tick {FAR} 1", "digest", "end"], 100, unit="us")
     yield Load("a tick, 16 points due of 1,024 DAGs, listed", behind, 1, lambda turn: ["*list", f"*tick {FAR} 1", "digest", "end"], 100, unit="us")
     yield Load("the next such tick, listed", behind, 1, lambda turn: ["list", f"tick {FAR} 1", "*list", f"*tick {FAR} 1", "digest", "end"], 50, unit="us")
-
-
-# ---- Building ----------------------------------------------------------------------------------------------
-
-
-def build():
-    """Proves and builds bench/sched/ as a crate beside the others, which is taken out again. Its files end in .txt there, since the gate takes
-    a .rt file for one of a crate that crates.txt names."""
-    os.makedirs(os.path.join(HERE, "out"), exist_ok=True)
-    listed, crate = os.path.join(ROOT, "crates.txt"), os.path.join(ROOT, "crates", "sched_bench")
-    with open(listed) as file:
-        before = file.read()
-    if os.path.exists(crate) or "sched_bench" in before:
-        fail(f"{crate} or its line in crates.txt is there already; remove both")
-    try:
-        os.makedirs(os.path.join(crate, "src"))
-        for name in os.listdir(os.path.join(HERE, "sched")):
-            shutil.copy(os.path.join(HERE, "sched", name), os.path.join(crate, "src", name.removesuffix(".txt")))
-        with open(listed, "a") as file:
-            file.write("sched_bench: af_graph af_names af_runs af_sched\n")
-        # called with no words it ends with status 2, once it is built
-        subprocess.run(["rt", "run"], cwd=crate, stdin=subprocess.DEVNULL)
-        built = os.path.join(crate, "out", "sched_bench")
-        if not os.path.exists(built):
-            fail("bench/sched is not proved or not built")
-        shutil.copy(built, PROGRAM)
-    finally:
-        with open(listed, "w") as file:
-            file.write(before)
-        shutil.rmtree(crate, ignore_errors=True)
-
-
-def build_baseline():
-    os.makedirs(os.path.join(HERE, "out"), exist_ok=True)
-    words = ["rustc", "--edition", "2021", "-C", "opt-level=3", "-o", BASELINE, os.path.join(HERE, "sched_baseline.rs")]
-    if subprocess.run(words).returncode:
-        fail("sched_baseline.rs doesn't compile")
 
 
 # ---- Running -----------------------------------------------------------------------------------------------
@@ -162,9 +123,10 @@ def same(load, turn, told):
         fail(f"the programs differ in round {turn} of {load.name}: {told[0]} and {told[1]}")
 
 
-def measure(load, rounds):
+def measure(load, rounds, programs):
     """A line of the table."""
-    both, pairs = [Player(it, load.opening) for it in (PROGRAM, BASELINE)], []
+    both, pairs = [Player(it, load.opening) for it in programs], []
+    same(load, "none", [it.round(load.before)[0] for it in both])
     for turn in range(min(rounds, load.most)):
         told, spent = [None, None], [0, 0]
         for place in (0, 1) if turn % 2 == 0 else (1, 0):
@@ -180,37 +142,46 @@ def measure(load, rounds):
     return f"{load.name:<46} {ours:>12,.{digits}f} {theirs:>12,.{digits}f} {load.unit}  {middle:>6.2f}  [{low:.2f} to {high:.2f}]"
 
 
-def count(load):
+def count(load, programs):
     """A line of the table, in instructions: those of a run to the end of what the second round measures, less those of one to its beginning."""
     lines = load.lines(1)
     last = max(place for place, line in enumerate(lines) if line[0] == "*")
     first = min(place for place, line in enumerate(lines) if line[0] == "*")
-    before = load.lines(0) + lines[:first]
+    before = load.before + load.lines(0) + lines[:first]
     short, whole = (("\n".join(it.lstrip("*") for it in those) + "\n").encode() for those in (before, before + lines[first : last + 1]))
     words, found = [str(it) for it in load.opening], []
-    for program in (PROGRAM, BASELINE):
+    for program in programs:
         found.append((instructions(program, words, whole) - instructions(program, words, short)) / load.number)
     return f"{load.name:<46} {found[0]:>14,.0f} {found[1]:>14,.0f}  {found[0] / found[1]:>6.2f}"
 
 
-def main():
-    options = argparse.ArgumentParser(description=__doc__, formatter_class=argparse.RawDescriptionHelpFormatter)
-    options.add_argument("--build", action="store_true", help="prove and build bench/sched, and measure nothing")
-    options.add_argument("--rounds", type=int, default=None, help="1 to 1,000; 31")
+def options_of(words):
+    """What the words of a call ask for."""
+    options = argparse.ArgumentParser(description=words, formatter_class=argparse.RawDescriptionHelpFormatter)
+    options.add_argument("--build", action="store_true", help="prove and build the program, and measure nothing")
+    options.add_argument("--rounds", type=int, default=31, help="1 to 1,000; 31")
     options.add_argument("--count", action="store_true", help="instructions, by valgrind, in place of times")
     options.add_argument("--only", default="", metavar="WORDS", help="the loads with one of these words in their names")
-    args = options.parse_args()
-    if args.build or not os.path.exists(PROGRAM):
-        build()
-        if args.build:
-            return
-    build_baseline()
-    every = [it for it in loads() if any(word in it.name for word in args.only.split(","))]
-    rounds = args.rounds or 31
-    print(f"{'Instructions' if args.count else f'Processor time, {rounds} rounds,'} by operation; load {os.getloadavg()[0]:.1f}.\n")
+    return options
+
+
+def tell(args, every, programs):
+    """The table of these loads."""
+    every = [it for it in every if any(word in it.name for word in args.only.split(","))]
+    print(f"{'Instructions' if args.count else f'Processor time, {args.rounds} rounds,'} by operation; load {os.getloadavg()[0]:.1f}.\n")
     print(f"{'':<46} {'afplane':>12} {'baseline':>12}")
     for it in every:
-        print(count(it) if args.count else measure(it, rounds), flush=True)
+        print(count(it, programs) if args.count else measure(it, args.rounds, programs), flush=True)
+
+
+def main():
+    args = options_of(__doc__).parse_args()
+    if args.build or not os.path.exists(PROGRAMS[0]):
+        build("sched", "af_graph af_names af_runs af_sched")
+        if args.build:
+            return
+    build_plain("sched_baseline")
+    tell(args, loads(), PROGRAMS)
 
 
 if __name__ == "__main__":

@@ -39,9 +39,9 @@ pub fn put_fault(out: &mut Vec<u8>, fault: &Fault) {
     put(out, "\",\"type\":\"about:blank\"}");
 }
 
-/// Writes the head of an answer: without a type and a length, where it has no content. `entries` is their number, where the
-/// answer was decided under a policy.
-pub fn put_head(out: &mut Vec<u8>, status: u16, length: usize, allow: Option<&str>, entries: Option<u64>, closes: bool) {
+/// Writes the head of an answer: without a type and a length, where it has no content. Where the answer was decided under a
+/// policy, `seen` is its version and how many entries there are.
+pub fn put_head(out: &mut Vec<u8>, status: u16, length: usize, allow: Option<&str>, seen: Option<(u32, usize)>, closes: bool) {
     put(out, "HTTP/1.1 ");
     put_number(out, status.into());
     put(out, " ");
@@ -58,9 +58,11 @@ pub fn put_head(out: &mut Vec<u8>, status: u16, length: usize, allow: Option<&st
     if status == 401 {
         put(out, "\r\nWWW-Authenticate: Bearer");
     }
-    if let Some(entries) = entries {
-        put(out, "\r\nX-Policy-Version: 0\r\nX-Plane-Seq: ");
-        put_number(out, entries);
+    if let Some((version, entries)) = seen {
+        put(out, "\r\nX-Policy-Version: ");
+        put_number(out, version.into());
+        put(out, "\r\nX-Plane-Seq: ");
+        put_number(out, entries as u64);
     }
     put(out, if closes { "\r\nConnection: close\r\n\r\n" } else { "\r\n\r\n" });
 }

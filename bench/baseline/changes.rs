@@ -2,10 +2,11 @@
 use std::collections::HashSet;
 
 use crate::answer::{fault, Fault};
+use crate::audit::Author;
 use crate::instant;
 use crate::json::Value;
 use crate::names::{is_id, is_run_id};
-use crate::operations::{bad_member, has_room, object, place_of, place_of_run};
+use crate::operations::{bad_member, object, place_of, place_of_run};
 use crate::plane::{Instance, Plane};
 use crate::rows::{put, put_chosen, put_run};
 
@@ -35,17 +36,18 @@ fn marked(instance: Instance, to: &'static str, now: u64) -> Instance {
     if instance.state == to { instance } else { Instance { state: to, end: Some(now), retry_at: None, ..instance } }
 }
 
-pub fn mark(plane: &mut Plane, dag: &str, run: &str, body: &[u8], now: u64, out: &mut Vec<u8>) -> Result<(), Fault> {
+pub fn mark(plane: &mut Plane, dag: &str, run: &str, body: &[u8], author: &Author<'_>, out: &mut Vec<u8>) -> Result<(), Fault> {
     let body = object(body)?;
     let word = body.get("state").and_then(Value::text);
     let to = ["success", "failed", "queued"].into_iter().find(|&it| Some(it) == word).ok_or_else(|| bad_member("state"))?;
     let dag = place_of(plane, dag)?;
-    let place = place_of_run(plane, dag, run)?;
+    let (place, now) = (place_of_run(plane, dag, run)?, author.now);
     let run = plane.run(place);
     let changes = run.state != to || to != "queued" && run.instances.iter().any(|it| marked(*it, to, now) != *it);
     if changes {
-        has_room(plane)?;
+        plane.audit.has_room()?;
         let run = plane.runs[place].as_mut().expect("it was found");
+        let id = run.id.clone();
         if run.state != to {
             (run.start, run.end) = if to == "queued" { (None, None) } else { (run.start, Some(now)) };
             run.state = to;
@@ -56,29 +58,29 @@ pub fn mark(plane: &mut Plane, dag: &str, run: &str, body: &[u8], now: u64, out:
                 plane.set_instance(place, it, marked(instance, to, now));
             }
         }
-        plane.entries += 1;
+        plane.audit.add(author, "patch_dag_run", Some(dag), Some(id));
     }
     put_run(out, plane.run(place), &plane.dags[dag]);
     Ok(())
 }
 
-pub fn delete(plane: &mut Plane, dag: &str, run: &str) -> Result<(), Fault> {
-    let dag = place_of(plane, dag)?;
-    let place = place_of_run(plane, dag, run)?;
-    has_room(plane)?;
-    for it in 0..plane.dags[dag].tasks.len() {
+pub fn delete(plane: &mut Plane, dag: &str, run: &str, author: &Author<'_>) -> Result<(), Fault> {
+    let at = place_of(plane, dag)?;
+    let place = place_of_run(plane, at, run)?;
+    plane.audit.has_room()?;
+    for it in 0..plane.dags[at].tasks.len() {
         let gone = Instance { state: None, ..plane.run(place).instances[it] };
         plane.set_instance(place, it, gone);
     }
     let run = plane.runs[place].take().expect("it was found");
-    let dag = &mut plane.dags[dag];
+    let dag = &mut plane.dags[at];
     dag.by_id.remove(&run.id);
     dag.by_date.remove(&run.logical_date);
     if let Ok(at) = dag.runs.binary_search(&place) {
         dag.runs.remove(at);
     }
     plane.count -= 1;
-    plane.entries += 1;
+    plane.audit.add(author, "delete_dag_run", Some(at), Some(run.id));
     Ok(())
 }
 
@@ -99,8 +101,11 @@ impl Chosen {
     }
 }
 
+/// What is recorded of a clear that is no dry run.
+type Done<'a> = (&'a Author<'a>, &'static str);
+
 /// Clears the chosen instances, unless it is a dry run, and writes which they are.
-fn clear(plane: &mut Plane, dag: usize, chosen: &Chosen, dry_run: bool, out: &mut Vec<u8>) -> Result<(), Fault> {
+fn clear(plane: &mut Plane, dag: usize, chosen: &Chosen, done: Option<Done<'_>>, out: &mut Vec<u8>) -> Result<(), Fault> {
     let all = match chosen.run {
         Some(run) => vec![run],
         None => plane.dags[dag].runs.clone(),
@@ -127,10 +132,8 @@ fn clear(plane: &mut Plane, dag: usize, chosen: &Chosen, dry_run: bool, out: &mu
         changes |= rows.len() > before && matches!(run.state, "success" | "failed");
     }
     put(out, "]}");
-    if dry_run || !changes {
-        return Ok(());
-    }
-    has_room(plane).inspect_err(|_| out.clear())?;
+    let Some((author, event)) = done.filter(|_| changes) else { return Ok(()) };
+    plane.audit.has_room().inspect_err(|_| out.clear())?;
     for (place, it) in rows {
         let tries = plane.run(place).instances[it].try_number;
         let cleared = Instance::waiting(tries, &plane.dags[dag].tasks[it]);
@@ -140,18 +143,19 @@ fn clear(plane: &mut Plane, dag: usize, chosen: &Chosen, dry_run: bool, out: &mu
             (run.state, run.start, run.end) = ("queued", None, None);
         }
     }
-    plane.entries += 1;
+    let run = chosen.run.map(|it| plane.run(it).id.clone());
+    plane.audit.add(author, event, Some(dag), run);
     Ok(())
 }
 
-pub fn clear_run(plane: &mut Plane, dag: &str, run: &str, body: &[u8], out: &mut Vec<u8>) -> Result<(), Fault> {
+pub fn clear_run(plane: &mut Plane, dag: &str, run: &str, body: &[u8], author: &Author<'_>, out: &mut Vec<u8>) -> Result<(), Fault> {
     let dry_run = truth(&object(body)?, "dry_run", true)?;
     let dag = place_of(plane, dag)?;
     let run = Some(place_of_run(plane, dag, run)?);
-    clear(plane, dag, &Chosen { run, tasks: None, only_failed: false, start: 0, end: u64::MAX }, dry_run, out)
+    clear(plane, dag, &Chosen { run, tasks: None, only_failed: false, start: 0, end: u64::MAX }, (!dry_run).then_some((author, "clear_dag_run")), out)
 }
 
-pub fn clear_instances(plane: &mut Plane, dag: &str, body: &[u8], out: &mut Vec<u8>) -> Result<(), Fault> {
+pub fn clear_instances(plane: &mut Plane, dag: &str, body: &[u8], author: &Author<'_>, out: &mut Vec<u8>) -> Result<(), Fault> {
     let body = object(body)?;
     let (dry_run, only_failed) = (truth(&body, "dry_run", true)?, truth(&body, "only_failed", true)?);
     let named = |it: &Value<'_>, is_name: fn(&str) -> bool| it.text().is_some_and(is_name);
@@ -172,5 +176,6 @@ pub fn clear_instances(plane: &mut Plane, dag: &str, body: &[u8], out: &mut Vec<
         dag.tasks.iter().position(|it| *it.id == *id).ok_or_else(|| fault(404, format!("no such task: {id}")))
     };
     let tasks = tasks.map(|it| it.iter().map(task).collect()).transpose()?;
-    clear(plane, place, &Chosen { run, tasks, only_failed, start: start.unwrap_or(0), end: end.unwrap_or(u64::MAX) }, dry_run, out)
+    let chosen = Chosen { run, tasks, only_failed, start: start.unwrap_or(0), end: end.unwrap_or(u64::MAX) };
+    clear(plane, place, &chosen, (!dry_run).then_some((author, "clear_task_instances")), out)
 }

@@ -2,6 +2,7 @@
 use std::collections::{BTreeMap, HashMap, HashSet};
 use std::rc::Rc;
 
+use crate::audit::Audit;
 use crate::graph::graph;
 use crate::json::{self, Value};
 use crate::names::{is_account_name, is_id, is_pool_name, is_variable_key};
@@ -134,7 +135,7 @@ fn policy_of(config: &Value<'_>) -> Judged<Policy> {
             return Err("limit");
         }
     }
-    if has_admin { Ok(Policy { roles, users }) } else { Err("admin") }
+    if has_admin { Ok(Policy { version: 0, roles, users }) } else { Err("admin") }
 }
 
 fn pools_of(config: &Value<'_>) -> Judged<BTreeMap<Rc<str>, Pool>> {
@@ -255,10 +256,10 @@ pub fn read(bytes: &[u8]) -> Judged<(Policy, Plane)> {
         }
         dags.push(dag);
     }
-    // Read and judged; not obeyed yet.
-    number(&config, "history_limit", 1, 4_294_967_294, 1_000_000)?;
+    let most = number(&config, "history_limit", 1, 4_294_967_294, 1_000_000)? as usize;
+    // Judged, and not obeyed, since no policy changes.
     number(&config, "version_limit", 1, 4_294_967_295, 4_294_967_295)?;
     dags.sort_unstable_by(|a, b| a.id.cmp(&b.id));
     let places = dags.iter().enumerate().map(|(place, it)| (it.id.clone(), place)).collect();
-    Ok((policy, Plane { dags, places, runs: Vec::new(), count: 0, pools, variables, entries: 0 }))
+    Ok((policy, Plane { dags, places, runs: Vec::new(), count: 0, pools, variables, audit: Audit { entries: Vec::new(), most } }))
 }

@@ -4,6 +4,7 @@
 use std::collections::{BTreeMap, HashMap};
 use std::rc::Rc;
 
+use crate::audit::Audit;
 use crate::graph::Graph;
 use crate::instant;
 
@@ -11,7 +12,6 @@ pub const MOST_RUNS: usize = 65_536;
 pub const MOST_POOLS: usize = 65_536;
 pub const MOST_VARIABLES: usize = 65_536;
 pub const MOST_SLOTS: i128 = 1_000_000;
-pub const MOST_ENTRIES: u64 = 1_000_000;
 
 #[derive(Clone, Copy)]
 pub enum Schedule {
@@ -122,8 +122,7 @@ pub struct Plane {
     pub count: usize,
     pub pools: BTreeMap<Rc<str>, Pool>,
     pub variables: BTreeMap<Box<str>, Box<str>>,
-    /// How many changes there were.
-    pub entries: u64,
+    pub audit: Audit,
 }
 
 impl Plane {

@@ -1,5 +1,6 @@
 //! Roles as sets of permissions, users behind their tokens, and what an operation requires.
 use std::collections::{BTreeMap, HashMap};
+use std::rc::Rc;
 
 pub const CREATE: u8 = 1;
 pub const READ: u8 = 2;
@@ -103,14 +104,14 @@ impl Need {
     }
 }
 
-#[allow(dead_code)]
 pub struct User {
-    pub name: Box<str>,
+    pub name: Rc<str>,
     pub roles: Vec<usize>,
 }
 
 /// The roles, and the users by the digests of their tokens.
 pub struct Policy {
+    pub version: u32,
     pub roles: Vec<Role>,
     pub users: HashMap<[u8; 32], User>,
 }
@@ -128,7 +129,11 @@ pub struct Bearer<'a> {
     user: &'a User,
 }
 
-impl Bearer<'_> {
+impl<'a> Bearer<'a> {
+    pub fn name(&self) -> &'a Rc<str> {
+        &self.user.name
+    }
+
     fn any(&self, has: impl Fn(&Role) -> bool) -> bool {
         self.user.roles.iter().any(|&it| has(&self.policy.roles[it]))
     }

@@ -1,9 +1,11 @@
 //! Pools and variables.
 use crate::answer::{fault, Fault};
+use crate::audit::Author;
 use crate::json::Value;
 use crate::names::{is_pool_name, is_variable_key};
-use crate::operations::{bad_member, has_room, object, PAGE};
+use crate::operations::{bad_member, object};
 use crate::plane::{Plane, Pool, MOST_POOLS, MOST_SLOTS, MOST_VARIABLES};
+use crate::query::Window;
 use crate::rows::{put, put_listing, put_number, put_pool, put_variable};
 
 fn name<'v>(body: &'v Value<'_>, member: &str, is_name: fn(&str) -> bool) -> Result<&'v str, Fault> {
@@ -21,8 +23,8 @@ fn no_such(what: &str, name: &str) -> Fault {
     fault(404, format!("no such {what}: {name}"))
 }
 
-pub fn list_pools(plane: &Plane, out: &mut Vec<u8>) {
-    let page = plane.pools.iter().take(PAGE);
+pub fn list_pools(plane: &Plane, window: Window, out: &mut Vec<u8>) {
+    let page = plane.pools.iter().skip(window.offset).take(window.limit);
     put_listing(out, "pools", page, plane.pools.len(), |out, (name, pool)| put_pool(out, name, pool));
 }
 
@@ -32,7 +34,7 @@ pub fn show_pool(plane: &Plane, name: &str, out: &mut Vec<u8>) -> Result<(), Fau
     Ok(())
 }
 
-pub fn add_pool(plane: &mut Plane, body: &[u8], out: &mut Vec<u8>) -> Result<(), Fault> {
+pub fn add_pool(plane: &mut Plane, body: &[u8], author: &Author<'_>, out: &mut Vec<u8>) -> Result<(), Fault> {
     let body = object(body)?;
     let (name, slots) = (name(&body, "name", is_pool_name)?, slots(&body)?);
     if plane.pools.contains_key(name) {
@@ -41,18 +43,18 @@ pub fn add_pool(plane: &mut Plane, body: &[u8], out: &mut Vec<u8>) -> Result<(),
     if plane.pools.len() >= MOST_POOLS {
         return Err(fault(409, "too many"));
     }
-    has_room(plane)?;
-    plane.entries += 1;
+    plane.audit.has_room()?;
+    plane.audit.add(author, "post_pool", None, None);
     plane.pools.insert(name.into(), Pool::of(slots));
     show_pool(plane, name, out)
 }
 
-pub fn set_pool(plane: &mut Plane, name: &str, body: &[u8], out: &mut Vec<u8>) -> Result<(), Fault> {
+pub fn set_pool(plane: &mut Plane, name: &str, body: &[u8], author: &Author<'_>, out: &mut Vec<u8>) -> Result<(), Fault> {
     let slots = slots(&object(body)?)?;
     let pool = plane.pools.get(name).ok_or_else(|| no_such("pool", name))?;
     if pool.slots != slots {
-        has_room(plane)?;
-        plane.entries += 1;
+        plane.audit.has_room()?;
+        plane.audit.add(author, "patch_pool", None, None);
         if let Some(pool) = plane.pools.get_mut(name) {
             pool.slots = slots;
         }
@@ -60,7 +62,7 @@ pub fn set_pool(plane: &mut Plane, name: &str, body: &[u8], out: &mut Vec<u8>) -
     show_pool(plane, name, out)
 }
 
-pub fn delete_pool(plane: &mut Plane, name: &str) -> Result<(), Fault> {
+pub fn delete_pool(plane: &mut Plane, name: &str, author: &Author<'_>) -> Result<(), Fault> {
     let pool = plane.pools.get(name).ok_or_else(|| no_such("pool", name))?;
     if name == "default_pool" {
         return Err(fault(409, "default pool"));
@@ -68,17 +70,17 @@ pub fn delete_pool(plane: &mut Plane, name: &str) -> Result<(), Fault> {
     if pool.tasks > 0 {
         return Err(fault(409, format!("pool in use: {name}")));
     }
-    has_room(plane)?;
-    plane.entries += 1;
+    plane.audit.has_room()?;
+    plane.audit.add(author, "delete_pool", None, None);
     plane.pools.remove(name);
     Ok(())
 }
 
-pub fn list_variables(plane: &Plane, out: &mut Vec<u8>) {
+pub fn list_variables(plane: &Plane, window: Window, out: &mut Vec<u8>) {
     put(out, "{\"total_entries\":");
     put_number(out, plane.variables.len() as u64);
     put(out, ",\"variables\":[");
-    for (at, (key, value)) in plane.variables.iter().take(PAGE).enumerate() {
+    for (at, (key, value)) in plane.variables.iter().skip(window.offset).take(window.limit).enumerate() {
         if at > 0 {
             out.push(b',');
         }
@@ -93,7 +95,7 @@ pub fn show_variable(plane: &Plane, key: &str, out: &mut Vec<u8>) -> Result<(), 
     Ok(())
 }
 
-pub fn add_variable(plane: &mut Plane, body: &[u8], out: &mut Vec<u8>) -> Result<(), Fault> {
+pub fn add_variable(plane: &mut Plane, body: &[u8], author: &Author<'_>, out: &mut Vec<u8>) -> Result<(), Fault> {
     let body = object(body)?;
     let (key, value) = (name(&body, "key", is_variable_key)?, name(&body, "value", |_| true)?);
     if plane.variables.contains_key(key) {
@@ -102,30 +104,30 @@ pub fn add_variable(plane: &mut Plane, body: &[u8], out: &mut Vec<u8>) -> Result
     if plane.variables.len() >= MOST_VARIABLES {
         return Err(fault(409, "too many"));
     }
-    has_room(plane)?;
-    plane.entries += 1;
+    plane.audit.has_room()?;
+    plane.audit.add(author, "post_variable", None, None);
     plane.variables.insert(key.into(), value.into());
     show_variable(plane, key, out)
 }
 
-pub fn set_variable(plane: &mut Plane, key: &str, body: &[u8], out: &mut Vec<u8>) -> Result<(), Fault> {
+pub fn set_variable(plane: &mut Plane, key: &str, body: &[u8], author: &Author<'_>, out: &mut Vec<u8>) -> Result<(), Fault> {
     let body = object(body)?;
     let value = name(&body, "value", |_| true)?;
     let old = plane.variables.get(key).ok_or_else(|| no_such("variable", key))?;
     if **old != *value {
-        has_room(plane)?;
-        plane.entries += 1;
+        plane.audit.has_room()?;
+        plane.audit.add(author, "patch_variable", None, None);
         plane.variables.insert(key.into(), value.into());
     }
     show_variable(plane, key, out)
 }
 
-pub fn delete_variable(plane: &mut Plane, key: &str) -> Result<(), Fault> {
+pub fn delete_variable(plane: &mut Plane, key: &str, author: &Author<'_>) -> Result<(), Fault> {
     if !plane.variables.contains_key(key) {
         return Err(no_such("variable", key));
     }
-    has_room(plane)?;
-    plane.entries += 1;
+    plane.audit.has_room()?;
+    plane.audit.add(author, "delete_variable", None, None);
     plane.variables.remove(key);
     Ok(())
 }

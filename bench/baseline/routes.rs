@@ -3,6 +3,7 @@ use std::borrow::Cow;
 
 use crate::names::{is_id, is_pool_name, is_run_id, is_variable_key};
 use crate::policy::{Need, Resource::*, CREATE, DELETE, EDIT, READ};
+use crate::query;
 
 type Text<'a> = Cow<'a, str>;
 
@@ -32,6 +33,7 @@ pub enum Op<'a> {
     Variable(Text<'a>),
     SetVariable(Text<'a>),
     DeleteVariable(Text<'a>),
+    EventLogs,
 }
 
 impl Op<'_> {
@@ -57,6 +59,7 @@ impl Op<'_> {
             Op::AddVariable => &[Need::On(Variables, CREATE)],
             Op::SetVariable(_) => &[Need::On(Variables, EDIT)],
             Op::DeleteVariable(_) => &[Need::On(Variables, DELETE)],
+            Op::EventLogs => &[Need::On(AuditLogs, READ)],
         }
     }
 
@@ -79,26 +82,12 @@ pub enum Unrouted {
 
 use Unrouted::{BadMethod, NoPath};
 
-/// Percent-decodes a segment; a `%` without two hexadecimal digits stands for itself.
+/// The text of a segment.
 fn decoded(bytes: &[u8]) -> Result<Text<'_>, Unrouted> {
-    if !bytes.contains(&b'%') {
-        return std::str::from_utf8(bytes).map(Cow::Borrowed).map_err(|_| NoPath);
+    match query::decoded(bytes, false) {
+        Cow::Borrowed(it) => std::str::from_utf8(it).map(Cow::Borrowed).map_err(|_| NoPath),
+        Cow::Owned(it) => String::from_utf8(it).map(Cow::Owned).map_err(|_| NoPath),
     }
-    let digit = |at: usize| bytes.get(at).and_then(|&it| char::from(it).to_digit(16));
-    let (mut out, mut at) = (Vec::with_capacity(bytes.len()), 0);
-    while at < bytes.len() {
-        match (bytes[at], digit(at + 1), digit(at + 2)) {
-            (b'%', Some(high), Some(low)) => {
-                out.push((high * 16 + low) as u8);
-                at += 3;
-            }
-            (byte, ..) => {
-                out.push(byte);
-                at += 1;
-            }
-        }
-    }
-    String::from_utf8(out).map(Cow::Owned).map_err(|_| NoPath)
 }
 
 fn named(bytes: &[u8], is_name: impl Fn(&str) -> bool) -> Result<Text<'_>, Unrouted> {
@@ -115,7 +104,8 @@ pub fn route<'a>(method: &[u8], path: &'a [u8]) -> Result<Op<'a>, Unrouted> {
     match (&segments[..count], method) {
         ([b"version"], b"GET") => Ok(Op::Version),
         ([b"dags"], b"GET") => Ok(Op::Dags),
-        ([b"version" | b"dags"], _) => Err(BadMethod("GET")),
+        ([b"eventLogs"], b"GET") => Ok(Op::EventLogs),
+        ([b"version" | b"dags" | b"eventLogs"], _) => Err(BadMethod("GET")),
         ([b"dags", dag], _) => {
             let dag = named(dag, is_id)?;
             match method {

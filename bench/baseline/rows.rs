@@ -36,18 +36,21 @@ pub fn put_name(out: &mut Vec<u8>, text: &str) {
 }
 
 pub fn put_escaped(out: &mut Vec<u8>, text: &str) {
-    for byte in text.bytes() {
-        match byte {
-            b'"' | b'\\' => out.extend_from_slice(&[b'\\', byte]),
+    let mut rest = text;
+    while let Some(at) = rest.bytes().position(|it| matches!(it, b'"' | b'\\' | 0..32)) {
+        put(out, &rest[..at]);
+        match rest.as_bytes()[at] {
+            byte @ (b'"' | b'\\') => out.extend_from_slice(&[b'\\', byte]),
             b'\n' => put(out, "\\n"),
             b'\r' => put(out, "\\r"),
             b'\t' => put(out, "\\t"),
             8 => put(out, "\\b"),
             12 => put(out, "\\f"),
-            0..32 => put(out, &format!("\\u{byte:04x}")),
-            _ => out.push(byte),
+            byte => put(out, &format!("\\u{byte:04x}")),
         }
+        rest = &rest[at + 1..];
     }
+    put(out, rest);
 }
 
 fn put_date(out: &mut Vec<u8>, date: Option<u64>) {
@@ -58,9 +61,9 @@ fn put_date(out: &mut Vec<u8>, date: Option<u64>) {
 }
 
 /// A listing: the rows that are shown, and how many there are in all.
-pub fn put_listing<T>(out: &mut Vec<u8>, name: &str, rows: impl Iterator<Item = T>, total: usize, mut put_row: impl FnMut(&mut Vec<u8>, T)) {
+pub fn put_listing<T>(out: &mut Vec<u8>, name: &str, rows: impl IntoIterator<Item = T>, total: usize, mut put_row: impl FnMut(&mut Vec<u8>, T)) {
     open_listing(out, name);
-    for (at, row) in rows.enumerate() {
+    for (at, row) in rows.into_iter().enumerate() {
         if at > 0 {
             out.push(b',');
         }
