@@ -63,27 +63,23 @@ pub fn step(alloc: Global, does: Does) -> Result<Step, Fail> {
             Ok(Step::Report(report(alloc, run, number, outcome)?, now))
         }
         Does::Act(session, who, endpoint, texts, body) => {
-            act(alloc, session, who, call(alloc, endpoint, texts, body)?)
+            let token = token(alloc, who)?;
+            let call = call(alloc, endpoint, texts, body)?;
+            Ok(Step::Act(session, token, call, now))
         }
         Does::Me(session, who, endpoint) => me(alloc, session, who, endpoint),
         Does::Publish(session, at, who, endpoint, texts, body) => {
+            let token = token(alloc, who)?;
             let asked = policy_op(alloc, endpoint, texts, body)?;
-            publish(alloc, session, at, who, asked)
+            Ok(Step::Publish(session, at, token, asked))
         }
     }
 }
 
-fn act(alloc: Global, session: u32, who: &str, call: Call) -> Result<Step, Fail> {
-    Ok(Step::Act(session, token(alloc, who)?, call, moment()?))
-}
-
 fn me(alloc: Global, session: u32, who: &str, endpoint: Endpoint) -> Result<Step, Fail> {
+    let token = token(alloc, who)?;
     let asked = policy_op(alloc, endpoint, &[], "")?;
-    Ok(Step::Me(session, token(alloc, who)?, asked))
-}
-
-fn publish(alloc: Global, session: u32, at: u32, who: &str, asked: PolicyOp) -> Result<Step, Fail> {
-    Ok(Step::Publish(session, at, token(alloc, who)?, asked))
+    Ok(Step::Me(session, token, asked))
 }
 
 fn answer(
@@ -144,6 +140,29 @@ fn answers_of(
     Ok(answers)
 }
 
+/// Whether a world of so many versions and entries answers these steps so.
+fn checked(
+    alloc: Global,
+    limits: (u32, u32),
+    steps: &[Step],
+    answers: &[Option<Shown>],
+) -> Result<bool, Fail> {
+    let opening = opening(alloc, limits.0, limits.1)?;
+    Ok(check_trace(alloc, &opening, steps, answers)?)
+}
+
+/// Whether it answers these steps as the rows say, but at one place so.
+fn answered(
+    alloc: Global,
+    limits: (u32, u32),
+    steps: &[Step],
+    rows: &[Row],
+    other: (usize, Says),
+) -> Result<bool, Fail> {
+    let answers = answers_of(alloc, rows, other.0, other.1)?;
+    checked(alloc, limits, steps, answers.as_slice())
+}
+
 /// Whether the trace of these rows agrees with a world of so many versions and entries, where the answer at one place is this one.
 pub fn agrees_but(
     alloc: Global,
@@ -152,10 +171,8 @@ pub fn agrees_but(
     place: usize,
     other: Says,
 ) -> Result<bool, Fail> {
-    let opening = opening(alloc, limits.0, limits.1)?;
     let steps = steps_of(alloc, rows)?;
-    let answers = answers_of(alloc, rows, place, other)?;
-    Ok(check_trace(alloc, &opening, steps.as_slice(), answers.as_slice())?)
+    answered(alloc, limits, steps.as_slice(), rows, (place, other))
 }
 
 /// Whether the trace of these rows agrees.
@@ -165,8 +182,7 @@ pub fn agrees(alloc: Global, limits: (u32, u32), rows: &[Row]) -> Result<bool, F
 
 /// Whether the steps of some rows agree with the answers of others.
 pub fn are_answered_as(alloc: Global, rows: &[Row], others: &[Row]) -> Result<bool, Fail> {
-    let opening = opening(alloc, 100, 100)?;
     let steps = steps_of(alloc, rows)?;
-    let answers = answers_of(alloc, others, others.len(), Says::Nothing)?;
-    Ok(check_trace(alloc, &opening, steps.as_slice(), answers.as_slice())?)
+    let none = (others.len(), Says::Nothing);
+    answered(alloc, (100, 100), steps.as_slice(), others, none)
 }

@@ -3,7 +3,7 @@ use crate::tests::opening::opening;
 use crate::tests::playing::step;
 use crate::tests::steps::Does;
 use af_ops::{Endpoint, Shown};
-use af_world::World;
+use af_world::{Opening, Step, World};
 use std::alloc::Global;
 use std::test::Fail;
 
@@ -47,18 +47,39 @@ fn named(does: Does, answer: &Option<Shown>) -> Option<u32> {
     }
 }
 
-fn told(alloc: Global) -> Result<Vec<u32>, Fail> {
-    let opening = opening(alloc, 100, 100)?;
-    let mut world = World::open(alloc, &opening)?;
+/// Takes a step, and gives the version that session 1 is told, if it is told one.
+fn taken(alloc: Global, world: &mut World, step: &Step, does: Does) -> Result<Option<u32>, Fail> {
+    let answer = world.take(alloc, step)?;
+    Ok(named(does, &answer))
+}
+
+fn told_in(alloc: Global, world: &mut World, steps: &[Step]) -> Result<Vec<u32>, Fail> {
     let mut versions = Vec::new(alloc);
-    for does in STEPS {
-        let step = step(alloc, *does)?;
-        let answer = world.take(alloc, &step)?;
-        if let Some(version) = named(*does, &answer) {
+    for (step, does) in steps.iter().zip(STEPS) {
+        if let Some(version) = taken(alloc, world, step, *does)? {
             versions.push(version)?;
         }
     }
     Ok(versions)
+}
+
+fn told_by(alloc: Global, opening: &Opening, steps: &[Step]) -> Result<Vec<u32>, Fail> {
+    let mut world = World::open(alloc, opening)?;
+    told_in(alloc, &mut world, steps)
+}
+
+fn steps(alloc: Global) -> Result<Vec<Step>, Fail> {
+    let mut steps = Vec::new(alloc);
+    for does in STEPS {
+        steps.push(step(alloc, *does)?)?;
+    }
+    Ok(steps)
+}
+
+fn told(alloc: Global) -> Result<Vec<u32>, Fail> {
+    let steps = steps(alloc)?;
+    let opening = opening(alloc, 100, 100)?;
+    told_by(alloc, &opening, steps.as_slice())
 }
 
 #[test]

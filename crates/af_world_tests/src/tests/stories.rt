@@ -26,7 +26,7 @@ const NOBODY: &str =
     r#"{"detail":"authentication required","status":401,"title":"Unauthorized","type":"about:blank"}"#;
 
 const FIRST_LOG: &str =
-    r#"{"event_logs":[{"dag_id":"b","event":"trigger_dag_run","event_log_id":1,"owner":"uma","policy_version":0,"run_id":null,"task_id":null,"when":"2024-01-01T00:00:00+00:00"}],"total_entries":1}"#;
+    r#"{"event_logs":[{"dag_id":"b","event":"trigger_dag_run","event_log_id":1,"owner":"uma","policy_version":0,"run_id":"r1","task_id":null,"when":"2024-01-01T00:00:00+00:00"}],"total_entries":1}"#;
 
 const TO_PUBLIC: &str = r#"{"roles":[{"name":"Public"}]}"#;
 
