@@ -1,0 +1,5 @@
+pub mod PlaneLemmas
+pub mod ActLemmas
+pub mod PolicyLemmas
+pub mod SoloLemmas
+pub mod ReachLemmas

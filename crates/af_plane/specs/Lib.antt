@@ -1,0 +1,4 @@
+pub mod Planes
+pub mod Solos
+pub mod Alone
+pub mod Laws
