@@ -1,16 +1,10 @@
 ghost use Rattle.std.specs.Prelude.{◌≡◌, IfOk, slice_set};
 
+use crate::again::Again;
 use std::alloc::{AllocError, Global};
 use std::marker::Model;
 
-/// A value that can be made again.
-pub trait Again: Drop {
-    /// The same value again. `AllocError` only where a growth was refused.
-    fn copied(&self, alloc: Global) -> Result<Self, AllocError>
-        ensures { IfOk result (λ copy. copy ≡ self.now) };
-}
-
-/// A list. Contracts see its items.
+/// A list. Contracts see it as its items, in order.
 #[derive(Drop)]
 pub struct Items<T: Drop> {
     items: Vec<T>,
@@ -60,8 +54,11 @@ impl<T: Drop> Items<T> {
     }
 }
 
-impl<T: Again> Again for Items<T> {
-    fn copied(&self, alloc: Global) -> Result<Items<T>, AllocError> {
+impl<T: Again> Items<T> {
+    /// The same items again. `AllocError` only where a growth was refused.
+    pub fn copied(&self, alloc: Global) -> Result<Items<T>, AllocError>
+        ensures { IfOk result (λ copy. copy ≡ self.now) }
+    {
         let mut items = Vec::with_capacity(alloc, self.items.len())?;
         for item in &self.items {
             items.push(item.copied(alloc)?)?;

@@ -8,7 +8,6 @@ ghost use Rattle.af_base.specs.Members.{as_list};
 mod members;
 mod number;
 mod reading;
-mod worked;
 
 pub use members::{
     member, optional_list, optional_text, optional_truth, required_list, required_object,
@@ -16,7 +15,6 @@ pub use members::{
 };
 pub use number::Numeric;
 pub use reading::json_in;
-pub use worked::{nesting_by_the_rule, numbers_by_the_rule, texts_by_the_rule};
 
 /// A JSON value whose texts are borrowed. An object has its members in the order of the text; of a name that comes twice the
 /// last member is the one that counts.

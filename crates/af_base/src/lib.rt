@@ -2,17 +2,19 @@
 //! their items; and JSON values over the text that they are read from, with the members of their objects, read one after another.
 #![tactic(auto)]
 
+mod again;
 mod items;
 mod json_value;
 mod keyed;
 mod ordered;
 mod searching;
+pub mod worked;
 
-pub use items::{Again, Items};
+pub use again::Again;
+pub use items::Items;
 pub use json_value::{
-    Json, Numeric, json_in, member, nesting_by_the_rule, numbers_by_the_rule, optional_list,
-    optional_text, optional_truth, required_list, required_object, required_text, required_truth,
-    texts_by_the_rule,
+    Json, Numeric, json_in, member, optional_list, optional_text, optional_truth, required_list,
+    required_object, required_text, required_truth,
 };
 pub use keyed::{Change, Keyed};
 pub use ordered::Ordered;

@@ -9,7 +9,7 @@ use std::marker::Model;
 use std::mem;
 
 /// Rows in byte order of their keys, no two of one key. Contracts see that list of rows, beside the number of rows for which
-/// memory is reserved. A row is found by halving.
+/// memory is reserved. A row is found by binary search.
 #[derive(Drop)]
 pub struct Ordered<T: Keyed> {
     rows: Vec<T>,

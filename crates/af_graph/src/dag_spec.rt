@@ -1,7 +1,7 @@
 ghost use Rattle.std.specs.Prelude.{◌≡◌, IfOk};
 
 use crate::schedule::Schedule;
-use crate::task_specs::TaskSpecs;
+use crate::task_spec::TaskSpecs;
 use af_names::DagId;
 use std::alloc::{AllocError, Global};
 

@@ -3,8 +3,7 @@ ghost use Rattle.af_graph.specs.Definition.{id_at};
 ghost use Rattle.af_graph.specs.Steps.{told, IsPlaced};
 
 use crate::dag_fault::DagFault;
-use crate::task_spec::TaskSpec;
-use crate::task_specs::TaskSpecs;
+use crate::task_spec::{TaskSpec, TaskSpecs};
 use af_names::TaskId;
 
 /// Why tasks make no graph, with the place of the task that is told.

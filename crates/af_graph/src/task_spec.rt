@@ -1,9 +1,15 @@
 ghost use Rattle.std.specs.Prelude.{◌≡◌, IfOk};
 
 use crate::rule::Rule;
-use crate::task_ids::TaskIds;
+use af_base::{Again, Items};
 use af_names::{PoolName, TaskId};
 use std::alloc::{AllocError, Global};
+
+/// Ids of tasks, in the order in which they were given.
+pub type TaskIds = Items<TaskId>;
+
+/// The tasks of a definition, in its order.
+pub type TaskSpecs = Items<TaskSpec>;
 
 /// A task, as its DAG's definition has it.
 #[derive(Drop)]
@@ -43,5 +49,11 @@ impl TaskSpec {
             retry_delay: self.retry_delay,
             trigger_rule: self.trigger_rule,
         })
+    }
+}
+
+impl Again for TaskSpec {
+    fn copied(&self, alloc: Global) -> Result<TaskSpec, AllocError> {
+        TaskSpec::copied(self, alloc)
     }
 }

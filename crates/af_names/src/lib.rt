@@ -10,7 +10,7 @@ mod name_error;
 mod names_dag;
 mod points;
 mod preset;
-mod worked;
+pub mod worked;
 
 pub use instant::Instant;
 pub use instant_error::InstantError;
@@ -23,4 +23,3 @@ pub use name::{Name, NameKind};
 pub use name_error::NameError;
 pub use names_dag::NamesDag;
 pub use preset::Preset;
-pub use worked::{ids_by_the_rule, instants_by_the_rule, names_by_the_rule, points_by_the_rule};

@@ -4,6 +4,7 @@ ghost use Rattle.af_role.specs.Pairs.{with_pairs};
 ghost use Rattle.af_role.specs.Access.{bad_action, is_dag_action, listed_pairs, names_role, pair_at, pairs_at, row_pairs};
 
 use crate::{Action, Pair, Permissions, Resource, Text, Texts};
+use af_base::{Again, Items};
 use af_names::{DagId, RoleName};
 use std::alloc::{AllocError, Global};
 use std::marker::Model;
@@ -18,7 +19,7 @@ pub struct AccessRow {
 /// Which roles are to have which actions on one DAG. Contracts see it as its rows, in the order in which they were given.
 #[derive(Drop)]
 pub struct AccessControl {
-    rows: Vec<AccessRow>,
+    rows: Items<AccessRow>,
 }
 
 impl Model for AccessControl {
@@ -27,7 +28,7 @@ impl Model for AccessControl {
 
     ghost Value = { List AccessRow };
 
-    ghost view = { λ access. access.rows.items };
+    ghost view = { λ access. access.rows };
 }
 
 impl AccessControl {
@@ -35,7 +36,9 @@ impl AccessControl {
     pub fn new(rows: Vec<AccessRow>) -> AccessControl
         ensures { result ≡ rows.items }
     {
-        AccessControl { rows }
+        AccessControl {
+            rows: Items::of(rows),
+        }
     }
 
     /// The rows.
@@ -49,7 +52,7 @@ impl AccessControl {
     pub fn bad_action(&self) -> Option<&Text>
         ensures { option_copied result ≡ bad_action self.now }
     {
-        self.rows
+        self.as_slice()
             .iter()
             .flat_map(|row| row.actions.as_slice().iter())
             .find(|text| !is_dag_action(text))
@@ -59,17 +62,14 @@ impl AccessControl {
     pub fn names(&self, role: &RoleName) -> bool
         ensures { result ≡ names_role self.now role.now }
     {
-        self.rows.iter().any(|row| row.role == *role)
+        self.as_slice().iter().any(|row| row.role == *role)
     }
 
     /// The same rows again. `AllocError` only where a growth was refused.
     pub fn copied(&self, alloc: Global) -> Result<AccessControl, AllocError>
         ensures { IfOk result (λ access. access ≡ self.now) }
     {
-        let mut rows = Vec::with_capacity(alloc, self.rows.len())?;
-        for row in &self.rows {
-            rows.push(row.copied(alloc)?)?;
-        }
+        let rows = self.rows.copied(alloc)?;
         Ok(AccessControl { rows })
     }
 
@@ -87,11 +87,8 @@ impl AccessControl {
     }
 }
 
-impl AccessRow {
-    /// The same row again. `AllocError` only where a growth was refused.
-    fn copied(&self, alloc: Global) -> Result<AccessRow, AllocError>
-        ensures { IfOk result (λ row. row ≡ self.now) }
-    {
+impl Again for AccessRow {
+    fn copied(&self, alloc: Global) -> Result<AccessRow, AllocError> {
         let role = self.role.copied(alloc)?;
         let actions = self.actions.copied(alloc)?;
         Ok(AccessRow { role, actions })

@@ -16,8 +16,7 @@ mod role;
 mod sync;
 mod sync_fault;
 mod text;
-mod texts;
-mod worked;
+pub mod worked;
 
 pub use access::{AccessControl, AccessRow};
 pub use action::Action;
@@ -26,16 +25,11 @@ pub use defaults::default_roles;
 pub use need::Need;
 pub use pair::Pair;
 pub use pair_fault::PairFault;
-pub use pair_text::PairText;
-pub use pair_texts::PairTexts;
+pub use pair_text::{PairText, PairTexts};
+pub use pair_texts::read_pairs;
 pub use permissions::Permissions;
 pub use resource::{Resource, ResourceKind};
 pub use role::Role;
 pub use sync::sync_access;
 pub use sync_fault::SyncFault;
-pub use text::Text;
-pub use texts::Texts;
-pub use worked::{
-    default_roles_by_the_rule, needs_by_the_rule, pairs_by_the_rule, single_dags_by_the_rule,
-    texts_by_the_rule,
-};
+pub use text::{Text, Texts};

@@ -4,7 +4,11 @@ ghost use Rattle.af_role.specs.Resources.{action_of};
 ghost use Rattle.af_role.specs.PairTexts.{pair_of_both, pair_read};
 
 use crate::{Action, Pair, Resource, Text};
+use af_base::{Again, Items};
 use std::alloc::{AllocError, Global};
+
+/// Permissions as they were given, in their order.
+pub type PairTexts = Items<PairText>;
 
 /// A permission as it was given: the texts of its action and of its resource.
 #[derive(Drop)]
@@ -36,6 +40,12 @@ impl PairText {
     {
         let resource = Resource::read(alloc, self.resource.as_str())?;
         Ok(Pair::of(Action::read(self.action.as_str()), resource))
+    }
+}
+
+impl Again for PairText {
+    fn copied(&self, alloc: Global) -> Result<PairText, AllocError> {
+        PairText::copied(self, alloc)
     }
 }
 

@@ -1,7 +1,11 @@
 ghost use Rattle.std.specs.Prelude.{◌≡◌, IfOk, string_bytes};
 
+use af_base::{Again, Items};
 use std::alloc::{AllocError, Global};
 use std::marker::Model;
+
+/// Texts in the order in which they were given.
+pub type Texts = Items<Text>;
 
 /// A text as it was given, of any bytes of UTF-8. Contracts see it as its bytes.
 #[derive(Drop)]
@@ -38,5 +42,11 @@ impl Text {
     {
         let text = String::from_str(alloc, self.as_str())?;
         Ok(Text { text })
+    }
+}
+
+impl Again for Text {
+    fn copied(&self, alloc: Global) -> Result<Text, AllocError> {
+        Text::copied(self, alloc)
     }
 }

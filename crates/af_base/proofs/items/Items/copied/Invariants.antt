@@ -1,5 +1,5 @@
 use Rattle.std.proofs.Common.{◌≡◌, take}
-use Rattle.af_base.proofs.items.ItemsAgain.copied.Given as goal
+use Rattle.af_base.proofs.items.Items.copied.Given as goal
 
 -- what was copied are the items so far
 abbrev pub invariant-loop-item : goal.invariant-loop-item

@@ -1,7 +1,7 @@
 use Rattle.std.proofs.Common.{refl}
 use Rattle.std.specs.Str.{is_utf8, chars}
 use Rattle.serde_json.proofs.OnLiterals.{serde_json_on_literals}
-use Rattle.af_base.proofs.json_value.worked.nesting_by_the_rule.Goals as goal
+use Rattle.af_base.proofs.worked.nesting_by_the_rule.Goals as goal
 
 pub returns-clause-deepest : goal.returns-clause-deepest
 unfolding serde_json_on_literals is_utf8 chars
