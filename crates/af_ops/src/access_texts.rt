@@ -167,7 +167,7 @@ fn read_texts<E: Copy>(alloc: Global, value: &Json<'_>, wrong: E, memory: E) -> 
         return Err(wrong);
     };
     let texts = read_items(alloc, items, wrong, memory)?;
-    Ok(Texts::new(texts))
+    Ok(Texts::of(texts))
 }
 
 fn read_items<E: Copy>(

@@ -60,7 +60,7 @@ pub(crate) fn read_actions(alloc: Global, body: &Json<'_>) -> Result<PairTexts, 
 {
     let items = required_list(body, Member::Actions.text(), wrong(Member::Actions))?;
     let texts = read_pair_texts(alloc, items)?;
-    Ok(PairTexts::new(texts))
+    Ok(PairTexts::of(texts))
 }
 
 fn read_pair_texts(alloc: Global, items: &[Json<'_>]) -> Result<Vec<PairText>, InputFault>

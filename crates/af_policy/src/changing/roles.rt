@@ -6,7 +6,7 @@ ghost use Rattle.af_policy.specs.Changes.{after_pairs, is_default, role_added, r
 use crate::draft::MOST_ROLES;
 use crate::{ChangeFault, Policy, RoleInput};
 use af_names::RoleName;
-use af_role::{Permissions, Role};
+use af_role::{Permissions, Role, read_pairs};
 use std::alloc::Global;
 
 impl Policy {
@@ -14,7 +14,7 @@ impl Policy {
     pub(super) fn add_role(&self, alloc: Global, input: &RoleInput) -> Result<Policy, ChangeFault>
         ensures { (result ≡ after_pairs (pairs_read input.now.actions) (role_added self.now input.now.name)) ⊎ (result ≡ Err ChangeFault.OutOfMemory) }
     {
-        let permissions = input.actions.read(alloc)?;
+        let permissions = read_pairs(alloc, input.actions.as_slice())?;
         if self.tables.roles.has(&input.name) {
             return Err(ChangeFault::Exists);
         }
@@ -28,7 +28,7 @@ impl Policy {
     pub(super) fn set_role(&self, alloc: Global, input: &RoleInput) -> Result<Policy, ChangeFault>
         ensures { (result ≡ after_pairs (pairs_read input.now.actions) (role_set self.now input.now.name)) ⊎ (result ≡ Err ChangeFault.OutOfMemory) }
     {
-        let permissions = input.actions.read(alloc)?;
+        let permissions = read_pairs(alloc, input.actions.as_slice())?;
         if !self.tables.roles.has(&input.name) {
             return Err(ChangeFault::NoSuchRole);
         }

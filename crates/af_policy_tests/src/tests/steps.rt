@@ -47,7 +47,7 @@ fn pair_texts(alloc: Global, pairs: &[(&str, &str)]) -> Result<PairTexts, Fail> 
     for (action, resource) in pairs {
         items.push(pair_text(alloc, action, resource)?)?;
     }
-    Ok(PairTexts::new(items))
+    Ok(PairTexts::of(items))
 }
 
 fn pair_text(alloc: Global, action: &str, resource: &str) -> Result<PairText, Fail> {
@@ -105,7 +105,7 @@ fn texts(alloc: Global, items: &[&str]) -> Result<Texts, Fail> {
     for item in items {
         texts.push(text(alloc, item)?)?;
     }
-    Ok(Texts::new(texts))
+    Ok(Texts::of(texts))
 }
 
 fn sync(alloc: Global, access: Option<AccessControl>) -> Result<Change, Fail> {
