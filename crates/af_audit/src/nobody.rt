@@ -13,4 +13,8 @@ impl Reader for Nobody {
     fn readable(&self, _dag: &DagId) -> bool {
         false
     }
+
+    fn reads_all(&self) -> bool {
+        false
+    }
 }

@@ -1,3 +1,4 @@
 mod DecodeLemmas
 mod LawLemmas
 mod PageLemmas
+mod WholeLemmas

@@ -1,7 +1,7 @@
 -- A page of a listing: who reads is shown the rows whose DAG is read, and those that name none (Airflow 2, "Access Control": a
 -- listing has the DAGs that the user may read). Of these, in the list's order, some are passed over and some told; all are counted.
 use Rattle.std.specs.Prelude.{ℕ, ◌+◌, List, [], ◌∷◌, ◌++◌, length, map, take, drop, filter, Bool, true, not, ◌&&◌, nat_lt, if◌then◌else◌, Option, None, Some}
-use Rattle.std.specs.List.{enumerate_from}
+use Rattle.std.specs.List.{enumerate_from, range_with_len}
 use Rattle.af_listing.specs.Windows.{Cut}
 
 -- a row is shown by the DAG that it names
@@ -31,6 +31,10 @@ page_of shown window rows = record {
   places = cut window (shown_places shown rows);
   total = length (filter shown rows);
 }
+
+-- the page of a list of so many rows that are all shown: its places are cut of all places
+abbrev pub whole_page : Cut → ℕ → Told
+whole_page window total = record { places = cut window (range_with_len 0 total); total = total }
 
 -- one more place, after so many shown rows: it is taken where it is not passed over and the page has room
 abbrev pub with_cut : Cut → ℕ → List ℕ → ℕ → List ℕ

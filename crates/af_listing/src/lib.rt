@@ -7,10 +7,9 @@ mod listed;
 mod listed_page;
 mod paging;
 mod window;
-mod worked;
+pub mod worked;
 
 pub use listed::Listed;
 pub use listed_page::Page;
 pub use paging::page;
 pub use window::Window;
-pub use worked::{faults_by_the_rule, pages_by_the_rule, queries_by_the_rule};

@@ -1,5 +1,6 @@
-ghost use Rattle.std.specs.Prelude.{◌≡◌, ◌<◌, ◌-◌, ◌^◌, [], OnOk};
-ghost use Rattle.af_listing.specs.Pages.{with_row};
+ghost use Rattle.std.specs.Prelude.{◌≡◌, ◌<◌, ◌-◌, ◌^◌, [], IfOk, OnOk};
+ghost use Rattle.std.specs.List.{range_with_len};
+ghost use Rattle.af_listing.specs.Pages.{whole_page, with_row};
 
 use crate::Window;
 use std::alloc::{AllocError, Global};
@@ -46,6 +47,17 @@ impl Page {
         }
     }
 
+    /// The page of a list of so many rows that are all shown. It takes as long as the page has rows, whatever the list has.
+    /// `AllocError` only where a growth was refused.
+    pub(crate) fn of_all(alloc: Global, total: usize, window: Window) -> Result<Page, AllocError>
+        ensures { IfOk result (λ page. page ≡ whole_page window total) }
+    {
+        let first = window.offset().min(total);
+        let count = window.limit().min(total - first);
+        let places = numbers(alloc, first, first + count)?;
+        Ok(Page { places, total })
+    }
+
     /// Goes by the row at a place, the next of the list: where it is shown it is counted, and told if the window has it.
     /// `AllocError` only where a growth was refused.
     pub(crate) fn see(
@@ -66,4 +78,11 @@ impl Page {
         self.total += 1;
         Ok(())
     }
+}
+
+/// The numbers from one on, up to another.
+fn numbers(alloc: Global, first: usize, end: usize) -> Result<Vec<usize>, AllocError>
+    ensures { IfOk result (λ numbers. numbers.items ≡ range_with_len first (end - first)) }
+{
+    (first..end).collect(alloc)
 }

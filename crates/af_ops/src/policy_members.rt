@@ -128,7 +128,7 @@ pub(crate) fn optional_roles(
         return Err(wrong(Member::Roles));
     };
     let names = read_role_names(alloc, items)?;
-    Ok(Some(RoleNames::new(names)))
+    Ok(Some(RoleNames::of(names)))
 }
 
 fn read_role_names(alloc: Global, items: &[Json<'_>]) -> Result<Vec<RoleName>, InputFault>

@@ -15,8 +15,7 @@ use Rattle.af_policy.specs.declared.change.Change.TheVariants.{AddRole, SetRole,
 use Rattle.af_policy.specs.declared.change.UserPatch.{UserPatch}
 use Rattle.af_policy.specs.declared.change_fault.ChangeFault.{ChangeFault}
 use Rattle.af_policy.specs.declared.change_fault.ChangeFault.TheVariants.{NoSuchRole, DefaultRole, Exists, RoleInUse, LastAdmin, TooMany}
-use Rattle.af_policy.specs.Rows.{PolicyRows, UserRow, found_user, has_admin, has_digest, has_role, has_user, role_in_use, with_role, with_user, without_role, without_user}
-use Rattle.af_policy.specs.Drafts.{most_roles, most_users}
+use Rattle.af_policy.specs.Rows.{PolicyRows, UserRow, found_user, has_admin, has_digest, has_role, has_user, most_roles, most_users, role_in_use, with_role, with_user, without_role, without_user}
 use Rattle.af_policy.specs.Changes.{after_pairs, dag_synced, is_anothers, is_default, new_user, patched, replaced, role_added, role_set, synced_unless, unknown_given, unknown_role, unknown_row, unless_unknown, user_gone, user_patched}
 use Rattle.af_policy.specs.Laws.{SomeAdminStays, SyncKeepsTheRest, SyncListsExactly, UsedRolesStay}
 use Rattle.af_policy.proofs.ChangeLemmas.{has_admin-with_user}

@@ -11,6 +11,8 @@ pub mod DraftLemmas
 pub mod RemovalLemmas
 pub mod ChangeLemmas
 pub mod SyncLemmas
+pub mod RoleLemmas
+pub mod PlaceLemmas
 pub mod GrantLemmas
 pub mod VersionLemmas
 pub mod ShownLemmas

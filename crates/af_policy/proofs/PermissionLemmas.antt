@@ -29,6 +29,7 @@ use Rattle.af_policy.specs.declared.me_fault.MeFault.{MeFault}
 use Rattle.af_policy.specs.Laws.{MeShowsGrants, SyncAddsNothingElsewhere, SyncIsExact}
 use Rattle.af_policy.proofs.LawLemmas.{contains-with_pairs, or-none, sync-lists_exactly}
 use Rattle.af_policy.proofs.NameLemmas.{list_any-map}
+use Rattle.af_policy.proofs.RoleLemmas.{sorted-with_pairs}
 use Rattle.af_policy.proofs.ViewLemmas.{held_by-grants, role_lists-pairs_of}
 
 -- ---- a sync
@@ -138,33 +139,6 @@ sync-is_exact policy later input access name pair given e =
     )
 
 -- ---- who am I
-
-all-insert : (P : PairRow → Type 0) (k : PairRow) (xs : List PairRow) → P k → AllByRecursion P xs → AllByRecursion P (with_pair xs k)
-all-insert P k [] one all = (one, tt)
-all-insert P k (x ∷ xs) one all = step (pair_cmp k x) (all-insert P k xs one all.1)
-  where
-    step : (o : Ordering) → AllByRecursion P (with_pair xs k) → AllByRecursion P (match_ordering o (k ∷ x ∷ xs) (x ∷ xs) (x ∷ with_pair xs k))
-    step Less later = (one, all)
-    step Equal later = all
-    step Greater later = (all.0, later)
-
-all-above : (k x : PairRow) → pair_cmp k x ≡ Less → (xs : List PairRow) → AllByRecursion (λ y. pair_cmp x y ≡ Less) xs → AllByRecursion (λ y. pair_cmp k y ≡ Less) xs
-all-above k x below [] all = tt
-all-above k x below (y ∷ ys) all = (pair_total.trans k x y below all.0, all-above k x below ys all.1)
-
-sorted-with_pair : (xs : List PairRow) (k : PairRow) → IsStrictlySortedBy pair_cmp xs → IsStrictlySortedBy pair_cmp (with_pair xs k)
-unfolding IsStrictlySortedBy
-sorted-with_pair [] k s = (tt, tt)
-sorted-with_pair (x ∷ xs) k s = step (pair_cmp k x) refl (sorted-with_pair xs k s.1)
-  where
-    step : (o : Ordering) → pair_cmp k x ≡ o → IsStrictlySortedBy pair_cmp (with_pair xs k) → IsStrictlySortedBy pair_cmp (match_ordering o (k ∷ x ∷ xs) (x ∷ xs) (x ∷ with_pair xs k))
-    step Less e later = ((e, all-above k x e xs s.0), s)
-    step Equal e later = s
-    step Greater e later = (all-insert (λ y. pair_cmp x y ≡ Less) k xs (pair_total.antisymm x k ∙ ap ordering_reverse e) s.0, later)
-
-sorted-with_pairs : (xs more : List PairRow) → IsStrictlySortedBy pair_cmp xs → IsStrictlySortedBy pair_cmp (with_pairs xs more)
-sorted-with_pairs xs [] s = s
-sorted-with_pairs xs (k ∷ ks) s = sorted-with_pairs (with_pair xs k) ks (sorted-with_pair xs k s)
 
 sorted-none : IsStrictlySortedBy pair_cmp []
 unfolding IsStrictlySortedBy

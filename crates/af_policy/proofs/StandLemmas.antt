@@ -9,8 +9,7 @@ use Rattle.af_policy.specs.declared.change.UserPatch.{UserPatch}
 use Rattle.af_policy.specs.declared.change_fault.ChangeFault.{ChangeFault}
 use Rattle.af_policy.specs.declared.change_fault.ChangeFault.TheVariants.{NoSuchRole, DefaultRole, Exists, RoleInUse, LastAdmin, TooMany}
 use Rattle.af_policy.specs.declared.change_reply.ChangeReply.TheVariants.{Role, User}
-use Rattle.af_policy.specs.Rows.{PolicyRows, UserRow, found_user, has_admin, has_digest, has_role, has_user, role_in_use, with_role, with_user, without_role, without_user}
-use Rattle.af_policy.specs.Drafts.{most_users}
+use Rattle.af_policy.specs.Rows.{PolicyRows, UserRow, found_user, has_admin, has_digest, has_role, has_user, most_users, role_in_use, with_role, with_user, without_role, without_user}
 use Rattle.af_policy.specs.Changes.{is_anothers, is_default, new_user, patched, replaced, role_dropped, unknown_given, unknown_role, unless_unknown, user_gone, user_patched}
 use Rattle.af_policy.specs.Shown.{shown_user}
 use Rattle.af_policy.specs.Tables.{found_role}

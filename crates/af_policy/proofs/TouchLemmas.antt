@@ -12,8 +12,7 @@ use Rattle.af_policy.specs.declared.change.UserPatch.{UserPatch}
 use Rattle.af_policy.specs.declared.change_fault.ChangeFault.{ChangeFault}
 use Rattle.af_policy.specs.declared.change_fault.ChangeFault.TheVariants.{NoSuchRole, DefaultRole, Exists, RoleInUse, LastAdmin, TooMany}
 use Rattle.af_policy.specs.declared.ask.Ask.{Ask}
-use Rattle.af_policy.specs.Rows.{PolicyRows, UserRow, found_user, has_admin, has_digest, has_role, has_user, role_in_use, same_name, with_role, with_user, without_role, without_user}
-use Rattle.af_policy.specs.Drafts.{most_roles, most_users}
+use Rattle.af_policy.specs.Rows.{PolicyRows, UserRow, found_user, has_admin, has_digest, has_role, has_user, most_roles, most_users, role_in_use, same_name, with_role, with_user, without_role, without_user}
 use Rattle.af_policy.specs.Changes.{after_pairs, is_anothers, is_default, needs_of, new_user, patched, replaced, role_added, role_dropped, role_set, unknown_given, unknown_role, unless_unknown, user_gone, user_patched}
 use Rattle.af_policy.specs.Tables.{found_role}
 use Rattle.af_policy.specs.Identity.{bearer_of, digest_user}

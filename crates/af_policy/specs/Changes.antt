@@ -14,8 +14,7 @@ use Rattle.af_role.specs.Pairs.{PairRow}
 use Rattle.af_role.specs.PairTexts.{pairs_read}
 use Rattle.af_role.specs.Roles.{RoleRow}
 use Rattle.af_role.specs.Access.{bad_action, synced_role}
-use Rattle.af_policy.specs.Rows.{PolicyRows, UserRow, found_user, has_admin, has_digest, has_role, has_user, role_in_use, same_name, with_role, with_user, without_role, without_user}
-use Rattle.af_policy.specs.Drafts.{most_roles, most_users}
+use Rattle.af_policy.specs.Rows.{PolicyRows, UserRow, found_user, has_admin, has_digest, has_role, has_user, most_roles, most_users, role_in_use, same_name, with_role, with_user, without_role, without_user}
 use Rattle.af_policy.specs.declared.change.Change.{Change}
 use Rattle.af_policy.specs.declared.change.Change.TheVariants.{AddRole, SetRole, DropRole, AddUser, SetUser, DropUser, SyncDag}
 use Rattle.af_policy.specs.declared.change.UserPatch.{UserPatch}

@@ -6,7 +6,7 @@ use Rattle.std.specs.Ordering.{nat_cmp}
 use Rattle.std.specs.Cmp.Lexicographic.{slice_cmp}
 use Rattle.std.specs.BTreeMap.{BTreeMap, get}
 use Rattle.af_role.specs.Roles.{RoleRow}
-use Rattle.af_policy.specs.Rows.{UserRow, roles_exist, same_name}
+use Rattle.af_policy.specs.Rows.{IsWithinLimits, UserRow, roles_exist, same_name}
 
 pub record UseRow : Type 0 where
   pub name : List ℕ
@@ -32,7 +32,8 @@ uses_in roles name = count_by (λ role. same_name name role) roles
 abbrev pub mentions : List UserRow → List ℕ → ℕ
 mentions users name = sum_by (λ user. uses_in user.roles name) users
 
--- each role that a user has is there, and the counts are those of the users
+-- each role that a user has is there, the counts are those of the users, and there are no more rows than a policy may have
 pub record IsTables (users : List UserRow) (roles : List RoleRow) (uses : List UseRow) : Type 0 where
   pub exist : roles_exist (record { users = users; roles = roles }) ≡ true
   pub counted : (name : List ℕ) → count_at uses name ≡ mentions users name
+  pub within : IsWithinLimits (record { users = users; roles = roles })

@@ -1,7 +1,8 @@
 ghost use Rattle.std.specs.Prelude.{◌≡◌, IfOk};
 ghost use Rattle.af_policy.specs.Changes.{kind_of};
 
-use crate::{ChangeKind, RoleNames, User};
+use crate::{ChangeKind, User};
+use af_base::Items;
 use af_names::{DagId, RoleName, UserName};
 use af_role::{AccessControl, PairTexts};
 use std::alloc::{AllocError, Global};
@@ -12,6 +13,9 @@ pub struct RoleInput {
     pub name: RoleName,
     pub actions: PairTexts,
 }
+
+/// Names of roles, in the order in which they were given.
+pub type RoleNames = Items<RoleName>;
 
 /// What is to be another of the user of a name; what is None stays.
 #[derive(Drop)]

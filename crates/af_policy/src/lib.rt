@@ -12,7 +12,7 @@ mod draft;
 mod finish_fault;
 mod fronted;
 mod identity;
-mod laws;
+pub mod laws;
 mod me;
 mod me_fault;
 mod mentions;
@@ -25,9 +25,9 @@ mod read_kind;
 mod reader;
 mod reading;
 mod replying;
-mod role_names;
 mod role_rows;
 mod role_shown;
+mod role_sync;
 mod role_table;
 mod row_fault;
 mod shared;
@@ -44,23 +44,16 @@ mod user_table;
 mod uses;
 mod versions;
 mod view;
-mod worked;
+pub mod worked;
 
 pub use ask::Ask;
 pub use bad_input::{BadInput, Member, Parameter};
-pub use change::{Change, DagAccess, RoleInput, UserPatch};
+pub use change::{Change, DagAccess, RoleInput, RoleNames, UserPatch};
 pub use change_fault::ChangeFault;
 pub use change_kind::ChangeKind;
 pub use change_reply::ChangeReply;
 pub use draft::PolicyDraft;
 pub use finish_fault::FinishFault;
-pub use laws::{
-    changes_are_told, default_roles_stay, grants_by_roles, lack_decides, me_shows_grants,
-    named_row_stands, nothing_is_doubled, one_role_is_touched, one_user_is_touched,
-    only_users_are_granted, removed_token_is_nobodys, some_admin_stays,
-    sync_adds_nothing_elsewhere, sync_is_exact, sync_keeps_the_rest, sync_lists_exactly,
-    used_roles_stay,
-};
 pub use me::Me;
 pub use me_fault::MeFault;
 pub use page::Page;
@@ -70,7 +63,6 @@ pub use policy_reply::PolicyReply;
 pub use read_fault::ReadFault;
 pub use read_kind::ReadKind;
 pub use reader::Reader;
-pub use role_names::RoleNames;
 pub use role_shown::RoleShown;
 pub use row_fault::RowFault;
 pub use shared::{Row, Table, front};
@@ -81,7 +73,3 @@ pub use user::User;
 pub use user_shown::UserShown;
 pub use versions::Versions;
 pub use view::PolicyView;
-pub use worked::{
-    bearers_by_the_rule, denials_by_the_rule, grants_by_the_rule, readers_by_the_rule,
-    rows_by_the_rule,
-};

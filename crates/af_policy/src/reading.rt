@@ -1,4 +1,4 @@
-ghost use Rattle.std.specs.Prelude.{◌≡◌, Some};
+ghost use Rattle.std.specs.Prelude.{◌≡◌, ◌≢◌, Err, Some};
 ghost use Rattle.std.specs.Option.{option_copied};
 ghost use Rattle.af_policy.specs.Reads.{MemoryLast, me_by, me_of, me_shown, read_by, read_of, rows_told};
 
@@ -92,7 +92,8 @@ impl Policy {
     }
 
     fn role_of(&self, name: &RoleName) -> Result<PolicyReply<'_>, ReadFault>
-        ensures { MemoryLast ReadFault.OutOfMemory (rows_told self.now (PolicyRead.Role name.now)) result }
+        ensures told { MemoryLast ReadFault.OutOfMemory (rows_told self.now (PolicyRead.Role name.now)) result }
+        ensures unasked { result ≢ Err ReadFault.OutOfMemory }
     {
         match self.tables.roles.role(name) {
             Some(role) => Ok(PolicyReply::Role(RoleShown::new(role))),

@@ -1,11 +1,19 @@
 ghost use Rattle.std.specs.Prelude.{◌≡◌};
 ghost use Rattle.std.specs.Arc.{arc_value};
+ghost use Rattle.af_policy.specs.Rows.{PermissionsAscend};
 
 use crate::shared::{Row, front};
 use af_role::{Permissions, Role};
 use std::alloc::AllocError;
 use std::marker::Model;
 use std::sync::Arc;
+
+/// What holds of each role: its permissions stand in the order in which they are shown, each once.
+pub(crate) fn in_order(role: &Role)
+    ensures { PermissionsAscend role.now }
+{
+    let _pairs = role.permissions().iter();
+}
 
 /// A role, found by name, whose front stands beside it. Contracts see it as the role.
 #[derive(Drop)]

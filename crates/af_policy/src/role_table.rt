@@ -1,18 +1,18 @@
-ghost use Rattle.std.specs.Prelude.{◌≡◌, ◌⊎◌, [], length, map, not, IfOk, OnOk, OnErr};
-ghost use Rattle.af_role.specs.Access.{synced_role};
-ghost use Rattle.af_policy.specs.SharedRows.{seen};
-ghost use Rattle.std.specs.List.{find};
+ghost use Rattle.std.specs.Prelude.{◌≡◌, [], length, map, not, IfOk, OnOk, OnErr};
+ghost use Rattle.std.specs.List.{AllByRecursion, find};
 ghost use Rattle.std.specs.Option.{option_copied};
+ghost use Rattle.af_role.specs.Access.{synced_role};
 ghost use Rattle.af_role.specs.Pairs.{on_dag, on_kind};
-ghost use Rattle.af_policy.specs.Rows.{NamesAscend, has_role, has_roles, role_names, with_role, without_role};
+ghost use Rattle.af_policy.specs.Rows.{NamesAscend, PermissionsAscend, has_role, has_roles, role_names, with_role, without_role};
 ghost use Rattle.af_policy.specs.Grants.{role_lists, some_role_lists};
 ghost use Rattle.af_policy.specs.Changes.{unknown_role, unknown_row};
 ghost use Rattle.af_role.specs.Pairs.{with_pairs};
 ghost use Rattle.af_policy.specs.Shown.{page_rows};
 ghost use Rattle.af_policy.specs.Tables.{found_role, listed_of, pairs_of, permissions_of};
 
-use crate::role_rows::RoleByName;
+use crate::role_rows::{RoleByName, in_order};
 use crate::role_shown::roles_shown;
+use crate::role_sync::synced;
 use crate::shared::Table;
 use crate::{Page, RoleShown, Span};
 use af_names::{DagId, RoleName};
@@ -31,11 +31,16 @@ pub(crate) struct RoleTable {
 
 impl Model for RoleTable {
     ghost use Rattle.std.specs.Prelude.{List};
+    ghost use Rattle.std.specs.List.{AllByRecursion};
     ghost use Rattle.af_role.specs.Roles.{RoleRow};
+    ghost use Rattle.af_policy.specs.Rows.{PermissionsAscend};
 
     ghost Value = { List RoleRow };
 
     ghost view = { λ table. table.by_name };
+
+    // the type of permissions keeps their order, and the table keeps it of each role
+    ghost invariant = { λ table. AllByRecursion PermissionsAscend table.by_name };
 }
 
 impl RoleTable {
@@ -64,6 +69,7 @@ impl RoleTable {
         ensures ok { OnOk result (self.new ≡ with_role self.old role) }
         ensures err { OnErr result (self.new ≡ self.old) }
     {
+        in_order(&role);
         let role = Arc::new(self.alloc, role)?;
         self.by_name.put(self.alloc, RoleByName::new(role))?;
         Ok(())
@@ -243,60 +249,11 @@ impl RoleTable {
             .any(|name| self.lists_on_dag(name, action, dag))
     }
 
-    /// What holds of each table: names ascend, so no two roles have one.
+    /// What holds of each table: names ascend, so no two roles have one, and so do the permissions of each role.
     pub(crate) fn facts(&self)
-        ensures { NamesAscend (role_names self.now) }
+        ensures names { NamesAscend (role_names self.now) }
+        ensures permissions { AllByRecursion PermissionsAscend self.now }
     {
         self.by_name.facts();
     }
-}
-
-/// The roles after a DAG's access control is taken over.
-fn synced(
-    alloc: Global,
-    roles: &Table<RoleByName>,
-    dag: &DagId,
-    access: &AccessControl,
-) -> Result<Table<RoleByName>, AllocError>
-    ensures { IfOk result (λ made. made ≡ map (synced_role dag.now access.now) roles.now) }
-{
-    let mut made = roles.copied()?;
-    let rows = roles.rows(alloc)?;
-    sync_each(alloc, &mut made, rows.as_slice(), dag, access)?;
-    Ok(made)
-}
-
-/// Puts each role in its place as it is after the sync.
-fn sync_each(
-    alloc: Global,
-    made: &mut Table<RoleByName>,
-    rows: &[&RoleByName],
-    dag: &DagId,
-    access: &AccessControl,
-) -> Result<(), AllocError>
-    requires { made.old ≡ seen rows.now }
-    ensures { OnOk result (made.new ≡ map (synced_role dag.now access.now) (seen rows.now)) }
-{
-    for row in rows {
-        made.facts();
-        sync_row(alloc, made, row.role(), dag, access)?;
-    }
-    Ok(())
-}
-
-/// Puts a role in its place as it is after the sync, where the sync touches it.
-fn sync_row(
-    alloc: Global,
-    made: &mut Table<RoleByName>,
-    role: &Role,
-    dag: &DagId,
-    access: &AccessControl,
-) -> Result<(), AllocError>
-    ensures { OnOk result ((made.new ≡ with_role made.old (synced_role dag.now access.now role.now)) ⊎ ((made.new ≡ made.old) × (synced_role dag.now access.now role.now ≡ role.now))) }
-{
-    if role.is_touched(dag, access) {
-        let role = Arc::new(alloc, role.synced(alloc, dag, access)?)?;
-        made.put(alloc, RoleByName::new(role))?;
-    }
-    Ok(())
 }

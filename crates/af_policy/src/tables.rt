@@ -1,10 +1,12 @@
-ghost use Rattle.std.specs.Prelude.{◌≡◌, List, ℕ, [], true, false, not, Some, map, IfOk, OnOk, OnErr};
+ghost use Rattle.std.specs.Prelude.{◌≡◌, ◌⊎◌, ◌<◌, length, List, ℕ, [], true, false, not, Some, map, IfOk, OnOk, OnErr};
+ghost use Rattle.std.specs.List.{AllByRecursion};
 ghost use Rattle.af_role.specs.Access.{synced_role};
 ghost use Rattle.af_role.specs.Pairs.{PairRow};
+ghost use Rattle.af_policy.specs.Changes.{replaced};
 ghost use Rattle.af_policy.specs.Grants.{grants, reads, reads_dag};
 ghost use Rattle.af_policy.specs.Uses.{IsTables, count_at, mentions};
 ghost use Rattle.af_policy.specs.Views.{held};
-ghost use Rattle.af_policy.specs.Rows.{NamesAscend, digests_differ, found_user, has_admin, has_digest, has_roles, has_user, role_in_use, role_names, roles_exist, same_digest, user_names, with_role, with_user, without_role, without_user};
+ghost use Rattle.af_policy.specs.Rows.{IsWithinLimits, NamesAscend, PermissionsAscend, digests_differ, found_user, has_admin, has_digest, has_role, has_roles, has_user, most_roles, most_users, role_in_use, role_names, roles_exist, same_digest, user_names, with_role, with_user, without_role, without_user};
 
 use crate::role_table::RoleTable;
 use crate::user_table::UserTable;
@@ -54,11 +56,13 @@ impl Tables {
         Ok(Tables { users, roles, uses })
     }
 
-    /// Adds a role, or puts it in the place of the role of its name.
+    /// Adds a role, where there is room for one more, or puts it in the place of the role of its name.
     pub(crate) fn put_role(&mut self, role: Role) -> Result<(), AllocError>
+        requires { (has_role self.old.roles role.name ≡ true) ⊎ (length self.old.roles < most_roles) }
         ensures ok { OnOk result (self.new ≡ record self.old { roles = with_role self.old.roles role }) }
         ensures err { OnErr result (self.new ≡ self.old) }
     {
+        self.roles.facts();
         self.roles.put(role)?;
         Ok(())
     }
@@ -77,12 +81,34 @@ impl Tables {
         requires roles { has_roles self.old.roles user.roles ≡ true }
         requires name { has_user self.old.users user.name ≡ false }
         requires digest { has_digest self.old.users user.digest ≡ false }
+        requires room { length self.old.users < most_users }
         ensures ok { OnOk result (self.new ≡ record self.old { users = with_user self.old.users user }) }
         ensures err { OnErr result (self.new ≡ self.old) }
     {
         let mut uses = self.uses.copied()?;
         uses.add_all(alloc, user.roles())?;
         self.users.insert(alloc, user)?;
+        self.uses = uses;
+        Ok(())
+    }
+
+    /// Puts a user in the place of this one, who has the same name, where the roles are there and the digest is nobody else's.
+    pub(crate) fn set_user(
+        &mut self,
+        alloc: Global,
+        before: &User,
+        user: User,
+    ) -> Result<(), AllocError>
+        requires found { found_user self.old.users user.name ≡ Some before.now }
+        requires roles { has_roles self.old.roles user.roles ≡ true }
+        requires digest { has_digest (without_user self.old.users user.name) user.digest ≡ false }
+        ensures { OnOk result (self.new ≡ record self.old { users = replaced self.old.users user }) }
+    {
+        self.users.facts();
+        let mut uses = self.uses.copied()?;
+        uses.take_all(alloc, before.roles())?;
+        uses.add_all(alloc, user.roles())?;
+        self.users.replace(alloc, before, user)?;
         self.uses = uses;
         Ok(())
     }
@@ -170,6 +196,8 @@ impl Tables {
         ensures roles { NamesAscend (role_names self.now.roles) }
         ensures digests { digests_differ self.now.users ≡ true }
         ensures exist { roles_exist self.now ≡ true }
+        ensures within { IsWithinLimits self.now }
+        ensures permissions { AllByRecursion PermissionsAscend self.now.roles }
     {
         self.users.facts();
         self.roles.facts();

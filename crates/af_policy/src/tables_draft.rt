@@ -1,6 +1,6 @@
-ghost use Rattle.std.specs.Prelude.{◌≡◌, ◌||◌, [], true, false, not, IfOk, OnOk, OnErr};
+ghost use Rattle.std.specs.Prelude.{◌≡◌, ◌<◌, ◌≤◌, ◌||◌, length, [], true, false, not, IfOk, OnOk, OnErr};
 ghost use Rattle.std.specs.Arc.{arc_value};
-ghost use Rattle.af_policy.specs.Rows.{has_admin, has_digest, has_roles, has_user, with_role, with_user};
+ghost use Rattle.af_policy.specs.Rows.{has_admin, has_digest, has_roles, has_user, most_roles, most_users, with_role, with_user};
 
 use crate::User;
 use crate::role_table::RoleTable;
@@ -20,18 +20,19 @@ pub(crate) struct TablesDraft {
 
 impl Model for TablesDraft {
     ghost use Rattle.std.specs.Prelude.{◌≡◌, true};
-    ghost use Rattle.af_policy.specs.Rows.{PolicyRows, roles_exist};
+    ghost use Rattle.af_policy.specs.Rows.{IsWithinLimits, PolicyRows, roles_exist};
 
     ghost Value = { PolicyRows };
 
     ghost view = { λ tables. record { users = tables.users; roles = tables.roles } };
 
-    ghost invariant = { λ tables. roles_exist (record { users = tables.users; roles = tables.roles }) ≡ true };
+    ghost invariant = { λ tables. (roles_exist (record { users = tables.users; roles = tables.roles }) ≡ true) × IsWithinLimits (record { users = tables.users; roles = tables.roles }) };
 }
 
 impl TablesDraft {
     /// These roles, and no user.
     pub(crate) fn new(alloc: Global, roles: RoleTable) -> TablesDraft
+        requires { length roles ≤ most_roles }
         ensures { result ≡ record { users = []; roles = roles } }
     {
         TablesDraft {
@@ -42,6 +43,7 @@ impl TablesDraft {
 
     /// Adds a role, or puts it in the place of the role of its name.
     pub(crate) fn put_role(&mut self, role: Role) -> Result<(), AllocError>
+        requires { length self.old.roles < most_roles }
         ensures ok { OnOk result (self.new ≡ record self.old { roles = with_role self.old.roles role }) }
         ensures err { OnErr result (self.new ≡ self.old) }
     {
@@ -51,7 +53,8 @@ impl TablesDraft {
 
     /// Adds a user whose roles are there, where its name and digest are nobody's, and tells whether they were.
     pub(crate) fn put_user(&mut self, user: &Arc<User>) -> Result<bool, AllocError>
-        requires { has_roles self.old.roles (arc_value user.now).roles ≡ true }
+        requires roles { has_roles self.old.roles (arc_value user.now).roles ≡ true }
+        requires room { length self.old.users < most_users }
         ensures is_new { IfOk result (λ is_new. is_new ≡ not (has_user self.old.users (arc_value user.now).name || has_digest self.old.users (arc_value user.now).digest)) }
         ensures added { IfOk result (λ is_new. is_new ≡ true → self.new ≡ record self.old { users = with_user self.old.users (arc_value user.now) }) }
         ensures taken { IfOk result (λ is_new. is_new ≡ false → self.new ≡ self.old) }

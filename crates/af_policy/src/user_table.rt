@@ -1,8 +1,9 @@
-ghost use Rattle.std.specs.Prelude.{◌≡◌, [], true, false, length, map, IfOk, OnOk, OnErr};
+ghost use Rattle.std.specs.Prelude.{◌≡◌, Some, [], true, false, length, map, IfOk, OnOk, OnErr};
 ghost use Rattle.std.specs.Option.{option_copied};
-ghost use Rattle.af_policy.specs.Rows.{NamesAscend, digests_differ, found_user, has_digest, has_user, user_names, with_user, without_user};
+ghost use Rattle.af_policy.specs.Rows.{NamesAscend, digests_differ, found_user, has_digest, has_user, same_digest, user_names, with_user, without_user};
+ghost use Rattle.af_policy.specs.Changes.{replaced};
 ghost use Rattle.af_policy.specs.Identity.{digest_user};
-ghost use Rattle.af_policy.specs.SharedRows.{Ascend, seen};
+ghost use Rattle.af_policy.specs.SharedRows.{Ascend, seen, with_row, without};
 ghost use Rattle.af_policy.specs.Shown.{page_rows, shown_user};
 ghost use Rattle.af_policy.specs.Tables.{IsUserTable, roles_of};
 
@@ -73,6 +74,28 @@ impl UserTable {
         let other = Arc::try_clone(&user)?;
         let by_name = self.by_name.with(alloc, ByName::new(user))?;
         let by_digest = self.by_digest.with(alloc, ByDigest::new(other))?;
+        *self = UserTable { by_name, by_digest };
+        Ok(())
+    }
+
+    /// Puts a user in the place of this one, who has the same name, where the digest is nobody else's.
+    pub(crate) fn replace(
+        &mut self,
+        alloc: Global,
+        before: &User,
+        user: User,
+    ) -> Result<(), AllocError>
+        requires found { found_user self.old user.name ≡ Some before.now }
+        requires digest { has_digest (without_user self.old user.name) user.digest ≡ false }
+        ensures ok { OnOk result (self.new ≡ replaced self.old user) }
+        ensures err { OnErr result (self.new ≡ self.old) }
+    {
+        self.by_name.facts();
+        let user = Arc::new(alloc, user)?;
+        let other = Arc::try_clone(&user)?;
+        let by_name = names_with(alloc, &self.by_name, ByName::new(user))?;
+        let digest = before.digest();
+        let by_digest = digests_with(alloc, &self.by_digest, &digest, ByDigest::new(other))?;
         *self = UserTable { by_name, by_digest };
         Ok(())
     }
@@ -166,6 +189,45 @@ impl UserTable {
     {
         self.by_name.facts();
     }
+}
+
+/// The users by name, with another in the place of the one of that name.
+fn names_with(
+    alloc: Global,
+    names: &Table<ByName>,
+    row: ByName,
+) -> Result<Table<ByName>, AllocError>
+    ensures { IfOk result (λ made. made ≡ replaced names.now row) }
+{
+    names.facts();
+    let made = names.with(alloc, row)?;
+    Ok(made)
+}
+
+/// The users by digest, with another in the place of the one of a digest. Where the digest stays, so does the place.
+fn digests_with(
+    alloc: Global,
+    digests: &Table<ByDigest>,
+    before: &[u8; 32],
+    row: ByDigest,
+) -> Result<Table<ByDigest>, AllocError>
+    ensures { IfOk result (λ made. made ≡ with_row (λ user. user.digest) (without (λ user. user.digest) digests.now before.now) row) }
+{
+    digests.facts();
+    if is_same(before, &row.user().digest()) {
+        let made = digests.with(alloc, row)?;
+        return Ok(made);
+    }
+    let others = digests.without(alloc, before.as_slice())?;
+    let made = others.with(alloc, row)?;
+    Ok(made)
+}
+
+/// Whether two digests are the same.
+fn is_same(one: &[u8; 32], other: &[u8; 32]) -> bool
+    ensures { result ≡ same_digest one.now other.now }
+{
+    *one == *other
 }
 
 /// Users as they are shown.

@@ -23,6 +23,10 @@ impl Reader for Readers {
     fn readable(&self, _dag: &DagId) -> bool {
         self.all
     }
+
+    fn reads_all(&self) -> bool {
+        self.all
+    }
 }
 
 pub const EVERYBODY: Readers = Readers { all: true };

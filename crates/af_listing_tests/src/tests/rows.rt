@@ -33,6 +33,10 @@ impl Reader for ReaderOf {
     fn readable(&self, dag: &DagId) -> bool {
         *dag == self.dag
     }
+
+    fn reads_all(&self) -> bool {
+        false
+    }
 }
 
 /// Who reads the DAG of this id.

@@ -1,6 +1,6 @@
-ghost use Rattle.std.specs.Prelude.{◌≡◌, ◌⊎◌, true, false, Ok, Err};
+ghost use Rattle.std.specs.Prelude.{◌≡◌, ◌⊎◌, ◌<◌, length, true, false, Ok, Err};
 ghost use Rattle.af_role.specs.PairTexts.{pairs_read};
-ghost use Rattle.af_policy.specs.Rows.{role_in_use, with_role, without_role};
+ghost use Rattle.af_policy.specs.Rows.{has_role, most_roles, role_in_use, with_role, without_role};
 ghost use Rattle.af_policy.specs.Changes.{after_pairs, is_default, role_added, role_dropped, role_set, wants_memory};
 
 use crate::draft::MOST_ROLES;
@@ -38,13 +38,14 @@ impl Policy {
         self.with_role(alloc, &input.name, permissions)
     }
 
-    /// The policy with a role at its place, or in the place of the role of its name.
+    /// The policy with a role at its place, where there is room for one more, or in the place of the role of its name.
     fn with_role(
         &self,
         alloc: Global,
         name: &RoleName,
         permissions: Permissions,
     ) -> Result<Policy, ChangeFault>
+        requires { (has_role self.now.roles name.now ≡ true) ⊎ (length self.now.roles < most_roles) }
         ensures { (result ≡ Ok (record { users = self.now.users; roles = with_role self.now.roles (record { name = name.now; pairs = permissions }) })) ⊎ (result ≡ Err ChangeFault.OutOfMemory) }
     {
         let name = name.copied(alloc)?;

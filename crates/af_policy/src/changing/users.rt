@@ -1,7 +1,7 @@
-ghost use Rattle.std.specs.Prelude.{◌≡◌, ◌⊎◌, true, false, None, Some, Ok, Err, IfOk, codes};
+ghost use Rattle.std.specs.Prelude.{◌≡◌, ◌⊎◌, ◌<◌, length, true, false, None, Some, Ok, Err, IfOk, codes};
 ghost use Rattle.std.specs.List.{list_any};
 ghost use Rattle.std.specs.Option.{option_copied};
-ghost use Rattle.af_policy.specs.Rows.{found_user, has_admin, has_digest, has_user, same_name, with_user, without_user};
+ghost use Rattle.af_policy.specs.Rows.{found_user, has_admin, has_digest, has_user, most_users, same_name, with_user, without_user};
 ghost use Rattle.af_policy.specs.Changes.{is_anothers, new_user, patched, replaced, unknown_given, unknown_role, user_added, user_dropped, user_gone, user_patched, user_set, wants_memory};
 
 use crate::draft::MOST_USERS;
@@ -42,6 +42,7 @@ impl Policy {
         requires roles { unknown_role self.now.roles user.now.roles ≡ None }
         requires name { has_user self.now.users user.now.name ≡ false }
         requires digest { has_digest self.now.users user.now.digest ≡ false }
+        requires room { length self.now.users < most_users }
         ensures { (result ≡ Ok (record { users = with_user self.now.users user.now; roles = self.now.roles })) ⊎ (result ≡ Err ChangeFault.OutOfMemory) }
     {
         let user = user.copied(alloc)?;
@@ -141,8 +142,7 @@ impl Policy {
         self.tables.facts();
         let row = patched(alloc, patch, user)?;
         let mut tables = self.tables.copied()?;
-        tables.take_user(alloc, &patch.name)?;
-        tables.put_user(alloc, row)?;
+        tables.set_user(alloc, user, row)?;
         Ok(Policy { tables })
     }
 

@@ -11,7 +11,7 @@ use crate::shared::sought::{Sought, row_order};
 use std::alloc::{AllocError, Global};
 use std::cmp::Ordering;
 
-/// The row of a key among rows in order, found by halves.
+/// The row of a key among rows in order, found by binary search.
 pub(crate) fn found_in<'a, T: Row>(rows: &'a [T], key: &Sought<'_>) -> Option<&'a T>
     ensures { Ascend T.key rows.now → option_copied result ≡ found T.key rows.now key.now }
 {

@@ -81,7 +81,7 @@ fn maybe_digest(token: Option<&str>) -> Option<[u8; 32]> {
 
 fn maybe_names(alloc: Global, roles: Option<&[&str]>) -> Result<Option<RoleNames>, Fail> {
     match roles {
-        Some(roles) => Ok(Some(RoleNames::new(names(alloc, roles)?))),
+        Some(roles) => Ok(Some(RoleNames::of(names(alloc, roles)?))),
         None => Ok(None),
     }
 }

@@ -1,17 +1,10 @@
-use Rattle.std.proofs.Common.{◌<◌, length, ap, ◌∙◌, arith, Bool}
-use Rattle.af_listing.specs.Pages.{Told, shows, with_row}
-use Rattle.af_listing.proofs.PageLemmas.{page_next, total_next}
+use Rattle.std.proofs.Common.{◌∙◌}
+use Rattle.af_listing.specs.Pages.{shows}
+use Rattle.af_listing.proofs.WholeLemmas.{all_are_shown, page_of_all}
 use Rattle.af_listing.proofs.paging.page.Goals as goal
 
-pub loop-place-preserved : goal.loop-place-preserved
-loop-place-preserved g c =
-    let shown = shows (g.R.Reader.reads c.args.reader.now) g.T.Listed.named in
-    let inside : c.loop-place.place < length c.args.rows.now = omega arith in
-    let grown = total_next c.args.window c.loop-place.place c.is_shown.result c.loop-place.page in
-    let total = ap (λ (page : Told). page.total) c.in_ok-see.ensures in (
-      c.in_ok-see.ensures
-          ∙ ap (λ (t : Bool). with_row c.args.window c.loop-place.place t c.loop-place.page) c.is_shown.ensures
-          ∙ ap (with_row c.args.window c.loop-place.place (shown c.index-rows-place.result)) c.loop-place.invariant.0
-          ∙ page_next shown c.args.window c.args.rows.now c.loop-place.place c.index-rows-place.result inside c.index-rows-place.is,
-      omega (arith, grown, total, c.loop-place.invariant.1),
-    )
+pub returns-then-reads_all : goal.returns-then-reads_all
+returns-then-reads_all g c =
+    let reads = g.R.Reader.reads c.args.reader.now
+    in c.in_ok-page.ensures
+    ∙ page_of_all (shows reads g.T.Listed.named) (λ row. all_are_shown reads (c.reads_all.ensures c.if-reads_all.true) (g.T.Listed.named row)) c.args.window c.args.rows.now

@@ -1,7 +1,8 @@
-use Rattle.std.proofs.Common.{◌≡◌, ◌+◌, true, false, sym, ap, ◌∙◌}
-use Rattle.af_policy.specs.Rows.{PolicyRows, has_roles, has_user}
+use Rattle.std.proofs.Common.{◌≡◌, ◌+◌, ◌<◌, length, true, false, sym, ap, subst, ◌∙◌}
+use Rattle.af_policy.specs.Rows.{PolicyRows, has_roles, has_user, most_users}
 use Rattle.af_policy.specs.Uses.{count_at, mentions, uses_in}
 use Rattle.af_policy.proofs.DraftLemmas.{roles_exist-with_user}
+use Rattle.af_policy.proofs.PlaceLemmas.{within-with_user}
 use Rattle.af_policy.proofs.UseLemmas.{mentions-with_user}
 use Rattle.af_policy.proofs.tables.Tables.put_user.Goals as goal
 
@@ -17,4 +18,8 @@ invariant_of-self-2 c =
           ∙ ap (λ n. n + uses_in c.args.user.roles name) (c.self.invariant.counted name)
           ∙ sym (mentions-with_user c.args.user name c.self.inside.users new)
           ∙ ap (λ users. mentions users name) (sym c.in_ok-insert.ensures.ok);
+      within =
+          rw c.in_ok-insert.ensures.ok
+          (within-with_user c.self.inside.users c.self.inside.roles c.self.invariant.within c.args.user
+          (subst (λ (policy : PolicyRows). length policy.users < most_users) (sym c.self.view_is) c.requires.room));
     }

@@ -3,7 +3,7 @@ use Rattle.af_role.specs.Roles.{RoleRow}
 use Rattle.af_role.specs.Access.{synced_role}
 use Rattle.af_policy.specs.Rows.{with_role}
 use Rattle.af_policy.proofs.SyncLemmas.{equal_self, put_each}
-use Rattle.af_policy.proofs.role_table.sync_each.Goals as goal
+use Rattle.af_policy.proofs.role_sync.sync_each.Goals as goal
 
 pub loop-row-preserved : goal.loop-row-preserved
 loop-row-preserved c =
