@@ -6,7 +6,6 @@ use crate::keyed::{Change, Keyed};
 use crate::searching::{is_there, place_in};
 use std::alloc::{AllocError, Global};
 use std::marker::Model;
-use std::mem;
 
 /// Rows in byte order of their keys, no two of one key. Contracts see that list of rows, beside the number of rows for which
 /// memory is reserved. A row is found by binary search.
@@ -113,16 +112,6 @@ impl<T: Keyed> Ordered<T> {
     {
         let _ = key;
         change.change(&mut self.rows[place]);
-    }
-
-    /// Puts a row in the place of that of its key, which stands at this place, and answers that one.
-    pub fn replace_at(&mut self, place: usize, row: T) -> T
-        requires { StandsAt T.key_of self.old.rows (T.key_of row) place }
-        ensures row { Some result ≡ row_of T.key_of self.old.rows (T.key_of row) }
-        ensures rows { self.new.rows ≡ with_change T.key_of (λ _. row) self.old.rows (T.key_of row) }
-        ensures spare { self.new.spare ≡ self.old.spare }
-    {
-        mem::replace(&mut self.rows[place], row)
     }
 
     /// Takes out the row of this key, which stands at this place.

@@ -94,7 +94,7 @@ impl Dag {
         requires { place < length self.now.tasks }
         ensures { option_map (λ task. task.trigger_rule) (slice_get self.now.tasks place) ≡ Some result }
     {
-        self.spec.tasks.as_slice()[place].trigger_rule
+        self.tasks()[place].trigger_rule
     }
 
     /// The places of the tasks directly upstream of the task at a place, in order, each once.
@@ -127,7 +127,7 @@ impl Dag {
     pub fn place_of(&self, task_id: &TaskId) -> Option<usize>
         ensures { result ≡ place_of self.now.tasks task_id.now }
     {
-        place_of(self.spec.tasks.as_slice(), task_id)
+        place_of(self.tasks(), task_id)
     }
 }
 

@@ -1,6 +1,7 @@
-ghost use Rattle.std.specs.Prelude.{◌≡◌, None, IfOk, IfErr, OnOk, not, Bool};
+ghost use Rattle.std.specs.Prelude.{◌≡◌, ◌<◌, length, None, IfOk, IfErr, OnOk, not, Bool};
 ghost use Rattle.std.specs.List.{find, position};
-ghost use Rattle.af_graph.specs.Rows.{places};
+ghost use Rattle.af_graph.specs.Rows.{places, turned, IsWithin};
+ghost use Rattle.af_graph.specs.Order.{order_of};
 ghost use Rattle.af_graph.specs.Definition.{fault_of, at_place, has_bad_slots};
 ghost use Rattle.af_graph.specs.Steps.{IsTold, IsWiringOf, IsSameWiring};
 
@@ -41,15 +42,27 @@ impl Wiring {
         }
         let index = Index::of(alloc, tasks)?;
         let named = index.named(alloc, tasks)?;
-        let downstream = named.turned(alloc)?;
-        let upstream = downstream.turned(alloc)?;
-        let order = take_all(alloc, &upstream, &downstream)?;
-        if let Some(place) = first_left(alloc, order.as_slice(), tasks.len())? {
+        let wiring = Wiring::of_links(alloc, &named)?;
+        if let Some(place) = first_left(alloc, wiring.order.as_slice(), tasks.len())? {
             return Err(Misfit::Cycle(place));
         }
         if let Some(place) = first_bad_slots(tasks) {
             return Err(Misfit::BadSlots(place));
         }
+        Ok(wiring)
+    }
+
+    /// The graph in which these stand upstream of each place, in any order and however often.
+    fn of_links(alloc: Global, named: &Links) -> Result<Wiring, AllocError>
+        requires within { IsWithin named.now }
+        requires few { length named.now < 65_536 }
+        ensures downstream { IfOk result (λ wiring. wiring.downstream ≡ turned named.now) }
+        ensures upstream { IfOk result (λ wiring. wiring.upstream ≡ turned wiring.downstream) }
+        ensures order { IfOk result (λ wiring. wiring.order.items ≡ order_of wiring.upstream) }
+    {
+        let downstream = named.turned(alloc)?;
+        let upstream = downstream.turned(alloc)?;
+        let order = take_all(alloc, &upstream, &downstream)?;
         Ok(Wiring {
             upstream,
             downstream,

@@ -1,4 +1,4 @@
-ghost use Rattle.std.specs.Prelude.{◌≡◌, [], IfOk, OnOk, map};
+ghost use Rattle.std.specs.Prelude.{◌≡◌, [], IfOk, OnOk, codes, map};
 ghost use Rattle.af_role.specs.Pairs.{on_kind, with_pairs};
 ghost use Rattle.af_role.specs.DefaultRoles.{admin_pairs, default_rows, op_pairs, user_pairs, viewer_pairs};
 
@@ -54,13 +54,49 @@ const ADMIN_ADDS: [Grant; 8] = [
 pub fn default_roles(alloc: Global) -> Result<Vec<Role>, AllocError>
     ensures { IfOk result (λ roles. roles.items ≡ default_rows) }
 {
-    let mut roles = Vec::new(alloc);
-    roles.push(role(alloc, "Public", Permissions::new(alloc))?)?;
-    roles.push(role(alloc, "Viewer", viewer(alloc)?)?)?;
-    roles.push(role(alloc, "User", user(alloc)?)?)?;
-    roles.push(role(alloc, "Op", op(alloc)?)?)?;
-    roles.push(role(alloc, "Admin", admin(alloc)?)?)?;
+    let roles = vec![in alloc;
+        public(alloc)?,
+        viewer(alloc)?,
+        user(alloc)?,
+        op(alloc)?,
+        admin(alloc)?,
+    ]?;
     Ok(roles)
+}
+
+/// The role Public.
+fn public(alloc: Global) -> Result<Role, AllocError>
+    ensures { IfOk result (λ role. role ≡ record { name = codes "Public"; pairs = [] }) }
+{
+    role(alloc, "Public", Permissions::new(alloc))
+}
+
+/// The role Viewer.
+fn viewer(alloc: Global) -> Result<Role, AllocError>
+    ensures { IfOk result (λ role. role ≡ record { name = codes "Viewer"; pairs = viewer_pairs }) }
+{
+    role(alloc, "Viewer", viewer_permissions(alloc)?)
+}
+
+/// The role User.
+fn user(alloc: Global) -> Result<Role, AllocError>
+    ensures { IfOk result (λ role. role ≡ record { name = codes "User"; pairs = user_pairs }) }
+{
+    role(alloc, "User", user_permissions(alloc)?)
+}
+
+/// The role Op.
+fn op(alloc: Global) -> Result<Role, AllocError>
+    ensures { IfOk result (λ role. role ≡ record { name = codes "Op"; pairs = op_pairs }) }
+{
+    role(alloc, "Op", op_permissions(alloc)?)
+}
+
+/// The role Admin.
+fn admin(alloc: Global) -> Result<Role, AllocError>
+    ensures { IfOk result (λ role. role ≡ record { name = codes "Admin"; pairs = admin_pairs }) }
+{
+    role(alloc, "Admin", admin_permissions(alloc)?)
 }
 
 /// The role of a name that is known to be one.
@@ -74,7 +110,7 @@ fn role(alloc: Global, name: &str, permissions: Permissions) -> Result<Role, All
 }
 
 #[tactic(auto, unfolding(crate::specs::DefaultRoles::viewer_pairs))]
-fn viewer(alloc: Global) -> Result<Permissions, AllocError>
+fn viewer_permissions(alloc: Global) -> Result<Permissions, AllocError>
     ensures { IfOk result (λ permissions. permissions ≡ viewer_pairs) }
 {
     let mut permissions = Permissions::new(alloc);
@@ -83,28 +119,28 @@ fn viewer(alloc: Global) -> Result<Permissions, AllocError>
 }
 
 #[tactic(auto, unfolding(crate::specs::DefaultRoles::user_pairs))]
-fn user(alloc: Global) -> Result<Permissions, AllocError>
+fn user_permissions(alloc: Global) -> Result<Permissions, AllocError>
     ensures { IfOk result (λ permissions. permissions ≡ user_pairs) }
 {
-    let mut permissions = viewer(alloc)?;
+    let mut permissions = viewer_permissions(alloc)?;
     add_each(&mut permissions, &USER_ADDS)?;
     Ok(permissions)
 }
 
 #[tactic(auto, unfolding(crate::specs::DefaultRoles::op_pairs))]
-fn op(alloc: Global) -> Result<Permissions, AllocError>
+fn op_permissions(alloc: Global) -> Result<Permissions, AllocError>
     ensures { IfOk result (λ permissions. permissions ≡ op_pairs) }
 {
-    let mut permissions = user(alloc)?;
+    let mut permissions = user_permissions(alloc)?;
     add_each(&mut permissions, &OP_ADDS)?;
     Ok(permissions)
 }
 
 #[tactic(auto, unfolding(crate::specs::DefaultRoles::admin_pairs))]
-fn admin(alloc: Global) -> Result<Permissions, AllocError>
+fn admin_permissions(alloc: Global) -> Result<Permissions, AllocError>
     ensures { IfOk result (λ permissions. permissions ≡ admin_pairs) }
 {
-    let mut permissions = op(alloc)?;
+    let mut permissions = op_permissions(alloc)?;
     add_each(&mut permissions, &ADMIN_ADDS)?;
     Ok(permissions)
 }

@@ -110,12 +110,12 @@ impl Permissions {
     pub fn without_dag(&self, alloc: Global, dag: &DagId) -> Result<Permissions, AllocError>
         ensures { IfOk result (λ permissions. permissions ≡ filter (λ pair. not (is_about dag.now pair)) self.now) }
     {
-        let mut made = Permissions::new(alloc);
+        let mut kept = Permissions::new(alloc);
         for pair in self.iter() {
             if !pair.is_about(dag) {
-                made.add(pair.copied(alloc)?)?;
+                kept.add(pair.copied(alloc)?)?;
             }
         }
-        Ok(made)
+        Ok(kept)
     }
 }

@@ -41,13 +41,4 @@ impl Role {
     {
         &self.permissions
     }
-
-    /// The role's name and what it permits.
-    pub fn into_parts(self) -> (RoleName, Permissions)
-        ensures name { result.0 ≡ self.name }
-        ensures permissions { result.1 ≡ self.pairs }
-    {
-        let Role { name, permissions } = self;
-        (name, permissions)
-    }
 }

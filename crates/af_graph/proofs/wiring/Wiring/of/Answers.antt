@@ -10,7 +10,7 @@ use Rattle.af_graph.specs.Definition.{is_never_taken, at_place, has_bad_slots, n
 use Rattle.af_graph.specs.Steps.{told}
 use Rattle.af_graph.specs.declared.task_spec.TaskSpec.{TaskSpec}
 use Rattle.af_graph.proofs.RowLemmas.{length-turned}
-use Rattle.af_graph.proofs.WiringLemmas.{pair_of_turned, turned_within, named_within, length-named_rows, downstream_rows_is, upstream_rows_is, order_within, some_task, few_tasks, tell_duplicate, tell_unknown, tell_cycle, tell_bad_slots, tell_none, found_below, duplicate_told, unknown_told}
+use Rattle.af_graph.proofs.WiringLemmas.{named_within, length-named_rows, downstream_rows_is, upstream_rows_is, order_within, some_task, few_tasks, tell_duplicate, tell_unknown, tell_cycle, tell_bad_slots, tell_none, found_below, duplicate_told, unknown_told}
 use Rattle.af_graph.proofs.wiring.Wiring.of.Goals as goal
 
 -- the places that the code leaves over are those that the order never takes
@@ -41,39 +41,22 @@ returns-in_err-named-clause-err c =
     let p = err_from_is_err_and c.from_residual-in_err-named.result c.from_residual-in_err-named.ensures.1 in
     rw (p.1, p.2) (⊎_elim (λ memory. inl memory) (λ said. let told_is = unknown_told tasks c.in_err-named.field-0.0 said in inr (tell_unknown tasks first second c.in_ok-index.ensures.ok (told tasks c.in_err-named.field-0.0) told_is.0, told_is.1)) c.in_err-named.ensures.err)
 
-pub turned-requires-clause-within : goal.turned-requires-clause-within
-turned-requires-clause-within c = subst IsWithin (sym c.in_ok-named.ensures.named) (named_within c.args.tasks.now)
+pub of_links-requires-clause-within : goal.of_links-requires-clause-within
+of_links-requires-clause-within c = subst IsWithin (sym c.in_ok-named.ensures.named) (named_within c.args.tasks.now)
 
-pub turned-requires-2-clause-within : goal.turned-requires-2-clause-within
-turned-requires-2-clause-within c = subst IsWithin (sym c.in_ok-downstream.ensures) (turned_within c.in_ok-named.named)
-
-pub turned-requires-2-clause-few : goal.turned-requires-2-clause-few
-turned-requires-2-clause-few c =
-    let tasks : List TaskSpec = c.args.tasks.now in
-    let of_down : length c.in_ok-downstream.downstream ≡ length tasks =
-    ap length c.in_ok-downstream.ensures
-    ∙ length-turned c.in_ok-named.named
-    ∙ ap length c.in_ok-named.ensures.named
-    ∙ length-named_rows tasks in
-    omega (arith, of_down)
-
-pub take_all-requires-clause-pair : goal.take_all-requires-clause-pair
-take_all-requires-clause-pair c =
-    pair_of_turned c.in_ok-named.named c.in_ok-upstream.upstream c.in_ok-downstream.downstream c.in_ok-downstream.ensures c.in_ok-upstream.ensures
-
-pub take_all-requires-clause-few : goal.take_all-requires-clause-few
-take_all-requires-clause-few c =
-    omega (arith, (long c.args.tasks.now c.in_ok-named.named c.in_ok-downstream.downstream c.in_ok-upstream.upstream c.in_ok-named.ensures.named c.in_ok-downstream.ensures c.in_ok-upstream.ensures).1)
+pub of_links-requires-clause-few : goal.of_links-requires-clause-few
+of_links-requires-clause-few c =
+    omega (arith, ap length c.in_ok-named.ensures.named ∙ length-named_rows c.args.tasks.now)
 
 pub first_left-requires : goal.first_left-requires
 first_left-requires c =
     let tasks : List TaskSpec = c.args.tasks.now in
-    let up : List (List ℕ) = c.in_ok-upstream.upstream in
+    let up : List (List ℕ) = c.in_ok-wiring.wiring.upstream in
     let count : length up ≡ length tasks =
-    (long tasks c.in_ok-named.named c.in_ok-downstream.downstream up c.in_ok-named.ensures.named c.in_ok-downstream.ensures c.in_ok-upstream.ensures).1 in
+    (long tasks c.in_ok-named.named c.in_ok-wiring.wiring.downstream up c.in_ok-named.ensures.named c.in_ok-wiring.ensures.downstream c.in_ok-wiring.ensures.upstream).1 in
     let P : ℕ → Type 0 = λ place. place < length tasks in
     let Q : ℕ → Type 0 = λ n. All (λ place. place < n) (order_of up) in
-    All-same P c.as_slice.result.now (order_of up) (c.as_slice.ensures.value ∙ c.in_ok-order.ensures) (subst Q count (order_within (length up) up))
+    All-same P c.as_slice.result.now (order_of up) (c.as_slice.ensures.value ∙ c.in_ok-wiring.ensures.order) (subst Q count (order_within (length up) up))
 
 pub returns-in-Some-clause-err : goal.returns-in-Some-clause-err
 returns-in-Some-clause-err c =
@@ -81,7 +64,7 @@ returns-in-Some-clause-err c =
     let first : no_task tasks ≡ None = some_task tasks (sym c.is_empty.ensures ∙ c.if-is_empty.false) in
     let second : too_many tasks ≡ None = few_tasks tasks (omega arith) in
     let never : find (is_never_taken tasks) (places tasks) ≡ Some c.in-Some.place =
-    left_is tasks c.in_ok-named.named c.in_ok-downstream.downstream c.in_ok-upstream.upstream c.as_slice.result.now c.in_ok-place.field-0 c.in_ok-named.ensures.named c.in_ok-downstream.ensures c.in_ok-upstream.ensures (c.as_slice.ensures.value ∙ c.in_ok-order.ensures) c.in_ok-place.ensures
+    left_is tasks c.in_ok-named.named c.in_ok-wiring.wiring.downstream c.in_ok-wiring.wiring.upstream c.as_slice.result.now c.in_ok-place.field-0 c.in_ok-named.ensures.named c.in_ok-wiring.ensures.downstream c.in_ok-wiring.ensures.upstream (c.as_slice.ensures.value ∙ c.in_ok-wiring.ensures.order) c.in_ok-place.ensures
     ∙ c.in-Some.is in
     inr (tell_cycle tasks first second c.in_ok-index.ensures.ok c.in_ok-named.ensures.ok c.in-Some.place never, found_below tasks (is_never_taken tasks) c.in-Some.place never)
 
@@ -92,7 +75,7 @@ returns-in-Some-first_bad_slots-clause-err c =
     let first : no_task tasks ≡ None = some_task tasks (sym c.is_empty.ensures ∙ c.if-is_empty.false) in
     let second : too_many tasks ≡ None = few_tasks tasks (omega arith) in
     let never : find (is_never_taken tasks) (places tasks) ≡ None =
-    left_is tasks c.in_ok-named.named c.in_ok-downstream.downstream c.in_ok-upstream.upstream c.as_slice.result.now c.in_ok-place.field-0 c.in_ok-named.ensures.named c.in_ok-downstream.ensures c.in_ok-upstream.ensures (c.as_slice.ensures.value ∙ c.in_ok-order.ensures) c.in_ok-place.ensures
+    left_is tasks c.in_ok-named.named c.in_ok-wiring.wiring.downstream c.in_ok-wiring.wiring.upstream c.as_slice.result.now c.in_ok-place.field-0 c.in_ok-named.ensures.named c.in_ok-wiring.ensures.downstream c.in_ok-wiring.ensures.upstream (c.as_slice.ensures.value ∙ c.in_ok-wiring.ensures.order) c.in_ok-place.ensures
     ∙ c.in_default.is in
     let bad : find (at_place tasks has_bad_slots) (places tasks) ≡ Some place =
     sym c.in-Some-first_bad_slots.ensures in
@@ -101,12 +84,12 @@ returns-in-Some-first_bad_slots-clause-err c =
 pub returns-clause-wired : goal.returns-clause-wired
 returns-clause-wired c =
     let tasks : List TaskSpec = c.args.tasks.now in
-    let up_is : c.in_ok-upstream.upstream ≡ upstream_rows tasks =
-    upstream_rows_is tasks c.in_ok-named.named c.in_ok-downstream.downstream c.in_ok-upstream.upstream c.in_ok-named.ensures.named c.in_ok-downstream.ensures c.in_ok-upstream.ensures in
+    let up_is : c.in_ok-wiring.wiring.upstream ≡ upstream_rows tasks =
+    upstream_rows_is tasks c.in_ok-named.named c.in_ok-wiring.wiring.downstream c.in_ok-wiring.wiring.upstream c.in_ok-named.ensures.named c.in_ok-wiring.ensures.downstream c.in_ok-wiring.ensures.upstream in
     record {
       upstream = up_is;
-      downstream = downstream_rows_is tasks c.in_ok-named.named c.in_ok-downstream.downstream c.in_ok-named.ensures.named c.in_ok-downstream.ensures;
-      order = c.in_ok-order.ensures ∙ ap order_of up_is;
+      downstream = downstream_rows_is tasks c.in_ok-named.named c.in_ok-wiring.wiring.downstream c.in_ok-named.ensures.named c.in_ok-wiring.ensures.downstream;
+      order = c.in_ok-wiring.ensures.order ∙ ap order_of up_is;
     }
 
 pub returns-clause-ok : goal.returns-clause-ok
@@ -115,6 +98,6 @@ returns-clause-ok c =
     let first : no_task tasks ≡ None = some_task tasks (sym c.is_empty.ensures ∙ c.if-is_empty.false) in
     let second : too_many tasks ≡ None = few_tasks tasks (omega arith) in
     let never : find (is_never_taken tasks) (places tasks) ≡ None =
-    left_is tasks c.in_ok-named.named c.in_ok-downstream.downstream c.in_ok-upstream.upstream c.as_slice.result.now c.in_ok-place.field-0 c.in_ok-named.ensures.named c.in_ok-downstream.ensures c.in_ok-upstream.ensures (c.as_slice.ensures.value ∙ c.in_ok-order.ensures) c.in_ok-place.ensures
+    left_is tasks c.in_ok-named.named c.in_ok-wiring.wiring.downstream c.in_ok-wiring.wiring.upstream c.as_slice.result.now c.in_ok-place.field-0 c.in_ok-named.ensures.named c.in_ok-wiring.ensures.downstream c.in_ok-wiring.ensures.upstream (c.as_slice.ensures.value ∙ c.in_ok-wiring.ensures.order) c.in_ok-place.ensures
     ∙ c.in_default.is in
     tell_none tasks first second c.in_ok-index.ensures.ok c.in_ok-named.ensures.ok never (sym c.in_default-first_bad_slots.ensures)

@@ -5,4 +5,4 @@ use Rattle.af_role.specs.Access.{is_about}
 use Rattle.af_role.proofs.permissions.Permissions.without_dag.Given as goal
 
 abbrev pub invariant-loop-pair : goal.invariant-loop-pair
-invariant-loop-pair l = l.made ≡ with_pairs [] (filter (λ pair. not (is_about l.dag pair)) (map (λ pair. pair.now) l.yielded))
+invariant-loop-pair l = l.kept ≡ with_pairs [] (filter (λ pair. not (is_about l.dag pair)) (map (λ pair. pair.now) l.yielded))
