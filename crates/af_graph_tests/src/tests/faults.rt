@@ -4,7 +4,7 @@ use af_graph::{Dag, DagFault, DagSpec, TaskIds, TaskSpec};
 use std::alloc::Global;
 use std::test::Fail;
 
-/// What is told of a definition, if it is no DAG. Want of memory ends the test.
+/// What is told of a definition, if it is no DAG. Out of memory ends the test.
 fn told(alloc: Global, spec: DagSpec) -> Result<Option<DagFault>, Fail> {
     match Dag::new(alloc, spec) {
         Ok(_) => Ok(None),
