@@ -124,14 +124,14 @@ pub integer_is : (z : ℤ) → number_text (of_integer z) ≡ signed_decimal z
 integer_is (pos n) = refl
 integer_is (negsuc n) = refl
 
--- a list of lent texts is the list of the texts
-pub texts_now : (old new : Filling) (name : List ℕ) (lent : List (Bor (List ℕ))) (texts : List (List ℕ)) → map (λ text. text.now) lent ≡ texts
-    → Adds false old new ((name, array (items_of (map (λ text. string text.now) lent))) ∷ []) → Adds false old new ((name, array (items_of (map (λ text. string text) texts))) ∷ [])
-texts_now old new name lent texts is adds =
-    subst (λ (items : List Data). Adds false old new ((name, array (items_of items)) ∷ [])) (map_now (λ (text : Bor (List ℕ)). text.now) (λ (text : List ℕ). string text) lent ∙ ap (map (λ (text : List ℕ). string text)) is) adds
+-- a list of borrowed texts is the list of the texts
+pub texts_now : (old new : Filling) (name : List ℕ) (borrowed : List (Bor (List ℕ))) (texts : List (List ℕ)) → map (λ text. text.now) borrowed ≡ texts
+    → Adds false old new ((name, array (items_of (map (λ text. string text.now) borrowed))) ∷ []) → Adds false old new ((name, array (items_of (map (λ text. string text) texts))) ∷ [])
+texts_now old new name borrowed texts is adds =
+    subst (λ (items : List Data). Adds false old new ((name, array (items_of items)) ∷ [])) (map_now (λ (text : Bor (List ℕ)). text.now) (λ (text : List ℕ). string text) borrowed ∙ ap (map (λ (text : List ℕ). string text)) is) adds
 
--- what is told of lent items is told of the items
-pub told_now : {X Y : Type 0} (later : Bool) (old new : Filling) (name : List ℕ) (now : X → Y) (told : Y → Data) (lent : List X) (items : List Y) → map now lent ≡ items
-    → Adds later old new ((name, array (items_of (map (λ x. told (now x)) lent))) ∷ []) → Adds later old new ((name, array (items_of (map told items))) ∷ [])
-told_now later old new name now told lent items is adds =
-    subst (λ (values : List Data). Adds later old new ((name, array (items_of values)) ∷ [])) (map_now now told lent ∙ ap (map told) is) adds
+-- what is told of borrowed items is told of the items
+pub told_now : {X Y : Type 0} (later : Bool) (old new : Filling) (name : List ℕ) (now : X → Y) (told : Y → Data) (borrowed : List X) (items : List Y) → map now borrowed ≡ items
+    → Adds later old new ((name, array (items_of (map (λ x. told (now x)) borrowed))) ∷ []) → Adds later old new ((name, array (items_of (map told items))) ∷ [])
+told_now later old new name now told borrowed items is adds =
+    subst (λ (values : List Data). Adds later old new ((name, array (items_of values)) ∷ [])) (map_now now told borrowed ∙ ap (map told) is) adds

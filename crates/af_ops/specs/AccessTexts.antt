@@ -12,7 +12,7 @@ use Rattle.af_base.specs.Readings.{◌>>=◌, first_fault, taking}
 use Rattle.af_names.specs.Names.{account_name_grammar, named}
 use Rattle.af_role.specs.declared.access.AccessRow.{AccessRow}
 
--- a member as code has it: its name and its value, both lent
+-- a member as code has it: its name and its value, both borrowed
 abbrev pub field_of : Bor (List ℕ) × Bor Json → List ℕ × Data
 field_of field = (field.0.now, view field.1.now)
 

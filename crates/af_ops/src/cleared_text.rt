@@ -9,7 +9,7 @@ use af_runs::Run;
 use std::alloc::{AllocError, Global};
 use std::marker::Model;
 
-/// An instance that is cleared: its run, and the id of its task, lent.
+/// An instance that is cleared: its run, and the id of its task, borrowed.
 #[derive(Drop)]
 pub(crate) struct ClearedRow<'a> {
     pub run: &'a Run,

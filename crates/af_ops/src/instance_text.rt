@@ -10,7 +10,7 @@ use af_runs::{Instance, Run};
 use std::alloc::{AllocError, Global};
 use std::marker::Model;
 
-/// An instance with its run and its task, lent.
+/// An instance with its run and its task, borrowed.
 #[derive(Drop)]
 pub(crate) struct InstanceRow<'a> {
     pub run: &'a Run,

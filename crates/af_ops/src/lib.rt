@@ -72,10 +72,10 @@ mod text;
 mod trigger;
 mod variable_op;
 mod variable_text;
-mod worked;
-mod worked_pages;
-mod worked_policies;
-mod worked_rows;
+pub mod worked;
+pub mod worked_pages;
+pub mod worked_policies;
+pub mod worked_rows;
 
 pub use access_texts::read_access;
 pub use answer::{CallFault, OpFault, Under};
@@ -114,19 +114,3 @@ pub use telling::shown_fault;
 pub use text::Text;
 pub use trigger::Trigger;
 pub use variable_op::VariableOp;
-pub use worked::{
-    bodies_by_the_rule, changes_by_the_rule, clear_bodies_by_the_rule, clear_messages_by_the_rule,
-    clears_by_the_rule, deletes_by_the_rule, faults_by_the_rule, instance_messages_by_the_rule,
-    instance_routes_by_the_rule, instances_by_the_rule, mark_messages_by_the_rule,
-    marks_by_the_rule, messages_by_the_rule, readings_by_the_rule, routes_by_the_rule,
-    run_messages_by_the_rule, runs_by_the_rule, tasks_by_the_rule, triggers_by_the_rule,
-};
-pub use worked_pages::{page_messages_by_the_rule, pages_by_the_rule, windows_by_the_rule};
-pub use worked_policies::{
-    identities_by_the_rule, policy_bodies_by_the_rule, policy_changes_by_the_rule,
-    policy_faults_by_the_rule, policy_readings_by_the_rule, policy_routes_by_the_rule,
-};
-pub use worked_rows::{
-    pool_messages_by_the_rule, pools_by_the_rule, row_bodies_by_the_rule, row_routes_by_the_rule,
-    variable_messages_by_the_rule, variables_by_the_rule,
-};

@@ -17,7 +17,7 @@ use af_role::{Pair, Permissions};
 use std::alloc::{AllocError, Global};
 use std::marker::Model;
 
-/// Who brings a token, lent, and the version of the policy that says so.
+/// Who brings a token, borrowed, and the version of the policy that says so.
 #[derive(Drop)]
 struct MeRow<'v, 'a> {
     pub me: &'v Me<'a>,
@@ -65,8 +65,8 @@ fn put_permissions(
     ensures { OnOk result (Adds false out.old out.new ((codes "permissions", array (items_of (map (λ pair. string (pair_text pair)) permissions.now))) ∷ [])) }
 {
     let each = pair_texts(alloc, permissions)?;
-    let lent = lent_texts(alloc, each.as_slice())?;
-    out.texts(alloc, false, "permissions", lent.as_slice())?;
+    let borrowed = borrowed_texts(alloc, each.as_slice())?;
+    out.texts(alloc, false, "permissions", borrowed.as_slice())?;
     Ok(())
 }
 
@@ -95,35 +95,35 @@ fn text_of(alloc: Global, pair: &Pair) -> Result<String, AllocError>
     format!(in alloc; "{pair}")
 }
 
-fn lent_texts(alloc: Global, texts: &[String]) -> Result<Vec<&str>, AllocError>
-    ensures { IfOk result (λ lent. map (λ text. text.now) lent.items ≡ map (λ text. string_bytes text) texts.now) }
+fn borrowed_texts(alloc: Global, texts: &[String]) -> Result<Vec<&str>, AllocError>
+    ensures { IfOk result (λ borrowed. map (λ text. text.now) borrowed.items ≡ map (λ text. string_bytes text) texts.now) }
 {
-    let mut lent = Vec::with_capacity(alloc, texts.len())?;
+    let mut borrowed = Vec::with_capacity(alloc, texts.len())?;
     for text in texts {
-        lent.push(text.as_str())?;
+        borrowed.push(text.as_str())?;
     }
-    Ok(lent)
+    Ok(borrowed)
 }
 
 fn put_role_names(alloc: Global, out: &mut Text, names: &[&RoleName]) -> Result<(), AllocError>
     ensures { OnOk result (Adds true out.old out.new ((codes "roles", array (items_of (map (λ name. string name.now) names.now))) ∷ [])) }
 {
-    let lent = lent_names(alloc, names)?;
-    out.texts(alloc, true, "roles", lent.as_slice())?;
+    let borrowed = borrowed_names(alloc, names)?;
+    out.texts(alloc, true, "roles", borrowed.as_slice())?;
     Ok(())
 }
 
-fn lent_names<'a>(alloc: Global, names: &[&'a RoleName]) -> Result<Vec<&'a str>, AllocError>
-    ensures { IfOk result (λ lent. map (λ text. text.now) lent.items ≡ map (λ name. name.now) names.now) }
+fn borrowed_names<'a>(alloc: Global, names: &[&'a RoleName]) -> Result<Vec<&'a str>, AllocError>
+    ensures { IfOk result (λ borrowed. map (λ text. text.now) borrowed.items ≡ map (λ name. name.now) names.now) }
 {
-    let mut lent = Vec::with_capacity(alloc, names.len())?;
+    let mut borrowed = Vec::with_capacity(alloc, names.len())?;
     for name in names {
-        lent.push(name.as_str())?;
+        borrowed.push(name.as_str())?;
     }
-    Ok(lent)
+    Ok(borrowed)
 }
 
-/// A DAG whose access control was taken over, lent, and the version that this made.
+/// A DAG whose access control was taken over, borrowed, and the version that this made.
 #[derive(Drop)]
 pub(crate) struct SyncRow<'a> {
     pub dag_id: &'a str,

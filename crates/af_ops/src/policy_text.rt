@@ -23,7 +23,7 @@ impl<K: NameKind> Row for Name<K> {
     }
 }
 
-/// What has a name, which is lent.
+/// What has a name, which is borrowed.
 #[derive(Drop)]
 struct NamedRow<'a> {
     name: &'a str,
@@ -123,7 +123,7 @@ fn put_role(
     Ok(())
 }
 
-/// The permissions, lent.
+/// The permissions, borrowed.
 pub(crate) fn pairs_of(alloc: Global, permissions: &Permissions) -> Result<Vec<&Pair>, AllocError>
     ensures { IfOk result (λ pairs. map (λ pair. pair.now) pairs.items ≡ permissions.now) }
 {

@@ -10,7 +10,7 @@ use af_sched::Held;
 use std::alloc::{AllocError, Global};
 use std::marker::Model;
 
-/// A pool, lent, and the slots that instances hold of it.
+/// A pool, borrowed, and the slots that instances hold of it.
 #[derive(Drop)]
 pub(crate) struct PoolRow<'a> {
     pub name: &'a PoolName,

@@ -11,7 +11,7 @@ use af_graph::{Dag, TaskSpec};
 use std::alloc::{AllocError, Global};
 use std::marker::Model;
 
-/// A task of a DAG, and its place there, lent.
+/// A task of a DAG, and its place there, borrowed.
 #[derive(Drop)]
 pub(crate) struct TaskRow<'a> {
     pub dag: &'a Dag,
@@ -56,7 +56,7 @@ fn put_task(
     Ok(())
 }
 
-/// The ids of the tasks directly downstream of the task at a place, lent. `AllocError` only where a growth was refused.
+/// The ids of the tasks directly downstream of the task at a place, borrowed. `AllocError` only where a growth was refused.
 fn downstream_ids<'a>(alloc: Global, dag: &'a Dag, place: usize) -> Result<Vec<&'a str>, AllocError>
     ensures { IfOk result (λ ids. map (λ id. id.now) ids.items ≡ downstream_ids dag.now.tasks place) }
 {

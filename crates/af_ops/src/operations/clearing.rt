@@ -117,7 +117,7 @@ fn cleared_text(
     Ok(body)
 }
 
-/// The chosen instances, each with the id of its task, lent. `AllocError` only where a growth was refused.
+/// The chosen instances, each with the id of its task, borrowed. `AllocError` only where a growth was refused.
 fn cleared_told<'a>(
     alloc: Global,
     tasks: &'a [TaskSpec],

@@ -93,7 +93,7 @@ fn instances_text(
     Ok(body)
 }
 
-/// Instances of a run, each with its task, lent. `AllocError` only where a growth was refused.
+/// Instances of a run, each with its task, borrowed. `AllocError` only where a growth was refused.
 fn each_told<'a>(
     alloc: Global,
     run: &'a Run,

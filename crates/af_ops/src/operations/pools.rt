@@ -92,7 +92,7 @@ fn pools_text(alloc: Global, state: &State, window: Window) -> Result<Vec<u8>, A
     Ok(body)
 }
 
-/// Pools, each with what instances hold of it, lent. `AllocError` only where a growth was refused.
+/// Pools, each with what instances hold of it, borrowed. `AllocError` only where a growth was refused.
 fn each_told<'a>(
     alloc: Global,
     pools: &'a [Pool],
@@ -117,7 +117,7 @@ fn beside<'a>(pool: &'a Pool, held: &Held) -> PoolRow<'a>
     }
 }
 
-/// A pool of this name and these slots, with what instances hold of it, lent.
+/// A pool of this name and these slots, with what instances hold of it, borrowed.
 fn told<'a>(state: &State, name: &'a PoolName, slots: u32) -> PoolRow<'a>
     ensures { result ≡ pool_told state.now.rows name.now slots }
 {

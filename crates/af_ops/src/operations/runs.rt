@@ -94,7 +94,7 @@ fn runs_text(alloc: Global, runs: &[&Run], window: Window) -> Result<Vec<u8>, Al
     Ok(body)
 }
 
-/// The runs whose DAG is read, lent, in their order. `AllocError` only where a growth was refused.
+/// The runs whose DAG is read, borrowed, in their order. `AllocError` only where a growth was refused.
 fn runs_read<'a, R: Reader>(
     alloc: Global,
     runs: &'a [Run],
@@ -122,7 +122,7 @@ fn dag_runs_text(
     Ok(body)
 }
 
-/// A page of the runs of a DAG, lent. `AllocError` only where a growth was refused.
+/// A page of the runs of a DAG, borrowed. `AllocError` only where a growth was refused.
 fn page_of_dag<'a>(
     alloc: Global,
     state: &'a State,

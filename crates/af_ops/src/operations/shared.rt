@@ -94,7 +94,7 @@ pub(crate) fn input_fault(why: BodyFault) -> OpFault
     }
 }
 
-/// The rows whose DAG is read, lent, in their order. `AllocError` only where a growth was refused.
+/// The rows whose DAG is read, borrowed, in their order. `AllocError` only where a growth was refused.
 pub(crate) fn rows_read<'a, T: NamesDag, R: Reader>(
     alloc: Global,
     rows: &'a [T],

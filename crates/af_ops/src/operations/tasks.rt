@@ -41,7 +41,7 @@ fn tasks_text(alloc: Global, dag: &Dag) -> Result<Vec<u8>, AllocError>
     Ok(body)
 }
 
-/// The first tasks of a DAG, lent. `AllocError` only where a growth was refused.
+/// The first tasks of a DAG, borrowed. `AllocError` only where a growth was refused.
 fn first_told<'a>(
     alloc: Global,
     dag: &'a Dag,

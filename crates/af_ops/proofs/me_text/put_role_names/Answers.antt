@@ -8,7 +8,7 @@ use Rattle.af_ops.proofs.me_text.put_role_names.Goals as goal
 
 pub returns : goal.returns
 returns c =
-    let lent : map (λ text. text.now) c.as_slice.result.now ≡ map (λ name. name.now) c.args.names.now = search rules in
+    let borrowed : map (λ text. text.now) c.as_slice.result.now ≡ map (λ name. name.now) c.args.names.now = search rules in
     subst (λ (values : List Data). Adds true c.args.out.now c.texts.new.self ((codes "roles", array (items_of values)) ∷ []))
     (sym (map_now (λ name. name.now) (λ text. string text) c.args.names.now))
-    (told_now true c.args.out.now c.texts.new.self (codes "roles") (λ text. text.now) (λ text. string text) c.as_slice.result.now (map (λ name. name.now) c.args.names.now) lent c.in_ok-texts.ensures)
+    (told_now true c.args.out.now c.texts.new.self (codes "roles") (λ text. text.now) (λ text. string text) c.as_slice.result.now (map (λ name. name.now) c.args.names.now) borrowed c.in_ok-texts.ensures)
