@@ -1,13 +1,18 @@
 -- Laws about operations on pools and variables.
-use Rattle.std.proofs.Common.{◌≡◌, ◌∙◌, ℕ, Bool, true, false, cond, not, List, refl, sym, ap, subst, arith, nat_eq, map}
-use Rattle.std.specs.Prelude.{Option, Some, None, Ok, Result, is_some, option_map, unwrap_or}
+use Rattle.std.proofs.Common.{◌≡◌, ◌∙◌, ◌+◌, ◌-◌, ◌^◌, ◌<◌, ℕ, Bool, true, false, cond, not, List, [], ◌∷◌, refl, sym, ap, ap₂, subst, arith, nat_eq, map}
+use Rattle.std.specs.Prelude.{Option, Some, None, Ok, Result, filter, is_some, min, option_map, sum_by, unwrap_or}
+use Rattle.std.proofs.lemmas.List.Sums.{sum_by-cons}
 use Rattle.std.specs.Cmp.Lexicographic.{nat_list_cmp_total, nat_list_eq_equiv, pointwise}
 use Rattle.af_base.specs.Ordered.{has_key}
+use Rattle.af_graph.specs.declared.task_state.TaskState.{TaskState}
+use Rattle.af_graph.specs.declared.task_state.TaskState.TheVariants.{Queued, Running}
 use Rattle.af_pool.proofs.PoolLemmas.{needed_stay}
 use Rattle.af_pool.proofs.SlotLemmas.{occupied_parts}
+use Rattle.af_pool.specs.Occupants.{OccupantRow, slots_in, slots_of_all}
 use Rattle.af_pool.specs.Pools.{NeededStay, has_pool, name_of, pool_of, with_pool, with_slots, without_pool}
 use Rattle.af_pool.specs.declared.pool.Pool.{Pool}
-use Rattle.af_sched.specs.Placed.{placed_in}
+use Rattle.af_sched.specs.Holding.{held_in}
+use Rattle.af_sched.specs.Placed.{Placed, placed_in}
 use Rattle.af_sched.specs.Queue.{occupant_of}
 use Rattle.af_sched.specs.State.{StateRows, pools_of_row}
 use Rattle.af_vars.specs.Variables.{key_of, variable_of, with_value, with_variable, without_variable}
@@ -18,7 +23,7 @@ use Rattle.af_ops.specs.declared.pool_op.PoolOp.{PoolOp}
 use Rattle.af_ops.specs.declared.pool_op.PoolOp.TheVariants as pool_op
 use Rattle.af_ops.specs.Effects.{Effect}
 use Rattle.af_ops.specs.PoolEffects.{pool_effect}
-use Rattle.af_ops.specs.RowLaws.{NeededPoolsStay, PoolChangesTouchOnePool, PoolsAreAsWritten, PoolsAreToldWhole, RowsGoByName, VariableChangesTouchOneVariable, VariablesAreAsWritten}
+use Rattle.af_ops.specs.RowLaws.{NeededPoolsStay, PoolChangesTouchOnePool, PoolsAreAsWritten, PoolsAreToldByState, PoolsAreToldWhole, RowsGoByName, VariableChangesTouchOneVariable, VariablesAreAsWritten, is_of_pool_in, occupied_in_all, slots_of_instances}
 use Rattle.af_ops.proofs.KeyLemmas.{added_found, any_found, changed_found, found_key, removed_found}
 use Rattle.af_ops.proofs.LawLemmas.{changes_stay, readings_keep, unchanged}
 use Rattle.af_ops.proofs.ListingLemmas.{order_cut}
@@ -177,6 +182,39 @@ told_whole state pool =
     let parts = occupied_parts state.pools pool.name (map occupant_of (placed_in state.dags state.runs)) in (
       (λ few. omega (arith, parts, few)),
       omega arith,
+    )
+
+-- one instance more holds its slots, as pools see it and as runs do
+one_more : (there : Bool) (one : Placed) (occupants : List OccupantRow) (instances : List Placed) → slots_of_all occupants ≡ sum_by (λ placed. placed.task.pool_slots) instances
+    → slots_of_all (cond there (occupant_of one ∷ occupants) occupants) ≡ sum_by (λ placed. placed.task.pool_slots) (cond there (one ∷ instances) instances)
+one_more false one occupants instances same = same
+one_more true one occupants instances same =
+    sum_by-cons (λ (o : OccupantRow). o.slots) (occupant_of one) occupants
+    ∙ (ap (λ (n : ℕ). one.task.pool_slots + n) same ∙ sym (sum_by-cons (λ (p : Placed). p.task.pool_slots) one instances))
+
+-- the slots that instances in a state hold, as pools see them and as runs do
+slots_by_state : (it : TaskState) (name : List ℕ) (all : List Placed) → slots_in it name (map occupant_of all) ≡ sum_by (λ placed. placed.task.pool_slots) (filter (is_of_pool_in it name) all)
+slots_by_state it name [] = refl
+slots_by_state it name (one ∷ all) =
+    one_more (is_of_pool_in it name one) one _ (filter (is_of_pool_in it name) all) (slots_by_state it name all)
+
+held_is : (it : TaskState) (state : StateRows) (name : List ℕ) → has_pool state.pools name ≡ true → held_in it state name ≡ slots_of_instances it state name
+held_is it state name there =
+    ap (λ (b : Bool). cond b (slots_in it name (map occupant_of (placed_in state.dags state.runs))) 0) there
+    ∙ slots_by_state it name (placed_in state.dags state.runs)
+
+-- what is below the largest number that is told is told as it is
+told_below : (held slots : ℕ) → held ≡ slots → slots < 2 ^ 64 → min held (2 ^ 64 - 1) ≡ slots
+told_below held slots same few = omega (arith, same, few)
+
+pub told_by_state : PoolsAreToldByState
+told_by_state state pool there =
+    let queued = held_is Queued state pool.name there in
+    let running = held_is Running state pool.name there in
+    let parts = occupied_parts state.pools pool.name (map occupant_of (placed_in state.dags state.runs)) in (
+      told_below (held_in Queued state pool.name) (slots_of_instances Queued state pool.name) queued,
+      (told_below (held_in Running state pool.name) (slots_of_instances Running state pool.name) running,
+      ap₂ (λ (m n : ℕ). m + n) (sym queued) (sym running) ∙ sym parts),
     )
 
 pub rows_by_name : RowsGoByName

@@ -1,13 +1,17 @@
 -- Laws about the operations on pools and variables, in words of their own.
-use Rattle.std.specs.Prelude.{◌≡◌, ◌<◌, ◌+◌, ◌^◌, ℕ, List, Bool, false, map, max, nat_eq, Some, None, Ok}
+use Rattle.std.specs.Prelude.{◌≡◌, ◌<◌, ◌+◌, ◌^◌, ◌&&◌, ℕ, List, Bool, true, false, filter, map, max, nat_eq, sum_by, Some, None, Ok}
 use Rattle.std.specs.Cmp.Lexicographic.{pointwise}
 use Rattle.af_base.specs.Ordered.{AreInOrder}
+use Rattle.af_graph.specs.Graph.{same_name}
+use Rattle.af_graph.specs.States.{same_state}
+use Rattle.af_graph.specs.declared.task_state.TaskState.{TaskState}
+use Rattle.af_graph.specs.declared.task_state.TaskState.TheVariants.{Queued, Running}
 use Rattle.af_listing.specs.Pages.{cut}
 use Rattle.af_listing.specs.Windows.{Cut}
-use Rattle.af_pool.specs.Pools.{NeededStay, name_of, occupied_slots, pool_of, slots_of}
+use Rattle.af_pool.specs.Pools.{NeededStay, has_pool, name_of, occupied_slots, pool_of, slots_of}
 use Rattle.af_pool.specs.declared.pool.Pool.{Pool}
 use Rattle.af_sched.specs.Holding.{held_of}
-use Rattle.af_sched.specs.Placed.{placed_in}
+use Rattle.af_sched.specs.Placed.{Placed, placed_in}
 use Rattle.af_sched.specs.Queue.{occupant_of}
 use Rattle.af_sched.specs.State.{StateRows, pools_of_row}
 use Rattle.af_vars.specs.Variables.{key_of, variable_of}
@@ -78,6 +82,24 @@ PoolsAreToldWhole =
     (state : StateRows) (pool : Pool)
     → (occupied_in_all state pool.name < 2 ^ 64 → occupied_by (held_of state pool.name) ≡ occupied_in_all state pool.name)
     × (occupied_by (held_of state pool.name) + open_beside pool.slots (held_of state pool.name) ≡ max pool.slots (occupied_by (held_of state pool.name)))
+
+-- whether an instance is in this state, and its task names the pool of this name
+abbrev pub is_of_pool_in : TaskState → List ℕ → Placed → Bool
+is_of_pool_in task_state name placed = same_name placed.task.pool name && same_state placed.instance.state task_state
+
+-- the slots of the instances of a pool that are in this state, of all runs
+abbrev pub slots_of_instances : TaskState → StateRows → List ℕ → ℕ
+slots_of_instances task_state state name =
+    sum_by (λ placed. placed.task.pool_slots) (filter (is_of_pool_in task_state name) (placed_in state.dags state.runs))
+
+-- The slots that are told queued of a pool are those of its queued instances, and those told running of its running ones, where these
+-- are fewer than a number of 64 bits tells; together these instances hold what is occupied.
+abbrev pub PoolsAreToldByState : Type 0
+PoolsAreToldByState =
+    (state : StateRows) (pool : Pool) → has_pool state.pools pool.name ≡ true
+    → (slots_of_instances Queued state pool.name < 2 ^ 64 → (held_of state pool.name).queued ≡ slots_of_instances Queued state pool.name)
+    × ((slots_of_instances Running state pool.name < 2 ^ 64 → (held_of state pool.name).running ≡ slots_of_instances Running state pool.name)
+    × (slots_of_instances Queued state pool.name + slots_of_instances Running state pool.name ≡ occupied_in_all state pool.name))
 
 -- the pools of a page stand in byte order of their names, and the variables in that of their keys; none stands twice
 abbrev pub RowsGoByName : Type 0

@@ -1,4 +1,4 @@
-ghost use Rattle.af_ops.specs.RowLaws.{NeededPoolsStay, PoolChangesTouchOnePool, PoolsAreAsWritten, VariableChangesTouchOneVariable, VariablesAreAsWritten, PoolsAreToldWhole, RowsGoByName};
+ghost use Rattle.af_ops.specs.RowLaws.{NeededPoolsStay, PoolChangesTouchOnePool, PoolsAreAsWritten, VariableChangesTouchOneVariable, VariablesAreAsWritten, PoolsAreToldByState, PoolsAreToldWhole, RowsGoByName};
 
 /// No operation deletes the default pool, nor one that a task names.
 pub fn needed_pools_stay()
@@ -29,6 +29,12 @@ pub fn variables_are_as_written()
 /// those occupied where these are more.
 pub fn pools_are_told_whole()
     ensures { PoolsAreToldWhole }
+{}
+
+/// The slots that are told queued of a pool are those of its queued instances, and those told running of its running ones; together
+/// these hold what is occupied.
+pub fn pools_are_told_by_state()
+    ensures { PoolsAreToldByState }
 {}
 
 /// A listing of pools goes by name and one of variables by key, in byte order, and tells none twice.
