@@ -213,8 +213,10 @@ told_by_state state pool there =
     let running = held_is Running state pool.name there in
     let parts = occupied_parts state.pools pool.name (map occupant_of (placed_in state.dags state.runs)) in (
       told_below (held_in Queued state pool.name) (slots_of_instances Queued state pool.name) queued,
-      (told_below (held_in Running state pool.name) (slots_of_instances Running state pool.name) running,
-      ap₂ (λ (m n : ℕ). m + n) (sym queued) (sym running) ∙ sym parts),
+      (
+        told_below (held_in Running state pool.name) (slots_of_instances Running state pool.name) running,
+        ap₂ (λ (m n : ℕ). m + n) (sym queued) (sym running) ∙ sym parts,
+      ),
     )
 
 pub rows_by_name : RowsGoByName

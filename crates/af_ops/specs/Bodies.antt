@@ -126,12 +126,9 @@ clear_run_in bytes = do
   dry_run ← optional_in as_bool DryRun body
   Ok (unwrap_or dry_run true)
 
--- which instances are cleared, and whether that is only to be told
-abbrev pub clear_in : List ℕ → Result Clear BodyFault
-clear_in bytes = do
-  body ← body_in bytes
-  dry_run ← optional_in as_bool DryRun body
-  only_failed ← optional_in as_bool OnlyFailed body
+-- the members of a body that asks for a clear, once it says whether that is only to be told, and of failed instances alone
+abbrev pub clear_by : Option Bool → Option Bool → Data → Result Clear BodyFault
+clear_by dry_run only_failed body = do
   task_ids ← task_ids_in body
   run_id ← optional_in run_id_of DagRunId body
   first ← optional_in instant_in StartDate body
@@ -144,3 +141,15 @@ clear_in bytes = do
     start_date = first;
     end_date = last;
   })
+
+abbrev pub clear_of : Data → Result Clear BodyFault
+clear_of body = do
+  dry_run ← optional_in as_bool DryRun body
+  only_failed ← optional_in as_bool OnlyFailed body
+  clear_by dry_run only_failed body
+
+-- which instances are cleared, and whether that is only to be told
+abbrev pub clear_in : List ℕ → Result Clear BodyFault
+clear_in bytes = do
+  body ← body_in bytes
+  clear_of body

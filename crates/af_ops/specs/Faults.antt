@@ -5,6 +5,7 @@ use Rattle.af_policy.specs.Inputs.{parameter_text}
 use Rattle.af_role.specs.Needs.{need_text}
 use Rattle.af_ops.specs.declared.answer.CallFault.{CallFault}
 use Rattle.af_ops.specs.declared.answer.CallFault.TheVariants as why
+use Rattle.af_ops.specs.declared.answer.OpFault.{OpFault}
 use Rattle.af_ops.specs.declared.answer.OpFault.TheVariants as fault
 use Rattle.af_ops.specs.declared.op.Op.{Op}
 use Rattle.af_ops.specs.declared.status.Status.{Status}
@@ -16,6 +17,26 @@ use Rattle.af_ops.specs.Rows.{Problem}
 
 abbrev pub fault_of : Status → List ℕ → Option Problem
 fault_of status detail = Some record { status = status; detail = detail }
+
+-- the status of a fault of an operation; of want of memory that of the fixed text with which the connection then ends
+abbrev pub op_status : OpFault → Status
+op_status (fault.BadParameter it) = status.BadRequest
+op_status fault.BadBody = status.BadRequest
+op_status (fault.BadMember it) = status.BadRequest
+op_status fault.NoSuchDag = status.NotFound
+op_status fault.NoSuchRun = status.NotFound
+op_status fault.NoSuchTask = status.NotFound
+op_status (fault.NoSuchTaskAt place) = status.NotFound
+op_status fault.NoSuchPool = status.NotFound
+op_status fault.NoSuchVariable = status.NotFound
+op_status (fault.RunExists date) = status.Conflict
+op_status (fault.DateTaken date) = status.Conflict
+op_status fault.Exists = status.Conflict
+op_status fault.TooMany = status.Conflict
+op_status fault.DefaultPool = status.Conflict
+op_status fault.InUse = status.Conflict
+op_status fault.HistoryFull = status.InsufficientStorage
+op_status fault.OutOfMemory = status.Unavailable
 
 -- the fault of an operation; of want of memory nothing is told here, for the connection then ends with a fixed text
 abbrev pub problem_of : Op → CallFault → Option Problem

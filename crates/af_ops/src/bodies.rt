@@ -3,7 +3,7 @@ ghost use Rattle.std.specs.Prelude.{◌≡◌, ⊤, Err, Ok, [], map, true, unwr
 ghost use Rattle.af_base.specs.JsonValue.{view};
 ghost use Rattle.serde_json.specs.Find.{as_bool};
 ghost use Rattle.af_base.specs.Readings.{Makes, OrMemory, seen, taking};
-ghost use Rattle.af_ops.specs.Bodies.{body_in, clear_in, clear_run_in, date_in, empty_object, id_taken, instant_in, is_empty, mark_in, mark_value, optional_in, pause_in, required_in, run_id_of, task_ids_in, trigger_in};
+ghost use Rattle.af_ops.specs.Bodies.{body_in, clear_by, clear_in, clear_of, clear_run_in, date_in, empty_object, id_taken, instant_in, is_empty, mark_in, mark_value, optional_in, pause_in, required_in, run_id_of, task_ids_in, trigger_in};
 
 use crate::body_fault::{BodyFault, Member};
 use crate::clear::Clear;
@@ -72,15 +72,33 @@ pub fn read_clear(alloc: Global, bytes: &[u8]) -> Result<Clear, BodyFault>
 {
     let mut scratch = Scratch::new(alloc);
     let body = body_in(alloc, bytes, &mut scratch)?;
-    let dry_run = truth_or_true(&body, Member::DryRun)?;
-    let only_failed = truth_or_true(&body, Member::OnlyFailed)?;
-    let task_ids = optional_task_ids(alloc, &body)?;
-    let dag_run_id = optional_run_id(alloc, &body, Member::DagRunId)?;
-    let start_date = optional_instant(&body, Member::StartDate)?;
-    let end_date = optional_instant(&body, Member::EndDate)?;
+    clear_of(alloc, &body)
+}
+
+fn clear_of(alloc: Global, body: &Json<'_>) -> Result<Clear, BodyFault>
+    ensures { OrMemory BodyFault.OutOfMemory (clear_of (view body.now)) result }
+{
+    let dry_run = optional_of(body, Member::DryRun)?;
+    let only_failed = optional_of(body, Member::OnlyFailed)?;
+    clear_by(alloc, body, dry_run, only_failed)
+}
+
+/// What is to be cleared; a truth value that is absent counts as true.
+fn clear_by(
+    alloc: Global,
+    body: &Json<'_>,
+    dry_run: Option<bool>,
+    only_failed: Option<bool>,
+) -> Result<Clear, BodyFault>
+    ensures { OrMemory BodyFault.OutOfMemory (clear_by dry_run only_failed (view body.now)) result }
+{
+    let task_ids = optional_task_ids(alloc, body)?;
+    let dag_run_id = optional_run_id(alloc, body, Member::DagRunId)?;
+    let start_date = optional_instant(body, Member::StartDate)?;
+    let end_date = optional_instant(body, Member::EndDate)?;
     Ok(Clear {
-        dry_run,
-        only_failed,
+        dry_run: dry_run.unwrap_or(true),
+        only_failed: only_failed.unwrap_or(true),
         task_ids,
         dag_run_id,
         start_date,
@@ -182,6 +200,13 @@ fn mark_value(value: &Json<'_>) -> Option<Mark>
     let text = value.as_str()?;
     let state = RunState::read(text)?;
     Mark::of(state)
+}
+
+/// A truth value, or nothing.
+fn optional_of(body: &Json<'_>, it: Member) -> Result<Option<bool>, BodyFault>
+    ensures { result ≡ optional_in as_bool it (view body.now) }
+{
+    optional_truth(body, name_of(it), BodyFault::BadMember(it))
 }
 
 /// A truth value, which is true where it is absent.

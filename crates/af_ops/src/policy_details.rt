@@ -80,25 +80,9 @@ pub(crate) fn shown_bad_input(
     ensures { IfOk result (λ shown. Some shown ≡ option_map (problem_at version) (bad_input it)) }
 {
     match it {
-        BadInput::Parameter(it) => {
-            shown_two(
-                alloc,
-                version,
-                Status::BadRequest,
-                "bad parameter: ",
-                it.text(),
-            )
-        }
+        BadInput::Parameter(it) => { shown_bad(alloc, version, "bad parameter: ", it.text()) }
         BadInput::Body => shown_problem(alloc, version, Status::BadRequest, "bad body"),
-        BadInput::Member(it) => {
-            shown_two(
-                alloc,
-                version,
-                Status::BadRequest,
-                "bad member: ",
-                it.text(),
-            )
-        }
+        BadInput::Member(it) => { shown_bad(alloc, version, "bad member: ", it.text()) }
     }
 }
 
@@ -106,13 +90,7 @@ pub(crate) fn shown_pair(alloc: Global, version: u32, pair: &PairText) -> Result
     ensures { IfOk result (λ shown. Some shown ≡ option_map (problem_at version) (fault_of Status.BadRequest (codes "pair not allowed: " ++ given_pair pair.now))) }
 {
     let given = given_pair(alloc, pair)?;
-    shown_two(
-        alloc,
-        version,
-        Status::BadRequest,
-        "pair not allowed: ",
-        given.as_str(),
-    )
+    shown_bad(alloc, version, "pair not allowed: ", given.as_str())
 }
 
 /// `RESOURCE.ACTION`, as it was given.
@@ -144,6 +122,42 @@ pub(crate) fn shown_two(
 {
     let detail = joined(alloc, first, second)?;
     shown_problem(alloc, version, status, detail.as_str())
+}
+
+/// What is wrong with a body, in two pieces.
+pub(crate) fn shown_bad(
+    alloc: Global,
+    version: u32,
+    first: &str,
+    second: &str,
+) -> Result<Shown, AllocError>
+    ensures { IfOk result (λ shown. Some shown ≡ option_map (problem_at version) (fault_of Status.BadRequest (first.now ++ second.now))) }
+{
+    shown_two(alloc, version, Status::BadRequest, first, second)
+}
+
+/// What is not there, in two pieces.
+pub(crate) fn shown_absent(
+    alloc: Global,
+    version: u32,
+    first: &str,
+    second: &str,
+) -> Result<Shown, AllocError>
+    ensures { IfOk result (λ shown. Some shown ≡ option_map (problem_at version) (fault_of Status.NotFound (first.now ++ second.now))) }
+{
+    shown_two(alloc, version, Status::NotFound, first, second)
+}
+
+/// What stands against a change, in two pieces.
+pub(crate) fn shown_conflict(
+    alloc: Global,
+    version: u32,
+    first: &str,
+    second: &str,
+) -> Result<Shown, AllocError>
+    ensures { IfOk result (λ shown. Some shown ≡ option_map (problem_at version) (fault_of Status.Conflict (first.now ++ second.now))) }
+{
+    shown_two(alloc, version, Status::Conflict, first, second)
 }
 
 pub(crate) fn shown_problem(

@@ -5,8 +5,8 @@ ghost use Rattle.af_ops.specs.PolicyFaults.{change_problem, me_problem, read_pro
 ghost use Rattle.af_ops.specs.PolicyServed.{problem_at};
 
 use crate::policy_details::{
-    asked_name, read_name, shown_bad_input, shown_denial, shown_moved, shown_no_policy,
-    shown_nobody, shown_pair, shown_problem, shown_two,
+    asked_name, read_name, shown_absent, shown_bad, shown_bad_input, shown_conflict, shown_denial,
+    shown_moved, shown_no_policy, shown_nobody, shown_pair, shown_problem,
 };
 use crate::shown_answer::Shown;
 use crate::status::Status;
@@ -43,22 +43,10 @@ pub(crate) fn shown_read_fault(
         ReadFault::Denied(need) => shown_denial(alloc, need, version),
         ReadFault::BadBody(it) => shown_bad_input(alloc, it, version),
         ReadFault::NoSuchRole => {
-            shown_two(
-                alloc,
-                version,
-                Status::NotFound,
-                "no such role: ",
-                read_name(asked),
-            )
+            shown_absent(alloc, version, "no such role: ", read_name(asked))
         }
         ReadFault::NoSuchUser => {
-            shown_two(
-                alloc,
-                version,
-                Status::NotFound,
-                "no such user: ",
-                read_name(asked),
-            )
+            shown_absent(alloc, version, "no such user: ", read_name(asked))
         }
         ReadFault::OutOfMemory => Err(AllocError),
     }
@@ -117,38 +105,16 @@ fn shown_change_fault(
     ensures { IfOk result (λ shown. Some shown ≡ option_map (problem_at version) (change_problem name.now fault.now)) }
 {
     match fault {
-        ChangeFault::BadAction(text) => {
-            shown_two(
-                alloc,
-                version,
-                Status::BadRequest,
-                "bad action: ",
-                text.as_str(),
-            )
-        }
+        ChangeFault::BadAction(text) => shown_bad(alloc, version, "bad action: ", text.as_str()),
         ChangeFault::PairNotAllowed(pair) => shown_pair(alloc, version, pair),
         ChangeFault::UnknownRole(role) => {
-            shown_two(
-                alloc,
-                version,
-                Status::BadRequest,
-                "unknown role: ",
-                role.as_str(),
-            )
+            shown_bad(alloc, version, "unknown role: ", role.as_str())
         }
-        ChangeFault::NoSuchRole => {
-            shown_two(alloc, version, Status::NotFound, "no such role: ", name)
-        }
-        ChangeFault::NoSuchUser => {
-            shown_two(alloc, version, Status::NotFound, "no such user: ", name)
-        }
-        ChangeFault::DefaultRole => {
-            shown_two(alloc, version, Status::Conflict, "default role: ", name)
-        }
-        ChangeFault::Exists => shown_two(alloc, version, Status::Conflict, "exists: ", name),
-        ChangeFault::RoleInUse => {
-            shown_two(alloc, version, Status::Conflict, "role in use: ", name)
-        }
+        ChangeFault::NoSuchRole => shown_absent(alloc, version, "no such role: ", name),
+        ChangeFault::NoSuchUser => shown_absent(alloc, version, "no such user: ", name),
+        ChangeFault::DefaultRole => shown_conflict(alloc, version, "default role: ", name),
+        ChangeFault::Exists => shown_conflict(alloc, version, "exists: ", name),
+        ChangeFault::RoleInUse => shown_conflict(alloc, version, "role in use: ", name),
         ChangeFault::LastAdmin => shown_problem(alloc, version, Status::Conflict, "last admin"),
         ChangeFault::TooMany => shown_problem(alloc, version, Status::Conflict, "too many"),
         ChangeFault::OutOfMemory => Err(AllocError),

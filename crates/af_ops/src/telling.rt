@@ -3,8 +3,7 @@ ghost use Rattle.std.specs.Option.{option_copied};
 ghost use Rattle.af_names.specs.Isoformat.{isoformat};
 ghost use Rattle.af_role.specs.Needs.{need_text};
 ghost use Rattle.af_ops.specs.Effects.{id_or};
-ghost use Rattle.af_ops.specs.Endpoints.{row_name_of};
-ghost use Rattle.af_ops.specs.Faults.{problem_of};
+ghost use Rattle.af_ops.specs.Faults.{fault_of, op_status, problem_of};
 ghost use Rattle.af_ops.specs.Served.{fault_told, problem_told, told_under};
 
 use crate::answer::{CallFault, OpFault, Under};
@@ -50,67 +49,52 @@ pub fn shown_fault(
 fn shown_op_fault(alloc: Global, op: &Op, fault: OpFault, under: Under) -> Result<Shown, AllocError>
     ensures { IfOk result (λ shown. fault_told op.now under (CallFault.Op fault) ≡ Some shown) }
 {
+    let detail = op_detail(alloc, op, fault)?;
+    shown_problem(alloc, under, op_status(fault), detail.as_str())
+}
+
+/// The status that a fault of an operation is told with; that of want of memory is the fixed text's, which is told without a detail.
+fn op_status(fault: OpFault) -> Status
+    ensures { result ≡ op_status fault }
+{
     match fault {
-        OpFault::BadParameter(it) => {
-            let detail = joined(alloc, "bad parameter: ", it.text())?;
-            shown_problem(alloc, under, Status::BadRequest, detail.as_str())
+        OpFault::BadParameter(_) | OpFault::BadBody | OpFault::BadMember(_) => Status::BadRequest,
+        OpFault::NoSuchDag | OpFault::NoSuchRun | OpFault::NoSuchTask => Status::NotFound,
+        OpFault::NoSuchTaskAt(_) | OpFault::NoSuchPool | OpFault::NoSuchVariable => {
+            Status::NotFound
         }
-        OpFault::BadBody => shown_problem(alloc, under, Status::BadRequest, "bad body"),
-        OpFault::BadMember(it) => {
-            let detail = joined(alloc, "bad member: ", name_of(it))?;
-            shown_problem(alloc, under, Status::BadRequest, detail.as_str())
-        }
-        OpFault::NoSuchDag => {
-            let detail = joined(alloc, "no such dag: ", id_text(op.dag()))?;
-            shown_problem(alloc, under, Status::NotFound, detail.as_str())
-        }
-        OpFault::NoSuchRun => {
-            let detail = joined(alloc, "no such run: ", run_id_text(op.run()))?;
-            shown_problem(alloc, under, Status::NotFound, detail.as_str())
-        }
-        OpFault::NoSuchTask => {
-            let detail = joined(alloc, "no such task: ", task_id_text(op.task()))?;
-            shown_problem(alloc, under, Status::NotFound, detail.as_str())
-        }
-        OpFault::NoSuchTaskAt(place) => {
-            let detail = joined(alloc, "no such task: ", id_at(op.task_ids(), place))?;
-            shown_problem(alloc, under, Status::NotFound, detail.as_str())
-        }
-        OpFault::NoSuchPool => shown_named(alloc, op, under, Status::NotFound, "no such pool: "),
-        OpFault::NoSuchVariable => {
-            shown_named(alloc, op, under, Status::NotFound, "no such variable: ")
-        }
-        OpFault::RunExists(date) => {
-            let detail = taken_id(alloc, op.given_id(), date)?;
-            shown_problem(alloc, under, Status::Conflict, detail.as_str())
-        }
-        OpFault::DateTaken(date) => {
-            let detail = joined(alloc, "date taken: ", date.isoformat().as_str())?;
-            shown_problem(alloc, under, Status::Conflict, detail.as_str())
-        }
-        OpFault::Exists => shown_named(alloc, op, under, Status::Conflict, "exists: "),
-        OpFault::TooMany => shown_problem(alloc, under, Status::Conflict, "too many"),
-        OpFault::DefaultPool => shown_problem(alloc, under, Status::Conflict, "default pool"),
-        OpFault::InUse => shown_named(alloc, op, under, Status::Conflict, "pool in use: "),
-        OpFault::HistoryFull => {
-            shown_problem(alloc, under, Status::InsufficientStorage, "history full")
-        }
-        OpFault::OutOfMemory => Err(AllocError),
+        OpFault::RunExists(_) | OpFault::DateTaken(_) | OpFault::Exists => Status::Conflict,
+        OpFault::TooMany | OpFault::DefaultPool | OpFault::InUse => Status::Conflict,
+        OpFault::HistoryFull => Status::InsufficientStorage,
+        OpFault::OutOfMemory => Status::Unavailable,
     }
 }
 
-/// A fault that names the pool or the variable that the operation is about.
-fn shown_named(
-    alloc: Global,
-    op: &Op,
-    under: Under,
-    status: Status,
-    first: &str,
-) -> Result<Shown, AllocError>
-    ensures { IfOk result (λ shown. shown ≡ problem_told under (record { status = status; detail = first.now ++ row_name_of op.now })) }
+/// The detail of a fault of an operation.
+fn op_detail(alloc: Global, op: &Op, fault: OpFault) -> Result<String, AllocError>
+    ensures { IfOk result (λ text. problem_of op.now (CallFault.Op fault) ≡ fault_of (op_status fault) (string_bytes text)) }
 {
-    let detail = joined(alloc, first, op.row_name())?;
-    shown_problem(alloc, under, status, detail.as_str())
+    match fault {
+        OpFault::BadParameter(it) => joined(alloc, "bad parameter: ", it.text()),
+        OpFault::BadBody => String::from_str(alloc, "bad body"),
+        OpFault::BadMember(it) => joined(alloc, "bad member: ", name_of(it)),
+        OpFault::NoSuchDag => joined(alloc, "no such dag: ", id_text(op.dag())),
+        OpFault::NoSuchRun => joined(alloc, "no such run: ", run_id_text(op.run())),
+        OpFault::NoSuchTask => joined(alloc, "no such task: ", task_id_text(op.task())),
+        OpFault::NoSuchTaskAt(place) => {
+            joined(alloc, "no such task: ", id_at(op.task_ids(), place))
+        }
+        OpFault::NoSuchPool => joined(alloc, "no such pool: ", op.row_name()),
+        OpFault::NoSuchVariable => joined(alloc, "no such variable: ", op.row_name()),
+        OpFault::RunExists(date) => taken_id(alloc, op.given_id(), date),
+        OpFault::DateTaken(date) => joined(alloc, "date taken: ", date.isoformat().as_str()),
+        OpFault::Exists => joined(alloc, "exists: ", op.row_name()),
+        OpFault::TooMany => String::from_str(alloc, "too many"),
+        OpFault::DefaultPool => String::from_str(alloc, "default pool"),
+        OpFault::InUse => joined(alloc, "pool in use: ", op.row_name()),
+        OpFault::HistoryFull => String::from_str(alloc, "history full"),
+        OpFault::OutOfMemory => Err(AllocError),
+    }
 }
 
 /// The detail of a denial.
