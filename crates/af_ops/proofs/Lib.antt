@@ -11,6 +11,7 @@ mod LawLemmas
 mod ListingLemmas
 mod MarkingLemmas
 mod PageLemmas
+mod PlainLemmas
 mod PolicyLawLemmas
 mod PoolLemmas
 mod RowLawLemmas

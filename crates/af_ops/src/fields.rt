@@ -10,6 +10,7 @@ ghost use Rattle.af_ops.specs.Texts.{Adds, is_name};
 ghost use Rattle.af_ops.specs.Fields.{instant_data};
 
 use crate::instant_text::InstantText;
+use crate::plain_bytes::is_plain_text;
 use crate::text::Text;
 use af_names::{DagId, Instant, RunId, TaskId};
 use itoa::Buffer;
@@ -248,12 +249,4 @@ fn escaped_text(alloc: Global, value: &str) -> Result<Vec<u8>, AllocError>
     let mut out = Writer::new(Vec::new(alloc));
     out.string(value)?;
     Ok(out.into_inner())
-}
-
-/// Whether no byte wants an escape.
-fn is_plain_text(text: &[u8]) -> bool
-    ensures { result ≡ list_all is_plain text.now }
-{
-    text.iter()
-        .all(|byte| *byte >= 32 && *byte != b'"' && *byte != b'\\')
 }

@@ -30,6 +30,7 @@ mod operations;
 mod parts;
 mod paths;
 mod place;
+mod plain_bytes;
 mod policy_answering;
 mod policy_asking;
 mod policy_bodies;

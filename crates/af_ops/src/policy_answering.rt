@@ -1,7 +1,7 @@
-ghost use Rattle.std.specs.Prelude.{◌≡◌, ◌≢◌, ◌⊎◌, ◌<◌, ◌+◌, Err, Ok, IfOk, Some, length};
+ghost use Rattle.std.specs.Prelude.{◌≡◌, ◌≢◌, ◌⊎◌, ◌<◌, ◌+◌, true, Err, Ok, IfOk, Some, length};
 ghost use Rattle.std.specs.Option.{option_copied};
 ghost use Rattle.af_policy.specs.Reads.{me_of, read_of};
-ghost use Rattle.af_policy.specs.Versions.{Follows, decided, submitted};
+ghost use Rattle.af_policy.specs.Versions.{Follows, decided, decided_wants, submitted};
 ghost use Rattle.af_policy.specs.declared.ask.Ask.TheVariants.{Bad};
 ghost use Rattle.af_policy.specs.declared.bad_input.BadInput.TheVariants as input;
 ghost use Rattle.af_ops.specs.declared.served.Served.TheVariants.{ReplyLost};
@@ -122,6 +122,7 @@ fn submitted(
     ask: &Ask,
 ) -> Result<Policy, SubmitFault>
     ensures told { (result ≡ submitted versions.now (option_copied token.entry) ask.now) ⊎ (result ≡ Err SubmitFault.OutOfMemory) }
+    ensures memory { result ≡ Err SubmitFault.OutOfMemory → decided_wants versions.now.latest (option_copied token.entry) ask.now ≡ true }
     ensures follows { IfOk result (λ later. Follows versions.now.latest later) }
     ensures room { IfOk result (λ later. length versions.now.earlier < versions.now.last) }
 {
