@@ -1,5 +1,5 @@
 -- Listings leave the state as it is, and their pages stand in order.
-use Rattle.std.proofs.Common.{◌≡◌, ℕ, zero, suc, List, [], ◌∷◌, ap, sym, map, drop, Ordering}
+use Rattle.std.proofs.Common.{◌≡◌, ℕ, zero, suc, Bool, true, cond, List, [], ◌∷◌, refl, ap, ap₂, sym, map, drop, Ordering}
 use Rattle.std.specs.Prelude.{Option, None, Result, Ok, Err}
 use Rattle.std.specs.Cmp.{IsTotalOrder}
 use Rattle.std.specs.List.Sorted.{IsStrictlySortedBy}
@@ -12,6 +12,7 @@ use Rattle.af_policy.specs.declared.bad_input.Parameter.{Parameter}
 use Rattle.af_sched.specs.State.{StateRows}
 use Rattle.af_ops.specs.declared.answer.OpFault.{OpFault}
 use Rattle.af_ops.specs.EffectParts.{Effect, kept, window_or}
+use Rattle.af_ops.specs.Listings.{read_rows}
 
 -- the state after an operation, where that is another one
 unfoldable pub next_in : Result Effect OpFault → Option StateRows
@@ -38,3 +39,9 @@ module _ {K X : Type 0} (key : X → K) {R : K → K → Ordering} (total : IsTo
   -- a page of rows in order is in order
   pub order_cut : (window : Cut) (xs : List X) → IsStrictlySortedBy R (map key xs) → IsStrictlySortedBy R (map key (cut window xs))
   order_cut window xs order = order-take key total window.limit (drop window.offset xs) (order_drop window.offset xs order)
+
+-- who reads each DAG is shown each row
+pub all_read : {X : Type 0} (reads : List ℕ → Bool) (dag : X → List ℕ) (rows : List X) → ((dag_id : List ℕ) → reads dag_id ≡ true) → read_rows reads dag rows ≡ rows
+all_read reads dag [] all = refl
+all_read {X} reads dag (row ∷ rows) all =
+    ap₂ (λ (shown : Bool) (rest : List X). cond shown (row ∷ rest) rest) (all (dag row)) (all_read reads dag rows all)

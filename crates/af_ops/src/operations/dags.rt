@@ -12,7 +12,7 @@ use crate::answer::OpFault;
 use crate::body_fault::BodyFault;
 use crate::dag_text::PausedRow;
 use crate::edit::Edit;
-use crate::operations::shared::{cut, dag_or, rows_read, truth_or, window_or};
+use crate::operations::shared::{cut, dag_or, page_text, rows_read, truth_or, window_or};
 use crate::prepared::Prepared;
 use crate::row::{listing_text, row_text};
 use af_listing::Window;
@@ -36,8 +36,23 @@ pub(crate) fn listed_dags<R: Reader>(
     Ok(Prepared::of(body, Edit::Nothing))
 }
 
-/// The text of a page of the DAGs that are read.
+/// The text of a page of the DAGs that are read. Where all are, those of the page alone are looked at.
 fn dags_text<R: Reader>(
+    alloc: Global,
+    dags: &[DagRow],
+    reader: &R,
+    window: Window,
+) -> Result<Vec<u8>, AllocError>
+    ensures { IfOk result (λ body. body.items ≡ compact_text (dags_data (R.reads reader.now) window dags.now)) }
+{
+    if reader.reads_all() {
+        return page_text(alloc, "dags", dags, window);
+    }
+    chosen_text(alloc, dags, reader, window)
+}
+
+/// The text of a page of the DAGs that are read, each of which is looked at.
+fn chosen_text<R: Reader>(
     alloc: Global,
     dags: &[DagRow],
     reader: &R,

@@ -12,7 +12,7 @@ ghost use Rattle.af_ops.specs.Prepared.{CanDo, IsExact, MemoryLast, done_on};
 
 use crate::answer::OpFault;
 use crate::edit::Edit;
-use crate::operations::shared::{cut, dag_or, run_or, window_or};
+use crate::operations::shared::{cut, dag_or, page_text, run_or, window_or};
 use crate::prepared::Prepared;
 use crate::row::{listing_text, row_text};
 use af_listing::Window;
@@ -72,7 +72,7 @@ fn runs_of_dag(
     Ok(Prepared::of(body, Edit::Nothing))
 }
 
-/// The text of a page of the runs that are read.
+/// The text of a page of the runs that are read. Where all are, those of the page alone are looked at.
 fn all_runs_text<R: Reader>(
     alloc: Global,
     runs: &[Run],
@@ -81,6 +81,9 @@ fn all_runs_text<R: Reader>(
 ) -> Result<Vec<u8>, AllocError>
     ensures { IfOk result (λ body. body.items ≡ compact_text (runs_data window (read_rows (R.reads reader.now) (λ run. run.dag_id) runs.now))) }
 {
+    if reader.reads_all() {
+        return page_text(alloc, "dag_runs", runs, window);
+    }
     let listed = runs_read(alloc, runs, reader)?;
     runs_text(alloc, listed.as_slice(), window)
 }

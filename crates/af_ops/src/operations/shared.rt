@@ -1,13 +1,17 @@
 // What operations share: the faults that come first, and the pages of listings.
-ghost use Rattle.std.specs.Prelude.{◌≡◌, IfOk, drop, map, take};
+ghost use Rattle.std.specs.Prelude.{◌≡◌, IfOk, IsTrue, drop, length, map, take};
+ghost use Rattle.serde_json.specs.Written.{compact_text};
 ghost use Rattle.af_base.specs.Readings.{seen};
 ghost use Rattle.af_listing.specs.Pages.{cut};
 ghost use Rattle.af_ops.specs.Effects.{dag_or, input_fault, input_or, run_or, window_or};
+ghost use Rattle.af_ops.specs.Fields.{listing_of, object_of};
 ghost use Rattle.af_ops.specs.Listings.{read_rows};
+ghost use Rattle.af_ops.specs.Texts.{is_name};
 
 use crate::answer::OpFault;
 use crate::body_fault::BodyFault;
 use crate::clear::Clear;
+use crate::row::{Row, listing_text};
 use crate::trigger::Trigger;
 use af_listing::Window;
 use af_names::{DagId, NamesDag, RunId};
@@ -105,6 +109,21 @@ pub(crate) fn rows_read<'a, T: NamesDag, R: Reader>(
     rows.iter()
         .filter(|row| reader.readable((*row).dag_id()))
         .collect(alloc)
+}
+
+/// The text of a page of rows that are all shown. No other row is looked at. `AllocError` only where a growth was refused.
+pub(crate) fn page_text<T: Row>(
+    alloc: Global,
+    name: &str,
+    rows: &[T],
+    window: Window,
+) -> Result<Vec<u8>, AllocError>
+    requires { IsTrue (is_name name.now) }
+    ensures { IfOk result (λ body. body.items ≡ compact_text (listing_of name.now (map (λ row. object_of (T.fields row)) (cut window rows.now)) (length rows.now))) }
+{
+    let shown: Vec<&T> = cut(rows, window).iter().collect(alloc)?;
+    let body = listing_text(alloc, name, shown.as_slice(), rows.len())?;
+    Ok(body)
 }
 
 /// The rows of a page, of those that are shown.

@@ -1,10 +1,15 @@
-use Rattle.std.proofs.Common.{◌∙◌, codes, rules}
-use Rattle.af_ops.specs.Rows.{dag_fields}
-use Rattle.af_ops.proofs.PageLemmas.{listing_now}
+use Rattle.std.proofs.Common.{◌≡◌, ℕ, Bool, List, codes, length, map, subst, sym}
+use Rattle.std.specs.Prelude.{IfOk}
+use Rattle.serde_json.specs.Written.{compact_text}
+use Rattle.af_listing.specs.Pages.{cut}
+use Rattle.af_sched.specs.declared.dag_row.DagRow.{DagRow}
+use Rattle.af_ops.specs.Fields.{listing_of}
+use Rattle.af_ops.specs.Replies.{dag_data}
+use Rattle.af_ops.proofs.ListingLemmas.{all_read}
 use Rattle.af_ops.proofs.operations.dags.dags_text.Goals as goal
 
-pub returns : goal.returns
-returns g c =
-    c.in_ok-body.ensures
-    ∙ listing_now (codes "dags") (λ row. row.now) dag_fields c.args.window c.cut-shown.result.now c.in_ok-listed.listed.items _ _
-    (rw (c.cut-shown.ensures, c.as_slice.ensures.value)) c.in_ok-listed.ensures (search rules)
+pub returns-then-reads_all : goal.returns-then-reads_all
+returns-then-reads_all g c =
+    let reads : List ℕ → Bool = g.R.Reader.reads c.args.reader.now in
+    subst (λ (rows : List DagRow). IfOk c.page_text.result (λ body. body.items ≡ compact_text (listing_of (codes "dags") (map dag_data (cut c.args.window rows)) (length rows))))
+    (sym (all_read reads (λ (row : DagRow). row.dag.dag_id) c.args.dags.now (c.reads_all.ensures c.if-reads_all.true))) c.page_text.ensures
