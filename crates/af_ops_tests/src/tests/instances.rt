@@ -1,7 +1,8 @@
 //! Tasks of DAGs and instances of runs as they are told, and what is told where one is not there.
 use super::asserts::row_holds;
+use super::pages::{count_of, shown_by};
 use super::told::{Sent, Told};
-use super::{Row, count_of, dag_of, play, shown_by, text};
+use super::{Row, dag_of, play, text};
 use af_graph::{Rule, TaskIds, TaskSpec};
 use af_names::{PoolName, TaskId};
 use af_ops::{Endpoint, Standing};

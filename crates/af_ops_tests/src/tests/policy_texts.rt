@@ -53,10 +53,10 @@ pub const ONLY_B: &[u8] =
     br#"{"actions":[{"action":{"name":"can_read"},"resource":{"name":"DAG:b"}}],"name":"OnlyB"}"#;
 
 pub const TWO_ROLES: &[u8] =
-    br#"{"roles":[{"actions":[],"name":"Public"},{"actions":[{"action":{"name":"can_read"},"resource":{"name":"DAG Runs"}},{"action":{"name":"can_read"},"resource":{"name":"DAG:b"}}],"name":"RunsB"}],"total_entries":7}"#;
+    br#"{"roles":[{"actions":[],"name":"Public"},{"actions":[{"action":{"name":"can_read"},"resource":{"name":"DAG Runs"}},{"action":{"name":"can_read"},"resource":{"name":"DAG:b"}}],"name":"RunsB"}],"total_entries":8}"#;
 
 pub const FIRST_USER: &[u8] =
-    br#"{"total_entries":6,"users":[{"roles":[{"name":"Admin"}],"username":"adam"}]}"#;
+    br#"{"total_entries":7,"users":[{"roles":[{"name":"Admin"}],"username":"adam"}]}"#;
 
 pub const USER_RON: &[u8] = br#"{"roles":[{"name":"RunsB"}],"username":"ron"}"#;
 
@@ -151,7 +151,7 @@ pub const ME_BOB_EDITS: &[u8] =
 pub const NO_USER_CY: &[u8] =
     br#"{"detail":"no such user: cy","status":404,"title":"Not Found","type":"about:blank"}"#;
 
-pub const NO_USERS: &[u8] = br#"{"total_entries":6,"users":[]}"#;
+pub const NO_USERS: &[u8] = br#"{"total_entries":7,"users":[]}"#;
 
 pub const BAD_LIMIT: &[u8] =
     br#"{"detail":"bad parameter: limit","status":400,"title":"Bad Request","type":"about:blank"}"#;

@@ -104,3 +104,16 @@ pub const ONE_QUEUED: &[u8] =
 
 pub const ONE_RUNNING: &[u8] =
     br#"{"name":"default_pool","occupied_slots":1,"open_slots":127,"queued_slots":0,"running_slots":1,"slots":128}"#;
+
+pub const POOL_P00001: &[u8] = br#"{"name":"p00001","slots":2}"#;
+
+pub const VARIABLE_K00001: &[u8] = br#"{"key":"k00001","value":"v"}"#;
+
+pub const P00001_EXISTS: &[u8] =
+    br#"{"detail":"exists: p00001","status":409,"title":"Conflict","type":"about:blank"}"#;
+
+pub const K00001_EXISTS: &[u8] =
+    br#"{"detail":"exists: k00001","status":409,"title":"Conflict","type":"about:blank"}"#;
+
+pub const TOO_MANY: &[u8] =
+    br#"{"detail":"too many","status":409,"title":"Conflict","type":"about:blank"}"#;

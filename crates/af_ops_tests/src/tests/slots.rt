@@ -2,7 +2,8 @@
 use super::instances::{add_pool, state_of, two_tasks};
 use super::row_texts::{NOTHING, ONE_QUEUED, ONE_RUNNING, POOL_P};
 use super::rows::{Ask, goes};
-use super::{named, now, policy};
+use super::users::policy;
+use super::{named, now};
 use af_ops::{CallFault, Endpoint, Op, OpFault, Standing, Status, Under, commit, decide};
 use af_sched::State;
 use std::alloc::Global;

@@ -62,6 +62,9 @@ const NO_RUN: &[u8] =
 const NO_RUN_READING: &[u8] =
     br#"{"detail":"missing permission DAG Runs.can_read","status":403,"title":"Forbidden","type":"about:blank"}"#;
 
+const NO_RUN_CREATING: &[u8] =
+    br#"{"detail":"missing permission DAG Runs.can_create","status":403,"title":"Forbidden","type":"about:blank"}"#;
+
 const BAD_DATE: &[u8] =
     br#"{"detail":"bad member: execution_date","status":400,"title":"Bad Request","type":"about:blank"}"#;
 
@@ -155,6 +158,7 @@ pub enum Told {
     DateTaken,
     NoRun,
     NoRunReading,
+    NoRunCreating,
     BadDate,
     TriggeredF,
     Instances,
@@ -208,6 +212,7 @@ pub fn told_as(it: Told) -> (Status, &'static [u8]) {
         Told::DateTaken => (Status::Conflict, DATE_TAKEN),
         Told::NoRun => (Status::NotFound, NO_RUN),
         Told::NoRunReading => (Status::Forbidden, NO_RUN_READING),
+        Told::NoRunCreating => (Status::Forbidden, NO_RUN_CREATING),
         Told::BadDate => (Status::BadRequest, BAD_DATE),
         Told::TriggeredF => (Status::Ok, TRIGGERED_F),
         Told::Instances => (Status::Ok, INSTANCES),
