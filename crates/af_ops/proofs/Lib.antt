@@ -14,10 +14,12 @@ mod PageLemmas
 mod PlainLemmas
 mod PolicyLawLemmas
 mod PoolLemmas
+mod ReadingLemmas
 mod RowLawLemmas
 mod RunLemmas
 mod SeenTakingLemmas
 mod ShownLemmas
+mod StepLemmas
 mod TableLemmas
 mod TaskLemmas
 mod TellingLemmas

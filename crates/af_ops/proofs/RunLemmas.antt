@@ -16,7 +16,9 @@ use Rattle.af_ops.specs.Effects.{id_or, new_run}
 use Rattle.af_ops.specs.Laws.{RunNumbersRise, RunsListedAreThoseRead, TriggersAddARun}
 use Rattle.af_ops.proofs.PoolLemmas.{pools_touch}
 use Rattle.af_ops.proofs.VariableLemmas.{variables_touch}
-use Rattle.af_ops.proofs.LawLemmas.{clears_instances, clears_run, deletes, marks, pauses, readings_keep, some_same, triggers, unchanged}
+use Rattle.af_ops.proofs.LawLemmas.{unchanged}
+use Rattle.af_ops.proofs.ReadingLemmas.{readings_keep}
+use Rattle.af_ops.proofs.StepLemmas.{clears_instances, clears_run, deletes, marks, pauses, some_same, triggers}
 
 later : {X : Type 0} (b : Bool) (y : X) (ys : List X) (x : X) → Contains ys x → Contains (cond b (y ∷ ys) ys) x
 later true y ys x at = (suc at.0, omega (arith, at.1), at.2)

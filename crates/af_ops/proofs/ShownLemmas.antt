@@ -11,7 +11,7 @@ use Rattle.af_runs.specs.Runs.{is_of, is_run, runs_of, same_ids}
 use Rattle.af_runs.specs.declared.run.Run.{Run}
 use Rattle.af_ops.specs.Laws.{RunsAreShownByTheirIds, RunsListedGoByNumber}
 use Rattle.af_ops.specs.Listings.{read_rows}
-use Rattle.af_ops.proofs.LawLemmas.{some_same}
+use Rattle.af_ops.proofs.StepLemmas.{some_same}
 use Rattle.af_ops.proofs.ListingLemmas.{order_cut}
 
 number_of : Run → ℕ

@@ -1,4 +1,4 @@
-use Rattle.af_ops.proofs.LawLemmas.{dry_runs_keep}
+use Rattle.af_ops.proofs.StepLemmas.{dry_runs_keep}
 use Rattle.af_ops.proofs.laws.dry_runs_leave_the_state.Goals as goal
 
 pub returns : goal.returns

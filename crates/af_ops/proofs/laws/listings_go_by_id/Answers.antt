@@ -1,4 +1,4 @@
-use Rattle.af_ops.proofs.LawLemmas.{listings_in_order}
+use Rattle.af_ops.proofs.ReadingLemmas.{listings_in_order}
 use Rattle.af_ops.proofs.laws.listings_go_by_id.Goals as goal
 
 pub returns : goal.returns

@@ -1,4 +1,4 @@
-use Rattle.af_ops.proofs.LawLemmas.{readings_keep}
+use Rattle.af_ops.proofs.ReadingLemmas.{readings_keep}
 use Rattle.af_ops.proofs.laws.readings_leave_the_state.Goals as goal
 
 pub returns : goal.returns
