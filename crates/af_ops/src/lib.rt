@@ -74,6 +74,7 @@ mod trigger;
 mod variable_op;
 mod variable_text;
 pub mod worked;
+pub mod worked_clears;
 pub mod worked_pages;
 pub mod worked_policies;
 pub mod worked_rows;

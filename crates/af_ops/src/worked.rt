@@ -2,31 +2,31 @@
 ghost use Rattle.std.specs.Prelude.{◌≡◌, [], ◌∷◌, codes, map, Err, Ok, None, Some, true, false};
 ghost use Rattle.af_ops.specs.declared.answer.CallFault.TheVariants as why;
 ghost use Rattle.af_ops.specs.declared.answer.OpFault.TheVariants as fault;
-ghost use Rattle.af_ops.specs.declared.body_fault.BodyFault.TheVariants.{BadBody, BadMember, OutOfMemory};
-ghost use Rattle.af_ops.specs.declared.body_fault.Member.TheVariants.{Conf, DagRunId, DryRun, EndDate, ExecutionDate, IsPaused, LogicalDate, OnlyFailed, StartDate, State, TaskIds};
+ghost use Rattle.af_ops.specs.declared.body_fault.BodyFault.TheVariants.{BadBody, BadMember};
+ghost use Rattle.af_ops.specs.declared.body_fault.Member.TheVariants.{Conf, DagRunId, ExecutionDate, IsPaused, LogicalDate, State};
 ghost use Rattle.af_ops.specs.declared.endpoint.Endpoint.TheVariants as endpoint;
-ghost use Rattle.af_ops.specs.declared.method.Method.TheVariants.{Delete, Get, Post, Patch};
+ghost use Rattle.af_ops.specs.declared.method.Method.TheVariants.{Get, Post};
 ghost use Rattle.af_ops.specs.declared.op.Op.TheVariants as op;
 ghost use Rattle.af_ops.specs.declared.place.Place.TheVariants as place;
 ghost use Rattle.af_ops.specs.declared.status.Status.TheVariants as status;
-ghost use Rattle.af_role.specs.declared.action.Action.TheVariants.{Create, Read, Edit};
+ghost use Rattle.af_role.specs.declared.action.Action.TheVariants.{Read, Edit};
 ghost use Rattle.af_role.specs.declared.resource.ResourceKind.TheVariants.{DagRuns, TaskInstances};
 ghost use Rattle.af_runs.specs.declared.mark.Mark.TheVariants as mark;
 ghost use Rattle.serde_json.specs.Written.{compact_text};
 ghost use Rattle.af_listing.specs.Windows.{window_of};
-ghost use Rattle.af_ops.specs.Bodies.{clear_in, clear_run_in, mark_in, pause_in, trigger_in};
+ghost use Rattle.af_ops.specs.Bodies.{mark_in, pause_in, trigger_in};
 ghost use Rattle.af_ops.specs.declared.call.Call.TheVariants as call;
 ghost use Rattle.af_ops.specs.Calls.{call_of_row};
 ghost use Rattle.af_ops.specs.Endpoints.{are_names};
-ghost use Rattle.af_ops.specs.Fields.{list_of, listing_of};
+ghost use Rattle.af_ops.specs.Fields.{listing_of};
 ghost use Rattle.af_ops.specs.Methods.{method_of};
-ghost use Rattle.af_ops.specs.Replies.{cleared_data, dag_data, fault_data, instance_data, run_data, task_data, version_data};
+ghost use Rattle.af_ops.specs.Replies.{dag_data, fault_data, instance_data, run_data, task_data, version_data};
 ghost use Rattle.af_ops.specs.Served.{answer_of, fault_told, left_by};
 ghost use Rattle.af_ops.specs.Statuses.{code_of, is_fault_status};
 ghost use Rattle.af_ops.specs.Table.{at_dag, at_some_dag, endpoint_at, methods_at, on_all, segments_of, spelled};
 ghost use Rattle.af_ops.specs.Standings.{history_limit};
-ghost use Rattle.af_ops.specs.Verdicts.{Changes, Open, Stranger, Lacks, Refuses, judged, verdict};
-ghost use Rattle.af_ops.specs.Worked.{asks, at_entries, at_work, changes, clear, cleared_half, cleared_later, dag, ended, ended_later, first_cleared, first_page, first_told, full_at_work, full_later, is_told, is_told_then, later, no_numbers, opening, policy, second, second_cleared, second_told, state_with, tells, trigger, waited_told, waiting_told, with_cleared, with_ended, without_second};
+ghost use Rattle.af_ops.specs.Verdicts.{Open, Stranger, Lacks, Refuses, judged, verdict};
+ghost use Rattle.af_ops.specs.Worked.{asks, at_entries, at_work, changes, dag, ended, ended_later, first_page, first_told, full_later, is_told, is_told_then, later, no_numbers, opening, policy, second, second_told, state_with, tells, trigger, waited_told, waiting_told, with_ended};
 
 /// Who asks for DAGs: a viewer is told all three, who may read one DAG that one, who has no permission the requirement that is
 /// lacked. Who may not read a DAG is told the same whether it is there or not; who may is told that it is not.
@@ -246,75 +246,4 @@ pub fn mark_messages_by_the_rule()
     ensures no_state { mark_in (codes "{\"state\":null}") ≡ Err (BadMember State) }
     ensures truth { mark_in (codes "{\"state\":true}") ≡ Err (BadMember State) }
     ensures list { mark_in (codes "[\"failed\"]") ≡ Err BadBody }
-{}
-
-/// Who clears instances: one who may edit the DAG and instances. A dry run only tells them, and where all stand so already nothing
-/// changes. A denial comes before a bad body, that before an absent DAG, run and task, in this order, and all before a history that
-/// is full.
-pub fn clears_by_the_rule()
-    ensures told { asks at_work (codes "uma") (op.ClearInstances (codes "f") (Ok (clear true false None None))) ≡ tells (compact_text (list_of (codes "task_instances") (cleared_data first_cleared ∷ cleared_data second_cleared ∷ []))) }
-    ensures done { asks at_work (codes "uma") (op.ClearInstances (codes "f") (Ok (clear false false None None))) ≡ changes (compact_text (list_of (codes "task_instances") (cleared_data first_cleared ∷ cleared_data second_cleared ∷ []))) with_cleared }
-    ensures again { asks cleared_later (codes "uma") (op.ClearRun (codes "f") (codes "r") (Ok false)) ≡ tells (compact_text (list_of (codes "task_instances") (cleared_data (record { run = cleared_half; task_id = codes "u" }) ∷ cleared_data (record { run = cleared_half; task_id = codes "t" }) ∷ []))) }
-    ensures run { asks at_work (codes "uma") (op.ClearRun (codes "f") (codes "r") (Ok false)) ≡ changes (compact_text (list_of (codes "task_instances") (cleared_data first_cleared ∷ cleared_data second_cleared ∷ []))) with_cleared }
-    ensures none_failed { asks at_work (codes "uma") (op.ClearInstances (codes "f") (Ok (clear false true None None))) ≡ tells (compact_text (list_of (codes "task_instances") [])) }
-    ensures one { asks at_work (codes "uma") (op.ClearInstances (codes "f") (Ok (clear false false (Some (codes "t" ∷ codes "t" ∷ [])) (Some (codes "r"))))) ≡ tells (compact_text (list_of (codes "task_instances") (cleared_data second_cleared ∷ []))) }
-    ensures no_tasks { asks at_work (codes "uma") (op.ClearInstances (codes "f") (Ok (clear false false (Some []) None))) ≡ tells (compact_text (list_of (codes "task_instances") [])) }
-    ensures denied { asks later (codes "vera") (op.ClearInstances (codes "nosuch") (Err BadBody)) ≡ Lacks (at_dag Edit) }
-    ensures bad_body { asks later (codes "uma") (op.ClearInstances (codes "nosuch") (Err BadBody)) ≡ Refuses fault.BadBody }
-    ensures bad_member { asks later (codes "uma") (op.ClearRun (codes "nosuch") (codes "r") (Err (BadMember DryRun))) ≡ Refuses (fault.BadMember DryRun) }
-    ensures no_dag { asks at_work (codes "uma") (op.ClearInstances (codes "b") (Ok (clear true true (Some (codes "x" ∷ [])) (Some (codes "r2"))))) ≡ Refuses fault.NoSuchDag }
-    ensures no_run { asks at_work (codes "uma") (op.ClearInstances (codes "f") (Ok (clear true true (Some (codes "x" ∷ [])) (Some (codes "r2"))))) ≡ Refuses fault.NoSuchRun }
-    ensures no_task { asks at_work (codes "uma") (op.ClearInstances (codes "f") (Ok (clear true true (Some (codes "t" ∷ codes "x" ∷ codes "y" ∷ [])) (Some (codes "r"))))) ≡ Refuses (fault.NoSuchTaskAt 1) }
-    ensures no_run_cleared { asks at_work (codes "uma") (op.ClearRun (codes "f") (codes "r2") (Ok true)) ≡ Refuses fault.NoSuchRun }
-    ensures full { asks full_at_work (codes "uma") (op.ClearRun (codes "f") (codes "r") (Ok false)) ≡ Refuses fault.HistoryFull }
-    ensures full_told { asks full_at_work (codes "uma") (op.ClearInstances (codes "f") (Ok (clear false true None None))) ≡ tells (compact_text (list_of (codes "task_instances") [])) }
-{}
-
-/// What is told of clears.
-pub fn clear_messages_by_the_rule()
-    ensures told { is_told at_work (codes "uma") (op.ClearInstances (codes "f") (Ok (clear true false None None))) ≡ Some (record { status = status.Ok; version = Some 0; seq = Some 3; body = Some (codes "{\"task_instances\":[{\"dag_id\":\"f\",\"dag_run_id\":\"r\",\"logical_date\":\"1970-01-01T00:00:00.000003+00:00\",\"task_id\":\"u\"},{\"dag_id\":\"f\",\"dag_run_id\":\"r\",\"logical_date\":\"1970-01-01T00:00:00.000003+00:00\",\"task_id\":\"t\"}]}") }) }
-    ensures none { is_told at_work (codes "uma") (op.ClearInstances (codes "f") (Ok (clear false true None None))) ≡ Some (record { status = status.Ok; version = Some 0; seq = Some 3; body = Some (codes "{\"task_instances\":[]}") }) }
-    ensures denied { is_told later (codes "ron") (op.ClearRun (codes "b") (codes "r2") (Ok true)) ≡ Some (record { status = status.Forbidden; version = Some 0; seq = Some 2; body = Some (codes "{\"detail\":\"missing permission DAG:b.can_edit\",\"status\":403,\"title\":\"Forbidden\",\"type\":\"about:blank\"}") }) }
-    ensures no_run { is_told at_work (codes "uma") (op.ClearInstances (codes "f") (Ok (clear true true None (Some (codes "r2"))))) ≡ Some (record { status = status.NotFound; version = Some 0; seq = Some 3; body = Some (codes "{\"detail\":\"no such run: r2\",\"status\":404,\"title\":\"Not Found\",\"type\":\"about:blank\"}") }) }
-    ensures no_task { is_told at_work (codes "uma") (op.ClearInstances (codes "f") (Ok (clear true true (Some (codes "t" ∷ codes "x" ∷ codes "y" ∷ [])) None))) ≡ Some (record { status = status.NotFound; version = Some 0; seq = Some 3; body = Some (codes "{\"detail\":\"no such task: x\",\"status\":404,\"title\":\"Not Found\",\"type\":\"about:blank\"}") }) }
-{}
-
-/// Bodies of clears, and their paths: absent, a clear is a dry run of the failed instances; each id of a task is one.
-pub fn clear_bodies_by_the_rule()
-    ensures empty { clear_in (codes "{}") ≡ Ok (clear true true None None) }
-    ensures each { clear_in (codes "{\"dag_run_id\":\"r\",\"dry_run\":false,\"only_failed\":false,\"task_ids\":[\"t\",\"u\",\"t\"],\"start_date\":null}") ≡ Ok (clear false false (Some (codes "t" ∷ codes "u" ∷ codes "t" ∷ [])) (Some (codes "r"))) }
-    ensures no_ids { clear_in (codes "{\"task_ids\":[]}") ≡ Ok (clear true true (Some []) None) }
-    ensures first { clear_in (codes "{\"dag_run_id\":1,\"only_failed\":1,\"task_ids\":1}") ≡ Err (BadMember OnlyFailed) }
-    ensures no_list { clear_in (codes "{\"dag_run_id\":1,\"task_ids\":\"t\"}") ≡ Err (BadMember TaskIds) }
-    ensures no_id { clear_in (codes "{\"dag_run_id\":1,\"task_ids\":[\"t\",\"t~\"]}") ≡ Err (BadMember TaskIds) }
-    ensures null_id { clear_in (codes "{\"task_ids\":[null]}") ≡ Err (BadMember TaskIds) }
-    ensures run { clear_in (codes "{\"dag_run_id\":\"~\",\"start_date\":1}") ≡ Err (BadMember DagRunId) }
-    ensures from { clear_in (codes "{\"start_date\":1,\"end_date\":1}") ≡ Err (BadMember StartDate) }
-    ensures until { clear_in (codes "{\"end_date\":1}") ≡ Err (BadMember EndDate) }
-    ensures run_alone { clear_run_in (codes "{\"only_failed\":1}") ≡ Ok true }
-    ensures run_done { clear_run_in (codes "{\"dry_run\":false}") ≡ Ok false }
-    ensures run_text { clear_run_in (codes "{\"dry_run\":\"false\"}") ≡ Err (BadMember DryRun) }
-    ensures list { clear_run_in (codes "[]") ≡ Err BadBody }
-    ensures row { call_of_row endpoint.ClearRun (codes "b" ∷ codes "r~1" ∷ []) [] (codes "{") ≡ Some (call.State (op.ClearRun (codes "b") (codes "r~1") (Err BadBody))) }
-    ensures dag_row { call_of_row endpoint.ClearInstances (codes "b" ∷ []) [] (codes "{") ≡ Some (call.State (op.ClearInstances (codes "b") (Err BadBody))) }
-    ensures no_dag { call_of_row endpoint.ClearInstances (codes "~" ∷ []) [] [] ≡ None }
-    ensures path { spelled (segments_of place.RunClear) ≡ codes "/api/v1/dags/{dag_id}/dagRuns/{dag_run_id}/clear" }
-    ensures dag_path { spelled (segments_of place.Clear) ≡ codes "/api/v1/dags/{dag_id}/clearTaskInstances" }
-    ensures methods { methods_at place.Clear ≡ record { get = false; post = true; patch = false; delete = false } }
-    ensures names { are_names (Some Post) place.RunClear (codes "b" ∷ codes "~" ∷ []) ≡ false }
-{}
-
-/// Who deletes a run: one who may edit its DAG and delete runs. Nothing is told of it; a denial comes before an absence, and both
-/// before a history that is full. Once it is deleted, it is absent.
-pub fn deletes_by_the_rule()
-    ensures deleted { asks later (codes "uma") (op.DeleteRun (codes "b") (codes "r2")) ≡ Changes None without_second }
-    ensures told { is_told later (codes "uma") (op.DeleteRun (codes "b") (codes "r2")) ≡ Some (record { status = status.NoContent; version = Some 0; seq = Some 3; body = None }) }
-    ensures again { asks (record { under = later.under; state = without_second }) (codes "uma") (op.DeleteRun (codes "b") (codes "r2")) ≡ Refuses fault.NoSuchRun }
-    ensures of_another { asks later (codes "uma") (op.DeleteRun (codes "a") (codes "r2")) ≡ Refuses fault.NoSuchRun }
-    ensures no_dag { asks later (codes "uma") (op.DeleteRun (codes "nosuch") (codes "r2")) ≡ Refuses fault.NoSuchDag }
-    ensures denied { asks later (codes "vera") (op.DeleteRun (codes "nosuch") (codes "r2")) ≡ Lacks (at_dag Edit) }
-    ensures full { asks full_later (codes "uma") (op.DeleteRun (codes "b") (codes "r2")) ≡ Refuses fault.HistoryFull }
-    ensures row { call_of_row endpoint.DeleteRun (codes "b" ∷ codes "r~1" ∷ []) [] (codes "{") ≡ Some (call.State (op.DeleteRun (codes "b") (codes "r~1"))) }
-    ensures no_name { call_of_row endpoint.DeleteRun (codes "b" ∷ codes "~" ∷ []) [] [] ≡ None }
-    ensures found { endpoint_at Delete place.Run ≡ Some endpoint.DeleteRun }
 {}

@@ -2,7 +2,7 @@ use Rattle.std.proofs.Common.{refl}
 use Rattle.std.specs.Fmt.{digits}
 use Rattle.json.specs.Print.{escape_byte}
 use Rattle.af_names.specs.CivilDays.{civil_day}
-use Rattle.af_ops.proofs.worked.clear_messages_by_the_rule.Goals as goal
+use Rattle.af_ops.proofs.worked_clears.clear_messages_by_the_rule.Goals as goal
 
 pub returns-clause-told : goal.returns-clause-told
 unfolding digits escape_byte civil_day

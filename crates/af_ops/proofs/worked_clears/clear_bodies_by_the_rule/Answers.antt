@@ -1,7 +1,7 @@
 use Rattle.std.proofs.Common.{refl}
 use Rattle.std.specs.Str.{is_utf8, chars}
 use Rattle.serde_json.proofs.OnLiterals.{serde_json_on_literals}
-use Rattle.af_ops.proofs.worked.clear_bodies_by_the_rule.Goals as goal
+use Rattle.af_ops.proofs.worked_clears.clear_bodies_by_the_rule.Goals as goal
 
 pub returns-clause-empty : goal.returns-clause-empty
 unfolding serde_json_on_literals is_utf8 chars
