@@ -54,7 +54,7 @@ pub fn listing_text<R: Row>(
     requires { IsTrue (is_name name.now) }
     ensures { IfOk result (λ text. text.items ≡ compact_text (listing_of name.now (map (λ row. object_of (R.fields row.now)) rows.now) total)) }
 {
-    let mut out = Text::with_room(alloc, ROW_ROOM * (1 + rows.len().min(100)))?;
+    let mut out = Text::with_memory(alloc, ROW_ROOM * (1 + rows.len().min(100)))?;
     out.push(b"{");
     out.rows(alloc, false, name, rows)?;
     out.number(true, "total_entries", total as u64)?;
@@ -72,7 +72,7 @@ pub fn late_listing_text<R: Row>(
     requires { IsTrue (is_name name.now) }
     ensures { IfOk result (λ text. text.items ≡ compact_text (late_listing_of name.now (map (λ row. object_of (R.fields row.now)) rows.now) total)) }
 {
-    let mut out = Text::with_room(alloc, ROW_ROOM * (1 + rows.len().min(100)))?;
+    let mut out = Text::with_memory(alloc, ROW_ROOM * (1 + rows.len().min(100)))?;
     out.push(b"{");
     out.number(false, "total_entries", total as u64)?;
     out.rows(alloc, true, name, rows)?;
@@ -85,7 +85,7 @@ pub fn list_text<R: Row>(alloc: Global, name: &str, rows: &[&R]) -> Result<Vec<u
     requires { IsTrue (is_name name.now) }
     ensures { IfOk result (λ text. text.items ≡ compact_text (list_of name.now (map (λ row. object_of (R.fields row.now)) rows.now))) }
 {
-    let mut out = Text::with_room(alloc, ROW_ROOM * (1 + rows.len().min(100)))?;
+    let mut out = Text::with_memory(alloc, ROW_ROOM * (1 + rows.len().min(100)))?;
     out.push(b"{");
     out.rows(alloc, false, name, rows)?;
     out.push(b"}");

@@ -43,6 +43,17 @@ impl Text {
         })
     }
 
+    /// An empty text that has memory for so many bytes, of which the first are ready: to make all ready at once takes longer than
+    /// to go on as the text grows. `AllocError` only where a growth was refused.
+    pub(crate) fn with_memory(alloc: Global, room: usize) -> Result<Text, AllocError>
+        ensures items { IfOk result (λ text. text.items ≡ []) }
+        ensures ready { IfOk result (λ text. 128 ≤ text.ready) }
+    {
+        let mut bytes = Vec::with_capacity(alloc, room.max(LEAST_AHEAD))?;
+        fill_to(&mut bytes, LEAST_AHEAD);
+        Ok(Text { bytes, len: 0 })
+    }
+
     /// Its bytes.
     pub fn into_bytes(self) -> Vec<u8>
         ensures { result.items ≡ self.items }
