@@ -49,13 +49,14 @@ pub fn shown_fault(
 fn shown_op_fault(alloc: Global, op: &Op, fault: OpFault, under: Under) -> Result<Shown, AllocError>
     ensures { IfOk result (λ shown. fault_told op.now under (CallFault.Op fault) ≡ Some shown) }
 {
+    let status = op_status(&fault);
     let detail = op_detail(alloc, op, fault)?;
-    shown_problem(alloc, under, op_status(fault), detail.as_str())
+    shown_problem(alloc, under, status, detail.as_str())
 }
 
 /// The status that a fault of an operation is told with; that of want of memory is the fixed text's, which is told without a detail.
-fn op_status(fault: OpFault) -> Status
-    ensures { result ≡ op_status fault }
+fn op_status(fault: &OpFault) -> Status
+    ensures { result ≡ op_status fault.now }
 {
     match fault {
         OpFault::BadParameter(_) | OpFault::BadBody | OpFault::BadMember(_) => Status::BadRequest,
