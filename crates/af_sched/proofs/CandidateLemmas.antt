@@ -77,7 +77,7 @@ distinct_in dags (run ∷ runs) rise =
     (apart_in dags run.number runs (λ k d inside same. let up = rise 0 (suc k) d (omega arith) (omega arith) in absurd (omega arith)))
     (distinct_in dags runs (λ i j d less inside. rise (suc i) (suc j) d (omega arith) (omega arith)))
 
-below_from : (a b : ℕ) → nat_cmp a b ≡ Less → a < b
+pub below_from : (a b : ℕ) → nat_cmp a b ≡ Less → a < b
 below_from a b less = grind (arith, nat_tests)
 
 pub rise_from : (runs : List Run) → IsStrictlySortedBy nat_cmp (map (λ (run : Run). run.number) runs) → Rise runs

@@ -1,6 +1,6 @@
 -- No instance of a later run comes before one of a task that is as heavy as any.
-use Rattle.std.proofs.Common.{◌≡◌, ◌+◌, ◌∙◌, ℕ, ℤ, List, [], ◌∷◌, ◌++◌, map, get_or, refl, sym, ap, subst, arith, zero, suc, false, true, ⊎_elim}
-use Rattle.std.specs.Prelude.{Contains, insert, Option, Some, None, zip}
+use Rattle.std.proofs.Common.{◌≡◌, ◌+◌, ◌∙◌, ℕ, ℤ, List, [], ◌∷◌, ◌++◌, map, get_or, refl, sym, ap, subst, arith, zero, suc, Bool, false, true, cond, inl, inr, ⊎_elim}
+use Rattle.std.specs.Prelude.{Contains, IfSome, insert, Option, Some, None, zip}
 use Rattle.std.specs.Int.Signed.{◌≤ℤ◌, ◌<ℤ◌, <ℤ-≤ℤ_trans, clash_ℤ}
 use Rattle.std.specs.List.{AllByRecursion, enumerate_from}
 use Rattle.std.specs.List.Sorted.{IsStrictlySortedBy}
@@ -9,6 +9,7 @@ use Rattle.std.specs.Cmp.{nat_cmp_total}
 use Rattle.std.specs.declared.cmp.Ordering.{Ordering}
 use Rattle.std.specs.declared.cmp.Ordering.TheVariants.{Less, Equal, Greater}
 use Rattle.std.proofs.lemmas.Bool.{cases_Bool}
+use Rattle.std.proofs.lemmas.Bool.Decides.{nat_tests}
 use Rattle.std.proofs.lemmas.Cmp.{int_ranked}
 use Rattle.std.proofs.lemmas.Int.{by_lt_z}
 use Rattle.std.proofs.lemmas.Grind.{flat_map-append}
@@ -22,8 +23,10 @@ use Rattle.af_runs.specs.declared.run.Run.{Run}
 use Rattle.af_sched.specs.Claims.{is_claimable}
 use Rattle.af_sched.specs.Placed.{Placed, IsFirst, IsFirstOf, comes_before, placed_in, placed_of}
 use Rattle.af_sched.specs.State.{is_of_id, tasks_of}
-use Rattle.af_sched.specs.Weights.{IsAsHeavy, NoTaskIsHeavier, NoneIsHeavier}
+use Rattle.af_sched.specs.Steps.{earlier, first_with}
+use Rattle.af_sched.specs.Weights.{IsAsHeavy, NoTaskIsHeavier, NoneIsHeavier, StandsBefore}
 use Rattle.af_sched.specs.declared.dag_row.DagRow.{DagRow}
+use Rattle.af_sched.proofs.CandidateLemmas.{below_from}
 use Rattle.af_sched.proofs.HolderPlacedLemmas.{first_of_holders}
 use Rattle.af_sched.proofs.LikeLemmas.{SameDags}
 use Rattle.af_sched.proofs.PlacedLemmas.{run_of_placed}
@@ -112,11 +115,67 @@ behind Less b c above is = absurd (above refl)
 behind Equal b c above is = rw is refl
 behind Greater b c above is = refl
 
+behind_two : (a b c : Ordering) → (a ≡ Less → ⊥) → b ≡ Equal → c ≡ Greater → is_lt (ordering_then a (ordering_then b c)) ≡ false
+behind_two Less b c above same is = absurd (above refl)
+behind_two Equal b c above same is = rw (same, is) refl
+behind_two Greater b c above same is = refl
+
 stays_behind : (first other : Placed) → other.task.priority_weight ≤ℤ first.task.priority_weight → nat_cmp first.run.number other.run.number ≡ Less → comes_before other first ≡ false
 stays_behind first other low less =
     behind (int_cmp first.task.priority_weight other.task.priority_weight) (nat_cmp other.run.number first.run.number) (nat_cmp other.place first.place)
     (not_less first.task.priority_weight other.task.priority_weight low)
     (nat_cmp_total.antisymm other.run.number first.run.number ∙ ap ordering_reverse less)
+
+-- ---- the first so far, which stands before what is to come
+no_lighter_before : (first other : Placed) → other.task.priority_weight ≤ℤ first.task.priority_weight → StandsBefore other.run.number other.place first → comes_before other first ≡ false
+no_lighter_before first other low (inl earlier) =
+    behind (int_cmp first.task.priority_weight other.task.priority_weight) (nat_cmp other.run.number first.run.number) (nat_cmp other.place first.place)
+    (not_less first.task.priority_weight other.task.priority_weight low)
+    (grind (arith, nat_tests, earlier))
+no_lighter_before first other low (inr here) =
+    behind_two (int_cmp first.task.priority_weight other.task.priority_weight) (nat_cmp other.run.number first.run.number) (nat_cmp other.place first.place)
+    (not_less first.task.priority_weight other.task.priority_weight low)
+    (grind (arith, nat_tests, here.0))
+    (grind (arith, nat_tests, here.1))
+
+-- an instance of a task that is no heavier leaves it the first
+pub no_lighter_stays : (first : Option Placed) (next : Placed) → IsAsHeavy next.task.priority_weight first → IfSome first (StandsBefore next.run.number next.place) → first ≡ first_with is_claimable first next
+no_lighter_stays None next heavy before = absurd heavy
+no_lighter_stays (Some first) next heavy before =
+    ⊎_elim
+    (λ (may : is_claimable next ≡ true). rw (may, no_lighter_before first next heavy before) refl)
+    (λ (not : is_claimable next ≡ false). rw not refl)
+    (cases_Bool (is_claimable next))
+
+stands_on : (number place : ℕ) (placed : Placed) → StandsBefore number place placed → StandsBefore number (place + 1) placed
+stands_on number place placed (inl earlier) = inl earlier
+stands_on number place placed (inr here) = inr (here.0, omega (arith, here.1))
+
+-- it stands before what comes after the next one, once that has been seen too
+pub with_stands : (first : Option Placed) (next : Placed) → IfSome first (StandsBefore next.run.number next.place) → IfSome (first_with is_claimable first next) (StandsBefore next.run.number (next.place + 1))
+with_stands first next before = by (is_claimable next) first before
+  where
+    here : StandsBefore next.run.number (next.place + 1) next
+    here = inr (refl, omega arith)
+
+    either : (b : Bool) (first : Placed) → StandsBefore next.run.number next.place first → StandsBefore next.run.number (next.place + 1) (cond b next first)
+    either true first before = here
+    either false first before = stands_on next.run.number next.place first before
+
+    by : (b : Bool) (first : Option Placed) → IfSome first (StandsBefore next.run.number next.place) → IfSome (cond b (Some (earlier first next)) first) (StandsBefore next.run.number (next.place + 1))
+    by true None before = here
+    by true (Some first) before = either (comes_before next first) first before
+    by false None before = tt
+    by false (Some first) before = stands_on next.run.number next.place first before
+
+-- what comes first among the runs so far stands before those of the next run
+pub earlier_runs : (dags : List DagRow) (runs seen rest : List Run) (run : Run) (first : Option Placed) → IsStrictlySortedBy nat_cmp (numbers runs) → seen ++ run ∷ rest ≡ holders_of runs → IsFirstOf is_claimable (placed_in dags seen) first → IfSome first (StandsBefore run.number 0)
+earlier_runs dags runs seen rest run None order whole is = tt
+earlier_runs dags runs seen rest run (Some first) order whole is =
+    let holders : IsStrictlySortedBy nat_cmp (numbers (holders_of runs)) = order-filter (λ (run : Run). run.number) nat_cmp_total holds_any runs order in
+    let sorted : IsStrictlySortedBy nat_cmp (numbers (seen ++ run ∷ rest)) = subst (λ (all : List Run). IsStrictlySortedBy nat_cmp (numbers all)) (sym whole) holders in
+    let less : nat_cmp first.run.number run.number ≡ Less = rises seen (run ∷ rest) first.run run sorted (run_among dags seen first is.member) (0, omega arith, refl) in
+    inl (below_from first.run.number run.number less)
 
 -- what comes first among the runs so far, and is as heavy as any task, comes first among these and the later ones
 pub heavy_first : (weight : ℤ) (dags : List DagRow) (seen rest : List Run) (first : Placed) → NoneIsHeavier weight dags → IsStrictlySortedBy nat_cmp (numbers (seen ++ rest)) → weight ≤ℤ first.task.priority_weight → IsFirst is_claimable (placed_in dags seen) first → IsFirst is_claimable (placed_in dags (seen ++ rest)) first

@@ -11,6 +11,7 @@ mod FillLemmas
 mod FittingLemmas
 mod FrameLemmas
 mod HeavyLemmas
+mod HeldLawLemmas
 mod HolderPlacedLemmas
 mod IdleLemmas
 mod KeyLemmas

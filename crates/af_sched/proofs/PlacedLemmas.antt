@@ -122,6 +122,11 @@ get_or-placed_of tasks run place d e g first second =
     rows_get (λ at task instance. record { run = run; place = at; task = task; instance = instance }) 0 tasks run.instances place d e g first second
     ∙ ap (λ (at : ℕ). record { run = run; place = at; task = get_or tasks place e; instance = get_or run.instances place g }) (let zero_plus : 0 + place ≡ place = omega arith in zero_plus)
 
+-- a list that has a place has an element
+pub some_at : {X : Type 0} (xs : List X) (k : ℕ) → k < length xs → X
+some_at [] k inside = absurd (omega arith)
+some_at (x ∷ xs) k inside = x
+
 -- ---- lists of lists
 module _ {X Y : Type 0} (g : X → List Y) where
   flat_map-suc : (xs : List X) (k : ℕ) (d : X) → k < length xs → flat_map g (take (suc k) xs) ≡ flat_map g (take k xs) ++ g (get_or xs k d)

@@ -1,8 +1,12 @@
 -- Laws about ticks and claims, in words of their own.
-use Rattle.std.specs.Prelude.{ℕ, ◌≡◌, ◌≤◌, ◌↔◌, ◌&&◌, List, [], Bool, true, false, All, Option, Some, None, MatchOption, length, max, Contains}
+use Rattle.std.specs.Prelude.{ℕ, ◌≡◌, ◌≤◌, ◌↔◌, ◌+◌, ◌-◌, ◌^◌, ◌&&◌, List, [], Bool, true, false, All, Option, Some, None, MatchOption, filter, length, max, min, Contains, sum_by, zip}
 use Rattle.af_graph.specs.Definition.{fault_of}
+use Rattle.af_graph.specs.Graph.{same_name}
+use Rattle.af_graph.specs.States.{same_state}
 use Rattle.af_graph.specs.declared.task_spec.TaskSpec.{TaskSpec}
-use Rattle.af_pool.specs.Pools.{slots_of}
+use Rattle.af_graph.specs.declared.task_state.TaskState.{TaskState}
+use Rattle.af_graph.specs.declared.task_state.TaskState.TheVariants.{Queued, Running}
+use Rattle.af_pool.specs.Pools.{has_pool, slots_of}
 use Rattle.af_runs.specs.Busy.{busy_of, holders_of}
 use Rattle.af_runs.specs.Runs.{AreRuns, is_finished, without_run}
 use Rattle.af_runs.specs.declared.instance.Instance.{Instance}
@@ -96,3 +100,21 @@ ClaimTellsTheNext =
 abbrev pub HoldersHoldAllSlots : Type 0
 HoldersHoldAllSlots =
     (state : StateRows) (name : List ℕ) → (held_of (record state { runs = holders_of state.runs }) name ≡ held_of state name) × (held_of (record state { runs = busy_of state.runs }) name ≡ held_of state name)
+
+-- the slots that instances of a run of these tasks take of the pool of this name: those of each task that names the pool and whose
+-- instance is in this state
+abbrev pub slots_in_run : TaskState → List ℕ → List TaskSpec → Run → ℕ
+slots_in_run task_state name tasks run =
+    sum_by (λ row. row.0.pool_slots) (filter (λ row. same_name row.0.pool name && same_state row.1.state task_state) (zip tasks run.instances))
+
+-- such slots of all runs together
+abbrev pub slots_in_runs : TaskState → StateRows → List ℕ → ℕ
+slots_in_runs task_state state name = sum_by (λ run. slots_in_run task_state name (tasks_of state.dags run.dag_id) run) state.runs
+
+-- what is told queued in a pool are the slots of exactly its instances that are queued, of all runs, and what is told running those
+-- of exactly its running ones, as numbers below 2^64; both together are the slots that are occupied in it
+abbrev pub HeldSlotsAreThoseOfInstances : Type 0
+HeldSlotsAreThoseOfInstances =
+    (state : StateRows) (name : List ℕ) → has_pool state.pools name ≡ true
+    → (held_of state name ≡ record { queued = min (slots_in_runs Queued state name) (2 ^ 64 - 1); running = min (slots_in_runs Running state name) (2 ^ 64 - 1) })
+    × (slots_in_runs Queued state name + slots_in_runs Running state name ≡ occupied state.dags state.runs name)

@@ -1,4 +1,4 @@
-ghost use Rattle.af_sched.specs.Laws.{ClaimIsOne, ClaimTellsTheNext, EndedRunsStay, HoldersHoldAllSlots, NoPointIsTakenTwice, NothingChangesExactlyWhereNothingIsDue, QueuedStateIsOne, ReportsOfRemovedRunsFindNone, SettlingIsOne, SettledStateIsOne, SlotsAreKept, TickIsOne, TickKeepsRows};
+ghost use Rattle.af_sched.specs.Laws.{ClaimIsOne, ClaimTellsTheNext, EndedRunsStay, HeldSlotsAreThoseOfInstances, HoldersHoldAllSlots, NoPointIsTakenTwice, NothingChangesExactlyWhereNothingIsDue, QueuedStateIsOne, ReportsOfRemovedRunsFindNone, SettlingIsOne, SettledStateIsOne, SlotsAreKept, TickIsOne, TickKeepsRows};
 
 /// The trigger rules decide in one way what becomes of a run's instances, since no definition has a cycle.
 pub fn settling_is_one()
@@ -63,4 +63,10 @@ pub fn a_claim_tells_the_next()
 /// The runs of which an instance is queued or running hold all slots that are held, and so do the busy runs.
 pub fn the_holders_hold_all_slots()
     ensures { HoldersHoldAllSlots }
+{}
+
+/// The slots of a pool that are told queued, and those told running, are those of exactly the instances that are so, of all
+/// runs; both together are those occupied.
+pub fn held_slots_are_those_of_instances()
+    ensures { HeldSlotsAreThoseOfInstances }
 {}

@@ -1,9 +1,9 @@
-ghost use Rattle.std.specs.Prelude.{◌≡◌, IfOk, None, Ok, OnErr, MatchOption, option_copied, true};
+ghost use Rattle.std.specs.Prelude.{◌≡◌, ◌<◌, IfOk, IfSome, None, Ok, OnErr, MatchOption, length, option_copied, slice_index_or, true};
 ghost use Rattle.af_sched.specs.Claims.{is_claimable, Claims, ClaimsNone, IsNextClaim, claim_of};
-ghost use Rattle.af_sched.specs.Placed.{IsFirstOf, NonePasses, placed_of, placed_in};
+ghost use Rattle.af_sched.specs.Placed.{IsFirstOf, NonePasses, Placed, placed_of, placed_in};
 ghost use Rattle.af_sched.specs.State.{tasks_of};
 ghost use Rattle.af_sched.specs.Steps.{Continues, first_with, has_queued};
-ghost use Rattle.af_sched.specs.Weights.{IsAsHeavy};
+ghost use Rattle.af_sched.specs.Weights.{IsAsHeavy, StandsBefore};
 
 use crate::claim::Claim;
 use crate::dags::Dags;
@@ -75,12 +75,24 @@ fn is_as_heavy(first: Option<&PlacedInstance<'_>>, weight: i32) -> bool
     }
 }
 
-/// The first in the order, once the instances of this run have been seen too. The DAG is looked up where one is queued.
+/// Whether there is an instance, of a task at least as heavy as this one.
+fn is_no_lighter(first: Option<&PlacedInstance<'_>>, task: &TaskSpec) -> bool
+    ensures { result ≡ true → IsAsHeavy task.now.priority_weight (option_copied first.entry) }
+{
+    match first {
+        Some(first) => first.task.priority_weight >= task.priority_weight,
+        None => false,
+    }
+}
+
+/// The first in the order, once the instances of this run have been seen too, where that so far is of an earlier run. The DAG
+/// is looked up where one is queued.
 fn first_after<'a>(
     so_far: Option<PlacedInstance<'a>>,
     dags: &Dags<'a>,
     run: &'a Run,
 ) -> Option<PlacedInstance<'a>>
+    requires { IfSome so_far (StandsBefore run.now.number 0) }
     ensures { Continues is_claimable (placed_of (tasks_of dags.now run.now.dag_id) run.now) so_far.entry result }
 {
     if !has_queued(run) {
@@ -99,26 +111,48 @@ fn has_queued(run: &Run) -> bool
         .any(|instance| instance.state == TaskState::Queued)
 }
 
-/// The first in the order, once the instances of this run of these tasks have been seen too.
+/// The first in the order, once the instances of this run of these tasks have been seen too, where that so far is of an
+/// earlier run.
 fn first_after_run<'a>(
     so_far: Option<PlacedInstance<'a>>,
     tasks: &'a [TaskSpec],
     run: &'a Run,
 ) -> Option<PlacedInstance<'a>>
+    requires { IfSome so_far (StandsBefore run.now.number 0) }
     ensures { Continues is_claimable (placed_of tasks.now run.now) so_far.entry result }
 {
     let instances = run.instances.as_slice();
     let mut first = so_far;
     for place in 0..tasks.len().min(instances.len()) {
-        let next = PlacedInstance {
-            run,
-            place,
-            task: &tasks[place],
-            instance: &instances[place],
-        };
-        first = first_with(first, next);
+        first = first_at(first, tasks, run, place);
     }
     first
+}
+
+/// The first in the order, once the instance at a place of this run of these tasks has been seen too, where that so far stands
+/// before it: no instance of a task that is no heavier comes before that one, so it is not looked at.
+fn first_at<'a>(
+    first: Option<PlacedInstance<'a>>,
+    tasks: &'a [TaskSpec],
+    run: &'a Run,
+    place: usize,
+) -> Option<PlacedInstance<'a>>
+    requires task { place < length tasks.now }
+    requires instance { place < length run.now.instances }
+    requires before { IfSome first (StandsBefore run.now.number place) }
+    ensures { (d : Placed) → result ≡ first_with is_claimable first.entry (slice_index_or (placed_of tasks.now run.now) place d) }
+{
+    let task = &tasks[place];
+    if is_no_lighter(first.as_ref(), task) {
+        return first;
+    }
+    let next = PlacedInstance {
+        run,
+        place,
+        task,
+        instance: &run.instances.as_slice()[place],
+    };
+    first_with(first, next)
 }
 
 /// The first in the order, once this instance has been seen too.

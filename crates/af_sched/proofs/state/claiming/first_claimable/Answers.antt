@@ -8,12 +8,19 @@ use Rattle.af_sched.specs.Placed.{Placed, placed_of, placed_in, IsFirstOf}
 use Rattle.af_sched.specs.State.{tasks_of}
 use Rattle.af_sched.proofs.HolderPlacedLemmas.{first_of_holders}
 use Rattle.af_sched.specs.Weights.{IsAsHeavy}
-use Rattle.af_sched.proofs.HeavyLemmas.{ends_early}
+use Rattle.af_sched.proofs.HeavyLemmas.{earlier_runs, ends_early}
 use Rattle.af_sched.proofs.PlacedLemmas.{IsFirstOf-none}
 use Rattle.af_sched.proofs.state.claiming.first_claimable.Goals as goal
 
 pub loop-run-init : goal.loop-run-init
 loop-run-init c = rw c.into_iter-run-iterator.ensures.into_iter_gives ([], c.holders-run-items.ensures, IsFirstOf-none is_claimable)
+
+pub first_after-first-requires : goal.first_after-first-requires
+first_after-first-requires c =
+    let so_far = c.loop-run.invariant in
+    let run : Run = c.in-Some.run'.now in
+    let whole : so_far.0 ++ run ∷ c.next.new.self ≡ holders_of c.args.runs.now.rows = ap (λ (rest : List Run). so_far.0 ++ rest) (sym c.in-Some.ensures.steps) ∙ so_far.1 in
+    earlier_runs c.args.dags.now c.args.runs.now.rows so_far.0 c.next.new.self run c.loop-run.first c.rows-rows.ensures.kept.in_order whole so_far.2
 
 pub loop-run-preserved : goal.loop-run-preserved
 loop-run-preserved c =
