@@ -3,32 +3,24 @@
 
 mod add_dag_fault;
 mod busy;
-mod choosing;
 mod claim;
 mod counting;
-mod creating;
 mod dag_row;
 mod dag_table;
 mod dags;
-mod due;
 mod executor;
-mod finishing;
 mod guesses;
 mod held;
 pub mod laws;
-mod moving;
 mod outcome;
-mod phases;
 mod placed;
 mod plan;
-mod queueing;
 mod report_fault;
 mod script;
 mod scripted;
 mod seat;
-mod settling;
-mod starting;
 mod state;
+mod tick;
 
 pub use add_dag_fault::AddDagFault;
 pub use claim::Claim;

@@ -4,11 +4,10 @@ ghost use Rattle.af_sched.specs.Plan.{Fits, HasRows, IsPlan, applied, with_curso
 ghost use Rattle.af_sched.specs.Tick.{IsTick};
 
 use crate::busy::are_busy_of;
-use crate::creating::create_all;
 use crate::dag_row::DagRow;
-use crate::moving::moved_on;
 use crate::plan::Plan;
 use crate::state::State;
+use crate::tick::{create_all, moved_on};
 use af_names::Instant;
 use af_runs::{Additions, Run, Runs};
 use std::alloc::{AllocError, Global};

@@ -33,8 +33,8 @@ loop-place-preserved c =
           (subst (λ (xs : List Placed). IsFirstOf is_claimable xs (first_with is_claimable c.loop-place.first one)) lists
           (IsFirstOf-with is_claimable (seen ++ take place all) c.loop-place.first one (c.loop-place.invariant.0 seen is)))),
       subst (λ (o : Option Placed). IfSome o (StandsBefore c.args.run.now.number (place + 1))) (sym told)
-      (subst (λ (p : Placed). IfSome (first_with is_claimable c.loop-place.first p) (StandsBefore c.args.run.now.number (place + 1))) (sym is_one)
-      (with_stands c.loop-place.first (record { run = c.args.run.now; place = place; task = get_or tasks place d.task; instance = get_or instances place d.instance }) c.loop-place.invariant.1)),
+          (subst (λ (p : Placed). IfSome (first_with is_claimable c.loop-place.first p) (StandsBefore c.args.run.now.number (place + 1))) (sym is_one)
+          (with_stands c.loop-place.first (record { run = c.args.run.now; place = place; task = get_or tasks place d.task; instance = get_or instances place d.instance }) c.loop-place.invariant.1)),
     )
 
 pub returns : goal.returns

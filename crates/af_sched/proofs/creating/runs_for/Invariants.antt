@@ -1,7 +1,0 @@
-use Rattle.std.proofs.Common.{◌≡◌, take, map}
-use Rattle.af_graph.specs.Schedules.{is_scheduled}
-use Rattle.af_sched.specs.Create.{run_for}
-use Rattle.af_sched.proofs.creating.runs_for.Given as goal
-
-abbrev pub invariant-loop-point : goal.invariant-loop-point
-invariant-loop-point l = l.runs.items ≡ map (run_for l.dag (is_scheduled l.schedule)) (take l.point-index l.points)
