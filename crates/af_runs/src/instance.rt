@@ -1,8 +1,10 @@
 ghost use Rattle.std.specs.Prelude.{◌≡◌};
 ghost use Rattle.af_runs.specs.Instances.{new_instance};
 
+use af_base::Again;
 use af_graph::{TaskSpec, TaskState};
 use af_names::Instant;
+use std::alloc::{AllocError, Global};
 
 /// A task instance: how a task fares in one run. Its task is the one at its place in the DAG's definition.
 #[derive(Clone, Copy, Debug, PartialEq, Eq)]
@@ -33,5 +35,11 @@ impl Instance {
             end_date: None,
             retry_at: None,
         }
+    }
+}
+
+impl Again for Instance {
+    fn copied(&self, _alloc: Global) -> Result<Instance, AllocError> {
+        Ok(*self)
     }
 }

@@ -1,91 +1,34 @@
-ghost use Rattle.std.specs.Prelude.{◌≡◌, ◌↔◌, IfOk, slice_set, true};
+ghost use Rattle.std.specs.Prelude.{◌≡◌, ◌↔◌, IfOk, map, true};
+ghost use Rattle.af_runs.specs.Clears.{cleared_instances};
 ghost use Rattle.af_runs.specs.Instances.{new_instances};
+ghost use Rattle.af_runs.specs.Marks.{marked_instance};
 
 use crate::instance::Instance;
+use crate::mark::Mark;
+use crate::selection::Selection;
+use af_base::Items;
 use af_graph::Dag;
+use af_names::Instant;
 use std::alloc::{AllocError, Global};
-use std::marker::Model;
 
-mod changing;
+/// The instances of a run, in the order of the definition.
+pub type Instances = Items<Instance>;
 
-/// The instances of a run, in the order of the definition. Contracts see them as a list.
-#[derive(Drop)]
-pub struct Instances {
-    items: Vec<Instance>,
-}
-
-impl Model for Instances {
-    ghost use Rattle.std.specs.Prelude.{List};
-    ghost use Rattle.af_runs.specs.declared.instance.Instance.{Instance};
-
-    ghost Value = { List Instance };
-
-    ghost view = { λ instances. instances.items.items };
-}
-
-impl Instances {
-    /// These instances, in their order.
-    pub fn of(items: Vec<Instance>) -> Instances
-        ensures { result ≡ items.items }
-    {
-        Instances { items }
-    }
-
-    /// The instances of a new run of a DAG: for each task one in `NoStatus`, never tried. `AllocError` only where a
-    /// growth was refused.
-    pub fn of_dag(alloc: Global, dag: &Dag) -> Result<Instances, AllocError>
-        ensures { IfOk result (λ instances. instances ≡ new_instances dag.now.tasks) }
-    {
-        let items = dag
-            .tasks()
-            .iter()
-            .map(|task| Instance::of(task))
-            .collect(alloc)?;
-        Ok(Instances { items })
-    }
-
-    /// The same instances again. `AllocError` only where a growth was refused.
-    pub fn copied(&self, alloc: Global) -> Result<Instances, AllocError>
-        ensures { IfOk result (λ instances. instances ≡ self.now) }
-    {
-        let items = self.items.iter().copied().collect(alloc)?;
-        Ok(Instances { items })
-    }
-
-    /// Whether they are the same instances as others.
-    pub fn is_same(&self, other: &Instances) -> bool
-        ensures { (result ≡ true) ↔ (self.now ≡ other.now) }
-    {
-        same_instances(self.as_slice(), other.as_slice())
-    }
-
-    /// The instances, in order.
-    pub fn as_slice(&self) -> &[Instance]
-        ensures { result.now ≡ self.now }
-    {
-        self.items.as_slice()
-    }
-
-    /// The instances, given back.
-    pub fn into_vec(self) -> Vec<Instance>
-        ensures { result.items ≡ self }
-    {
-        let Instances { items } = self;
-        items
-    }
-
-    /// Replaces the instance at a place; past the last place nothing changes.
-    pub fn set(&mut self, place: usize, instance: Instance)
-        ensures { self.new ≡ slice_set self.old place instance }
-    {
-        if place < self.items.len() {
-            self.items[place] = instance;
-        }
-    }
+/// The instances of a new run of a DAG: for each task one in `NoStatus`, never tried. `AllocError` only where a growth was
+/// refused.
+pub fn new_instances(alloc: Global, dag: &Dag) -> Result<Instances, AllocError>
+    ensures { IfOk result (λ instances. instances ≡ new_instances dag.now.tasks) }
+{
+    let items = dag
+        .tasks()
+        .iter()
+        .map(|task| Instance::of(task))
+        .collect(alloc)?;
+    Ok(Instances::of(items))
 }
 
 /// Whether two lists have the same instances.
-fn same_instances(one: &[Instance], other: &[Instance]) -> bool
+pub(crate) fn same_instances(one: &[Instance], other: &[Instance]) -> bool
     ensures { (result ≡ true) ↔ (one.now ≡ other.now) }
 {
     if one.len() != other.len() {
@@ -97,4 +40,24 @@ fn same_instances(one: &[Instance], other: &[Instance]) -> bool
         }
     }
     true
+}
+
+/// Puts the instances of a run that is marked so at a moment into their states.
+pub(crate) fn mark_all(instances: &mut Instances, mark: Mark, at: Instant)
+    ensures { instances.new ≡ map (marked_instance mark at) instances.old }
+{
+    for place in 0..instances.as_slice().len() {
+        let instance = instances.as_slice()[place];
+        instances.set(place, mark.marked(instance, at));
+    }
+}
+
+/// Clears those of the instances of a run that are chosen.
+pub(crate) fn clear_all(instances: &mut Instances, selection: &Selection)
+    ensures { instances.new ≡ cleared_instances selection.now instances.old }
+{
+    for place in 0..instances.as_slice().len() {
+        let cleared = selection.after(place, &instances.as_slice()[place]);
+        instances.set(place, cleared);
+    }
 }

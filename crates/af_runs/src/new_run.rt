@@ -11,6 +11,6 @@ pub struct NewRun {
     pub logical_date: Instant,
     pub interval: Interval,
     pub run_type: RunType,
-    /// To be one for each task of the DAG, in the order of the definition, as `Instances::of_dag` makes them.
+    /// To be one for each task of the DAG, in the order of the definition, as `new_instances` makes them.
     pub instances: Instances,
 }

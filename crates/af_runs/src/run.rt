@@ -2,7 +2,7 @@ ghost use Rattle.std.specs.Prelude.{◌≡◌, ◌↔◌, IfOk, true, length, op
 ghost use Rattle.af_runs.specs.Busy.{holds_any, is_busy};
 ghost use Rattle.af_runs.specs.Runs.{is_of, is_run, is_dated, queued_run, runs_of};
 
-use crate::instances::Instances;
+use crate::instances::{Instances, same_instances};
 use crate::interval::Interval;
 use crate::new_run::NewRun;
 use crate::run_state::RunState;
@@ -88,7 +88,7 @@ impl Run {
             && self.state == other.state
             && self.start_date == other.start_date
             && self.end_date == other.end_date
-            && self.instances.is_same(&other.instances)
+            && same_instances(self.instances.as_slice(), other.instances.as_slice())
     }
 
     /// Whether it has not ended, or one of its instances is queued or running.

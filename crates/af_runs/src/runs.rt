@@ -16,7 +16,7 @@ mod finding;
 mod marking;
 
 /// The most runs that a DAG has.
-pub(crate) const MOST_RUNS: usize = 65_536;
+pub const MOST_RUNS: usize = 65_536;
 
 /// For how many runs memory is reserved at once, where one is added and none is reserved.
 pub(crate) const MORE_RUNS: usize = 64;

@@ -17,7 +17,7 @@ use crate::prepared::Prepared;
 use crate::row::row_text;
 use crate::trigger::Trigger;
 use af_names::{DagId, Instant, RunId};
-use af_runs::{Instances, Interval, NewRun, Run, RunFault, RunType};
+use af_runs::{Interval, NewRun, Run, RunFault, RunType, new_instances};
 use af_sched::{DagRow, State};
 use arrayvec::ArrayString;
 use std::alloc::{AllocError, Global};
@@ -193,7 +193,7 @@ fn new_run(
     ensures { IfOk result (λ new. new ≡ new_run row.now dag_id.now run_id date) }
 {
     let dag_id = dag_id.copied(alloc)?;
-    let instances = Instances::of_dag(alloc, &row.dag)?;
+    let instances = new_instances(alloc, &row.dag)?;
     Ok(NewRun {
         dag_id,
         run_id,

@@ -4,6 +4,7 @@ ghost use Rattle.af_runs.specs.Clears.{chosen_of, cleared_run, is_chosen, is_lef
 
 use crate::chosen_instance::ChosenInstance;
 use crate::instance::Instance;
+use crate::instances::clear_all;
 use crate::run::Run;
 use crate::run_state::RunState;
 use crate::selection::Selection;
@@ -19,7 +20,7 @@ impl Run {
             self.start_date = None;
             self.end_date = None;
         }
-        self.instances.clear(selection);
+        clear_all(&mut self.instances, selection);
     }
 
     /// Whether clearing those of its instances that are chosen leaves it as it is: it is not queued again, and each instance

@@ -3,6 +3,7 @@ ghost use Rattle.std.specs.List.{list_all};
 ghost use Rattle.af_runs.specs.Marks.{is_marked, marked_run, stays_in};
 
 use crate::instance::Instance;
+use crate::instances::mark_all;
 use crate::mark::Mark;
 use crate::run::Run;
 use af_names::Instant;
@@ -18,7 +19,7 @@ impl Run {
             self.end_date = mark.end_at(at);
         }
         self.state = mark.state();
-        self.instances.mark(mark, at);
+        mark_all(&mut self.instances, mark, at);
     }
 
     /// Whether it is marked so already: marking it again changes nothing.

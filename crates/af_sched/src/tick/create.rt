@@ -10,7 +10,7 @@ use crate::dag_row::DagRow;
 use crate::tick::due::{moved_cursor, taken_points};
 use af_graph::{Dag, Schedule};
 use af_names::{Instant, RunId};
-use af_runs::{Additions, Instances, Interval, NewRun, RunFault, RunType};
+use af_runs::{Additions, Interval, NewRun, RunFault, RunType, new_instances};
 use std::alloc::{AllocError, Global};
 
 /// How many bytes the id of a scheduled run takes at most.
@@ -132,7 +132,7 @@ fn run_for(
 {
     let dag_id = dag.dag_id().copied(alloc)?;
     let run_id = run_id_for(alloc, point)?;
-    let instances = Instances::of_dag(alloc, dag)?;
+    let instances = new_instances(alloc, dag)?;
     let end = schedule.next_after(point).unwrap_or(point);
     Ok(NewRun {
         dag_id,

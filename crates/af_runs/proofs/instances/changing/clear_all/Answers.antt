@@ -1,8 +1,0 @@
-use Rattle.std.proofs.Common.{arith}
-use Rattle.af_runs.specs.Clears.{after_clear}
-use Rattle.af_runs.proofs.ChangeLemmas.{enumerated-from}
-use Rattle.af_runs.proofs.instances.changing.clear_all.Goals as goal
-
-pub returns : goal.returns
-returns c =
-    enumerated-from (after_clear c.args.selection.now) c.args.instances.now.items c.loop-place.instances.items c.loop-place.invariant.0 (λ k d inside. c.loop-place.invariant.1 k d (omega arith))

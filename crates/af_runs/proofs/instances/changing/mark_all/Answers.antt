@@ -1,8 +1,0 @@
-use Rattle.std.proofs.Common.{arith}
-use Rattle.af_runs.specs.Marks.{marked_instance}
-use Rattle.af_runs.proofs.ChangeLemmas.{map-from}
-use Rattle.af_runs.proofs.instances.changing.mark_all.Goals as goal
-
-pub returns : goal.returns
-returns c =
-    map-from (marked_instance c.args.mark c.args.at) c.args.instances.now.items c.loop-place.instances.items c.loop-place.invariant.0 (λ k d inside. c.loop-place.invariant.1 k d (omega arith))
