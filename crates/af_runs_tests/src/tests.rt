@@ -1,19 +1,30 @@
 mod additions;
 mod asked;
+mod asserts;
 mod clears;
+mod four;
 mod lookups;
 mod marks;
+mod tasks;
+mod texts;
 
-use af_graph::{Dag, DagSpec, Rule, TaskIds, TaskSpec, TaskSpecs, TaskState};
-use af_names::{DagId, Instant, PoolName, RunId, TaskId};
+use af_graph::TaskState;
+use af_names::{DagId, Instant, RunId};
 use af_runs::{Instance, Instances, Interval, NewRun, Run, RunFault, RunState, RunType, Runs};
+use asserts::holds;
 use std::alloc::Global;
+use std::process::Abort;
 use std::test::Fail;
 
 type Row<'a> = (u64, &'a str, &'a str, RunState);
 
 fn has_rows(rows: &[Run], wanted: &[Row<'_>]) -> bool {
-    rows.len() == wanted.len() && rows.iter().zip(wanted).all(|(run, want)| is_row(run, want))
+    for (run, want) in rows.iter().zip(wanted) {
+        if !is_row(run, want) {
+            return false;
+        }
+    }
+    rows.len() == wanted.len()
 }
 
 fn is_row(run: &Run, wanted: &Row<'_>) -> bool {
@@ -47,18 +58,34 @@ fn failed() -> Instance {
     }
 }
 
+/// A run of these instances.
+fn run_of(
+    alloc: Global,
+    dag_id: &str,
+    run_id: &str,
+    date: Instant,
+    instances: Instances,
+) -> Result<NewRun, Fail> {
+    let dag_id = DagId::parse(alloc, dag_id)?;
+    let run_id = RunId::parse(alloc, run_id)?;
+    Ok(NewRun {
+        dag_id,
+        run_id,
+        logical_date: date,
+        interval: Interval {
+            start: date,
+            end: date,
+        },
+        run_type: RunType::Manual,
+        instances,
+    })
+}
+
 /// A run of two tasks.
 fn new_run(alloc: Global, dag_id: &str, run_id: &str, date: u64) -> Result<NewRun, Fail> {
-    let at = moment(date)?;
+    let date = moment(date)?;
     let items = vec![in alloc; untried(), untried()]?;
-    Ok(NewRun {
-        dag_id: DagId::parse(alloc, dag_id)?,
-        run_id: RunId::parse(alloc, run_id)?,
-        logical_date: at,
-        interval: Interval { start: at, end: at },
-        run_type: RunType::Manual,
-        instances: Instances::of(items),
-    })
+    run_of(alloc, dag_id, run_id, date, Instances::of(items))
 }
 
 /// A run that is to be added, by its DAG, its id and its date; what is told; and the words for it.
@@ -69,34 +96,43 @@ fn adds(alloc: Global, runs: &mut Runs, row: &Asked<'_>) -> Result<bool, Fail> {
     Ok(runs.add_run(new) == row.3)
 }
 
+const ID_TAKEN: Result<u64, RunFault> = Err(RunFault::RunExists);
+
+const DATE_TAKEN: Result<u64, RunFault> = Err(RunFault::DateTaken);
+
+const ASKED: &[Asked<'static>] = &[
+    ("a", "r1", 1, Ok(1), "the first of a"),
+    ("b", "r2", 2, Ok(2), "the first of b"),
+    ("a", "r1", 1, ID_TAKEN, "the id before the date"),
+    ("a", "r3", 1, DATE_TAKEN, "the date of r1"),
+    ("b", "r1", 1, Ok(3), "id and date of another DAG"),
+];
+
+const ADDED: &[Row<'static>] = &[
+    (1, "a", "r1", RunState::Queued),
+    (2, "b", "r2", RunState::Queued),
+    (3, "b", "r1", RunState::Queued),
+];
+
 #[test]
 fn runs_of_two_dags_are_added_or_refused(rt: HostRuntime) -> Result<(), Fail> {
-    use RunFault::{DateTaken, RunExists};
-    let table = [
-        ("a", "r1", 1, Ok(1), "the first of a"),
-        ("b", "r2", 2, Ok(2), "the first of b"),
-        ("a", "r1", 1, Err(RunExists), "the id before the date"),
-        ("a", "r3", 1, Err(DateTaken), "the date of r1"),
-        ("b", "r1", 1, Ok(3), "id and date of another DAG"),
-    ];
     let mut runs = Runs::new(rt.alloc());
-    for row in &table {
-        assert!(rt; adds(rt.alloc(), &mut runs, row)?, "{}", row.4);
+    for row in ASKED {
+        let adds = adds(rt.alloc(), &mut runs, row)?;
+        holds(&rt, adds, row.4);
     }
-    let added = [
-        (1, "a", "r1", RunState::Queued),
-        (2, "b", "r2", RunState::Queued),
-        (3, "b", "r1", RunState::Queued),
-    ];
-    assert!(rt; has_rows(runs.rows(), &added), "in order of number");
+    holds(&rt, has_rows(runs.rows(), ADDED), "in order of number");
     Ok(())
 }
 
 /// Run r1 of a, then r2 and r1 of b.
-fn three_runs(alloc: Global) -> Result<Runs, Fail> {
+const THREE: &[(&str, &str, u64)] = &[("a", "r1", 1), ("b", "r2", 2), ("b", "r1", 1)];
+
+/// New runs of these ids and dates.
+fn with_runs(alloc: Global, rows: &[(&str, &str, u64)]) -> Result<Runs, Fail> {
     let mut runs = Runs::new(alloc);
-    for (dag_id, run_id, date) in [("a", "r1", 1), ("b", "r2", 2), ("b", "r1", 1)] {
-        runs.add_run(new_run(alloc, dag_id, run_id, date)?)?;
+    for (dag_id, run_id, date) in rows {
+        runs.add_run(new_run(alloc, dag_id, run_id, *date)?)?;
     }
     Ok(runs)
 }
@@ -105,55 +141,82 @@ fn three_runs(alloc: Global) -> Result<Runs, Fail> {
 fn number_of(alloc: Global, runs: &Runs, dag_id: &str, run_id: &str) -> Result<Option<u64>, Fail> {
     let dag_id = DagId::parse(alloc, dag_id)?;
     let run_id = RunId::parse(alloc, run_id)?;
-    Ok(runs.find(&dag_id, &run_id).map(|run| run.number))
+    Ok(match runs.find(&dag_id, &run_id) {
+        Some(run) => Some(run.number),
+        None => None,
+    })
 }
 
 /// Why r3 of b would not be added, at the date of r2.
 fn fault_of_b(alloc: Global, runs: &Runs) -> Result<Option<RunFault>, Fail> {
+    let date = moment(2)?;
     let dag_id = DagId::parse(alloc, "b")?;
     let run_id = RunId::parse(alloc, "r3")?;
-    Ok(runs.add_fault(&dag_id, &run_id, moment(2)?))
+    Ok(runs.add_fault(&dag_id, &run_id, date))
 }
 
-#[test]
-fn runs_are_found(rt: HostRuntime) -> Result<(), Fail> {
-    let alloc = rt.alloc();
-    let runs = three_runs(alloc)?;
-    assert!(rt; number_of(alloc, &runs, "b", "r1")? == Some(3), "r1 of b");
-    assert!(rt;
-        number_of(alloc, &runs, "b", "r3")?.is_none(),
-        "b has no r3"
-    );
-    let second = (2, "b", "r2", RunState::Queued);
-    assert!(rt;
-        runs.get(2).is_some_and(|run| is_row(run, &second)),
-        "number 2"
-    );
-    assert!(rt; runs.get(4).is_none(), "no number 4");
-    let told = fault_of_b(alloc, &runs)?;
-    assert!(rt; told == Some(RunFault::DateTaken), "the date of r2");
+/// The row of a run.
+fn is_at(runs: &Runs, number: u64, wanted: &Row<'_>) -> bool {
+    match runs.get(number) {
+        Some(run) => is_row(run, wanted),
+        None => false,
+    }
+}
+
+/// Ids, and the number of the run of these.
+const FOUND: &[(&str, &str, Option<u64>)] = &[("b", "r1", Some(3)), ("b", "r3", None)];
+
+/// Ends the test where a run is not found by its ids.
+fn are_found(rt: &impl Abort, alloc: Global, runs: &Runs) -> Result<(), Fail> {
+    for (dag_id, run_id, wanted) in FOUND {
+        let told = number_of(alloc, runs, dag_id, run_id)?;
+        holds(rt, told == *wanted, run_id);
+    }
     Ok(())
 }
 
 #[test]
-fn one_run_is_set(rt: HostRuntime) -> Result<(), Fail> {
-    use RunState::{Queued, Running, Success};
+fn runs_are_found(rt: HostRuntime) -> Result<(), Fail> {
+    let runs = with_runs(rt.alloc(), THREE)?;
+    are_found(&rt, rt.alloc(), &runs)?;
+    let is_second = is_at(&runs, 2, &(2, "b", "r2", RunState::Queued));
+    holds(&rt, is_second, "number 2");
+    holds(&rt, runs.get(4).is_none(), "no number 4");
+    let told = fault_of_b(rt.alloc(), &runs)?;
+    holds(&rt, told == Some(RunFault::DateTaken), "the date of r2");
+    Ok(())
+}
+
+const CHANGED: &[Row<'static>] = &[
+    (1, "a", "r1", RunState::Success),
+    (2, "b", "r2", RunState::Running),
+    (3, "b", "r1", RunState::Queued),
+];
+
+/// Sets the states of runs 1 and 2, and of 7, which is not there, at 9.
+fn set_states(runs: &mut Runs) -> Result<(), Fail> {
     let at = Some(moment(9)?);
-    let mut runs = three_runs(rt.alloc())?;
-    runs.set_state(2, Running, at, None);
-    runs.set_state(1, Success, at, at);
-    runs.set_state(7, Success, at, at);
-    let changed = [
-        (1, "a", "r1", Success),
-        (2, "b", "r2", Running),
-        (3, "b", "r1", Queued),
-    ];
-    assert!(rt; has_rows(runs.rows(), &changed), "the rows of 1 and 2");
-    assert!(rt;
-        runs.get(2)
-            .is_some_and(|run| run.start_date == at && run.end_date.is_none()),
-        "start"
-    );
+    runs.set_state(2, RunState::Running, at, None);
+    runs.set_state(1, RunState::Success, at, at);
+    runs.set_state(7, RunState::Success, at, at);
+    Ok(())
+}
+
+/// Whether a run started and ended so.
+fn is_dated(runs: &Runs, number: u64, start: Option<Instant>, end: Option<Instant>) -> bool {
+    match runs.get(number) {
+        Some(run) => run.start_date == start && run.end_date == end,
+        None => false,
+    }
+}
+
+#[test]
+fn one_run_is_set(rt: HostRuntime) -> Result<(), Fail> {
+    let at = Some(moment(9)?);
+    let mut runs = with_runs(rt.alloc(), THREE)?;
+    set_states(&mut runs)?;
+    holds(&rt, has_rows(runs.rows(), CHANGED), "the rows of 1 and 2");
+    holds(&rt, is_dated(&runs, 2, at, None), "start");
     Ok(())
 }
 
@@ -169,107 +232,68 @@ fn has_instances(
     Ok(runs.instances(&dag_id, &run_id) == Some(wanted))
 }
 
+/// Whether the run r1 of a has two instances that were not tried.
+fn is_untried(alloc: Global, runs: &Runs) -> Result<bool, Fail> {
+    has_instances(alloc, runs, ("a", "r1"), &[untried(), untried()])
+}
+
+/// Whether the second instance of the run r1 of b has failed.
+fn is_half_failed(alloc: Global, runs: &Runs) -> Result<bool, Fail> {
+    has_instances(alloc, runs, ("b", "r1"), &[untried(), failed()])
+}
+
 #[test]
 fn one_instance_is_set(rt: HostRuntime) -> Result<(), Fail> {
-    let alloc = rt.alloc();
-    let mut runs = three_runs(alloc)?;
+    let mut runs = with_runs(rt.alloc(), THREE)?;
+    set_last(&mut runs);
+    let of_b = is_half_failed(rt.alloc(), &runs)?;
+    holds(&rt, of_b, "the second of run 3");
+    let of_a = is_untried(rt.alloc(), &runs)?;
+    holds(&rt, of_a, "run 1 as it was");
+    Ok(())
+}
+
+/// Sets the last instance of run 3, and the one after it, which is not there.
+fn set_last(runs: &mut Runs) {
     runs.set_instance(3, 1, failed());
     runs.set_instance(3, 2, failed());
-    let of_b = has_instances(alloc, &runs, ("b", "r1"), &[untried(), failed()])?;
-    assert!(rt; of_b, "the second of run 3");
-    let of_a = has_instances(alloc, &runs, ("a", "r1"), &[untried(), untried()])?;
-    assert!(rt; of_a, "run 1 as it was");
-    Ok(())
+}
+
+/// Runs r1, r2 and r3 of a that are to be added.
+fn three_new(alloc: Global) -> Result<(NewRun, NewRun, NewRun), Fail> {
+    let first = new_run(alloc, "a", "r1", 1)?;
+    let second = new_run(alloc, "a", "r2", 2)?;
+    Ok((first, second, new_run(alloc, "a", "r3", 3)?))
+}
+
+const TWO: &[Row<'static>] = &[
+    (1, "a", "r1", RunState::Queued),
+    (2, "a", "r2", RunState::Queued),
+];
+
+/// Whether a run that is refused for want of memory leaves two runs as they were.
+fn is_refused_or_added(runs: &mut Runs, new: NewRun) -> bool {
+    runs.add_run(new) != Err(RunFault::OutOfMemory) || has_rows(runs.rows(), TWO)
+}
+
+/// Ends the test where two runs are not added in reserve, or a third that is refused leaves them otherwise.
+fn are_added(rt: &impl Abort, runs: &mut Runs, new: (NewRun, NewRun, NewRun)) {
+    let (first, second, third) = new;
+    holds(rt, runs.spare() >= 2, "room for two");
+    holds(rt, runs.add_run(first) == Ok(1), "the first in reserve");
+    holds(rt, runs.add_run(second) == Ok(2), "the second in reserve");
+    holds(rt, is_refused_or_added(runs, third), "as before");
+    holds(rt, runs.rows().len() >= 2, "both are there");
 }
 
 #[test]
 fn a_refused_growth_leaves_the_runs(rt: HostRuntime) -> Result<(), Fail> {
-    let alloc = rt.alloc();
-    let mut runs = Runs::new(alloc);
-    let first = new_run(alloc, "a", "r1", 1)?;
-    let second = new_run(alloc, "a", "r2", 2)?;
-    let third = new_run(alloc, "a", "r3", 3)?;
+    let new = three_new(rt.alloc())?;
+    let mut runs = Runs::new(rt.alloc());
     if runs.reserve(2).is_err() {
-        assert!(rt; runs.rows().is_empty(), "nothing reserved");
+        holds(&rt, runs.rows().is_empty(), "nothing reserved");
         return Ok(());
     }
-    assert!(rt; runs.spare() >= 2, "room for two");
-    assert!(rt;
-        runs.add_run(first) == Ok(1) && runs.add_run(second) == Ok(2),
-        "two in reserve"
-    );
-    let rows = [
-        (1, "a", "r1", RunState::Queued),
-        (2, "a", "r2", RunState::Queued),
-    ];
-    if runs.add_run(third) == Err(RunFault::OutOfMemory) {
-        assert!(rt; has_rows(runs.rows(), &rows), "as before");
-    }
-    assert!(rt; runs.rows().len() >= 2, "both are there");
-    Ok(())
-}
-
-fn task(alloc: Global, task_id: &str, retries: u32) -> Result<TaskSpec, Fail> {
-    Ok(TaskSpec {
-        task_id: TaskId::parse(alloc, task_id)?,
-        upstream: TaskIds::of(Vec::new(alloc)),
-        pool: PoolName::parse(alloc, "default_pool")?,
-        pool_slots: 1,
-        priority_weight: 1,
-        retries,
-        retry_delay: 300,
-        trigger_rule: Rule::AllSuccess,
-    })
-}
-
-#[test]
-fn each_task_has_an_instance(rt: HostRuntime) -> Result<(), Fail> {
-    let alloc = rt.alloc();
-    let spec = DagSpec {
-        dag_id: DagId::parse(alloc, "a")?,
-        tasks: TaskSpecs::of(vec![in alloc; task(alloc, "x", 1)?, task(alloc, "y", 3)?]?),
-        schedule: None,
-        catchup: true,
-        max_active_runs: 16,
-    };
-    let instances = Instances::of_dag(alloc, &Dag::new(alloc, spec)?)?;
-    let patient = Instance {
-        max_tries: 3,
-        ..untried()
-    };
-    assert!(rt;
-        instances.as_slice() == [untried(), patient].as_slice(),
-        "in order"
-    );
-    assert!(rt; instances.into_vec().len() == 2, "given back");
-    Ok(())
-}
-
-#[test]
-fn states_types_and_faults_have_texts(rt: HostRuntime) -> Result<(), Fail> {
-    let alloc = rt.alloc();
-    let states = [
-        ("queued", Some(RunState::Queued)),
-        ("running", Some(RunState::Running)),
-        ("success", Some(RunState::Success)),
-        ("failed", Some(RunState::Failed)),
-        ("Queued", None),
-    ];
-    for (text, want) in states {
-        assert!(rt; RunState::read(text) == want, "the state of {text}");
-    }
-    let types = [
-        ("manual", Some(RunType::Manual)),
-        ("scheduled", Some(RunType::Scheduled)),
-        ("backfill", None),
-    ];
-    for (text, want) in types {
-        assert!(rt; RunType::read(text) == want, "the type of {text}");
-    }
-    let told = format!(in alloc; "{}", RunFault::DateTaken)?;
-    assert!(rt;
-        told.as_str() == "the DAG has a run of that logical date",
-        "in words"
-    );
+    are_added(&rt, &mut runs, new);
     Ok(())
 }

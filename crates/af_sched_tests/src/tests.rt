@@ -1,4 +1,5 @@
 mod adding;
+mod asserts;
 mod claims;
 mod clears;
 mod copies;

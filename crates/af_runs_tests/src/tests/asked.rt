@@ -1,4 +1,5 @@
-use super::{moment, task};
+use super::moment;
+use super::tasks::two_tasks;
 use af_graph::TaskIds;
 use af_names::{DagId, Instant, RunId, TaskId};
 use af_runs::{ChosenTasks, RunFilter, Selection};
@@ -24,56 +25,19 @@ pub struct Asked {
 }
 
 /// All instances of DAG a.
-pub fn all() -> Asked {
-    Asked {
-        ids: Ids::Any,
-        only_failed: false,
-        run_id: None,
-        start_date: None,
-        end_date: None,
-    }
-}
+pub const ALL: Asked = Asked {
+    ids: Ids::Any,
+    only_failed: false,
+    run_id: None,
+    start_date: None,
+    end_date: None,
+};
 
 /// All that failed.
-pub fn failed() -> Asked {
-    Asked {
-        only_failed: true,
-        ..all()
-    }
-}
-
-/// All that failed of these tasks.
-pub fn failed_of(ids: &'static [&'static str]) -> Asked {
-    Asked {
-        ids: Ids::These(ids),
-        ..failed()
-    }
-}
-
-/// All of these tasks.
-pub fn all_of(ids: &'static [&'static str]) -> Asked {
-    Asked {
-        ids: Ids::These(ids),
-        ..all()
-    }
-}
-
-/// All of runs within these bounds.
-pub fn within(start_date: Option<u64>, end_date: Option<u64>) -> Asked {
-    Asked {
-        start_date,
-        end_date,
-        ..all()
-    }
-}
-
-/// All of the run of this id.
-pub fn of_run(run_id: &'static str) -> Asked {
-    Asked {
-        run_id: Some(run_id),
-        ..all()
-    }
-}
+pub const FAILED: Asked = Asked {
+    only_failed: true,
+    ..ALL
+};
 
 fn maybe(micros: Option<u64>) -> Result<Option<Instant>, Fail> {
     match micros {
@@ -82,31 +46,44 @@ fn maybe(micros: Option<u64>) -> Result<Option<Instant>, Fail> {
     }
 }
 
+fn maybe_run(alloc: Global, run_id: Option<&str>) -> Result<Option<RunId>, Fail> {
+    match run_id {
+        Some(text) => Ok(Some(RunId::parse(alloc, text)?)),
+        None => Ok(None),
+    }
+}
+
 pub fn filter_of(alloc: Global, asked: Asked) -> Result<RunFilter, Fail> {
+    let start_date = maybe(asked.start_date)?;
+    let end_date = maybe(asked.end_date)?;
+    let run_id = maybe_run(alloc, asked.run_id)?;
     Ok(RunFilter {
         dag_id: DagId::parse(alloc, "a")?,
-        run_id: match asked.run_id {
-            Some(text) => Some(RunId::parse(alloc, text)?),
-            None => None,
-        },
-        start_date: maybe(asked.start_date)?,
-        end_date: maybe(asked.end_date)?,
+        run_id,
+        start_date,
+        end_date,
     })
+}
+
+fn task_ids(alloc: Global, texts: &[&str]) -> Result<TaskIds, Fail> {
+    let mut ids = Vec::new(alloc);
+    for text in texts {
+        ids.push(TaskId::parse(alloc, text)?)?;
+    }
+    Ok(TaskIds::of(ids))
+}
+
+fn ids_of(alloc: Global, ids: Ids) -> Result<Option<TaskIds>, Fail> {
+    match ids {
+        Ids::These(texts) => Ok(Some(task_ids(alloc, texts)?)),
+        Ids::Any => Ok(None),
+    }
 }
 
 /// The selection, where task x has one retry and y has three.
 pub fn selection_of(alloc: Global, asked: Asked) -> Result<Selection, Fail> {
-    let tasks = vec![in alloc; task(alloc, "x", 1)?, task(alloc, "y", 3)?]?;
-    let ids = match asked.ids {
-        Ids::These(texts) => {
-            let mut ids = Vec::new(alloc);
-            for text in texts {
-                ids.push(TaskId::parse(alloc, text)?)?;
-            }
-            Some(TaskIds::of(ids))
-        }
-        Ids::Any => None,
-    };
+    let tasks = two_tasks(alloc)?;
+    let ids = ids_of(alloc, asked.ids)?;
     Ok(Selection {
         tasks: ChosenTasks::of(alloc, tasks.as_slice(), ids.as_ref())?,
         only_failed: asked.only_failed,

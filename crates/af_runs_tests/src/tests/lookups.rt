@@ -3,6 +3,7 @@ mod filters;
 mod plain;
 mod twins;
 
+use crate::tests::asserts::holds;
 use std::test::Fail;
 use twins::Twins;
 
@@ -12,6 +13,12 @@ fn next_of(seed: &mut u64) -> u64 {
     *seed / 65_536
 }
 
+/// Whether a run that is added next is told, and whether each answer then is that of a filter.
+fn goes(twins: &mut Twins, seed: &mut u64) -> Result<(bool, bool), Fail> {
+    let is_told = twins.turn(seed)?;
+    Ok((is_told, twins.agrees(next_of(seed) % 500)?))
+}
+
 /// Some hundred runs of three DAGs, added, ended, marked, cleared, found and taken out in a random order: each answer is that of
 /// a filter over a plain list.
 #[test]
@@ -19,9 +26,10 @@ fn look_ups_agree_with_plain_filters(rt: HostRuntime) -> Result<(), Fail> {
     let mut twins = Twins::new(rt.alloc())?;
     let mut seed = 1;
     for _ in 0..4_000 {
-        assert!(rt; twins.turn(&mut seed)?, "added once");
-        assert!(rt; twins.agrees(next_of(&mut seed) % 500)?, "as a filter");
+        let (is_told, agrees) = goes(&mut twins, &mut seed)?;
+        holds(&rt, is_told, "added once");
+        holds(&rt, agrees, "as a filter");
     }
-    assert!(rt; twins.plain.len() > 500, "most are there");
+    holds(&rt, twins.plain.len() > 500, "most are there");
     Ok(())
 }

@@ -1,8 +1,10 @@
-use super::{moment, untried};
+use super::asserts::{holds, row_holds};
+use super::{moment, run_of, untried};
 use af_graph::TaskState;
-use af_names::{DagId, Instant, RunId};
-use af_runs::{Instance, Instances, Interval, Mark, NewRun, Run, RunState, RunType, Runs};
+use af_names::Instant;
+use af_runs::{Instance, Instances, Mark, NewRun, Run, RunState, Runs};
 use std::alloc::Global;
+use std::process::Abort;
 use std::test::Fail;
 
 /// The state, the start and the end of a run.
@@ -25,21 +27,26 @@ fn in_state(state: TaskState) -> Result<Instance, Fail> {
     })
 }
 
+/// A new run of this id and date, of one instance in this state.
+fn new_of(alloc: Global, run_id: &str, date: u64, state: TaskState) -> Result<NewRun, Fail> {
+    let date = moment(date)?;
+    let items = vec![in alloc; in_state(state)?]?;
+    run_of(alloc, "a", run_id, date, Instances::of(items))
+}
+
+/// Adds it, told so.
+fn add(runs: &mut Runs, new: NewRun, told: Told) -> Result<(), Fail> {
+    let (start, end) = (maybe(told.1)?, maybe(told.2)?);
+    let number = runs.add_run(new)?;
+    runs.set_state(number, told.0, start, end);
+    Ok(())
+}
+
 /// Two runs, told so, of one instance in this state.
 fn two_runs(alloc: Global, told: Told, state: TaskState) -> Result<Runs, Fail> {
     let mut runs = Runs::new(alloc);
-    for key in 0..2 {
-        let at = moment(key)?;
-        let run_id = format!(in alloc; "r{key}")?;
-        let number = runs.add_run(NewRun {
-            dag_id: DagId::parse(alloc, "a")?,
-            run_id: RunId::parse(alloc, run_id.as_str())?,
-            logical_date: at,
-            interval: Interval { start: at, end: at },
-            run_type: RunType::Manual,
-            instances: Instances::of(vec![in alloc; in_state(state)?]?),
-        })?;
-        runs.set_state(number, told.0, maybe(told.1)?, maybe(told.2)?);
+    for (run_id, date) in [("r0", 0), ("r1", 1)] {
+        add(&mut runs, new_of(alloc, run_id, date, state)?, told)?;
     }
     Ok(runs)
 }
@@ -52,44 +59,69 @@ fn has_only(run: &Run, instance: Instance) -> bool {
     run.instances.as_slice() == [instance].as_slice()
 }
 
-/// Whether the first of two runs, told so, is told otherwise once it is marked at 9, and the second is as it was.
-fn goes(alloc: Global, before: Told, mark: Mark, after: Told) -> Result<bool, Fail> {
-    let mut runs = two_runs(alloc, before, TaskState::Skipped)?;
-    runs.mark(3, mark, moment(8)?);
-    runs.mark(1, mark, moment(9)?);
-    let same = in_state(TaskState::Skipped)?;
-    match (runs.get(1), runs.get(2)) {
-        (Some(first), Some(second)) => {
-            Ok(is_told(first, after)? && is_told(second, before)? && has_only(second, same))
-        }
-        _ => Ok(false),
+/// Whether the run of a number is told so.
+fn is_told_at(runs: &Runs, number: u64, told: Told) -> Result<bool, Fail> {
+    match runs.get(number) {
+        Some(run) => is_told(run, told),
+        None => Ok(false),
     }
 }
 
+/// Whether the second run has its skipped instance alone.
+fn has_skipped(runs: &Runs) -> Result<bool, Fail> {
+    match runs.get(2) {
+        Some(run) => Ok(has_only(run, in_state(TaskState::Skipped)?)),
+        None => Ok(false),
+    }
+}
+
+/// Marks run 1 at 9, and run 3, which is not there.
+fn mark(runs: &mut Runs, mark: Mark) -> Result<(), Fail> {
+    runs.mark(3, mark, moment(8)?);
+    runs.mark(1, mark, moment(9)?);
+    Ok(())
+}
+
+/// Whether the first of two runs, told so, is told otherwise once it is marked at 9, and the second is as it was.
+fn goes(alloc: Global, before: Told, marked: Mark, after: Told) -> Result<bool, Fail> {
+    let mut runs = two_runs(alloc, before, TaskState::Skipped)?;
+    mark(&mut runs, marked)?;
+    Ok(is_told_at(&runs, 1, after)? && is_told_at(&runs, 2, before)? && has_skipped(&runs)?)
+}
+
+const QUEUED: Told = (RunState::Queued, None, None);
+
+const RUNNING: Told = (RunState::Running, Some(5), None);
+
+const SUCCESS: Told = (RunState::Success, Some(5), Some(6));
+
+const FAILED: Told = (RunState::Failed, Some(5), Some(6));
+
+const SUCCESS_AT_9: Told = (RunState::Success, Some(5), Some(9));
+
+const FAILED_AT_9: Told = (RunState::Failed, Some(5), Some(9));
+
+/// A run before and after a mark.
+const MARKED: &[(Told, Mark, Told)] = &[
+    (QUEUED, Mark::Success, (RunState::Success, None, Some(9))),
+    (RUNNING, Mark::Success, SUCCESS_AT_9),
+    (SUCCESS, Mark::Success, SUCCESS),
+    (FAILED, Mark::Success, SUCCESS_AT_9),
+    (QUEUED, Mark::Failed, (RunState::Failed, None, Some(9))),
+    (RUNNING, Mark::Failed, FAILED_AT_9),
+    (SUCCESS, Mark::Failed, FAILED_AT_9),
+    (FAILED, Mark::Failed, FAILED),
+    (QUEUED, Mark::Queued, QUEUED),
+    (RUNNING, Mark::Queued, QUEUED),
+    (SUCCESS, Mark::Queued, QUEUED),
+    (FAILED, Mark::Queued, QUEUED),
+];
+
 #[test]
 fn each_mark_of_each_state(rt: HostRuntime) -> Result<(), Fail> {
-    use RunState::{Failed, Queued, Running, Success};
-    let queued = (Queued, None, None);
-    let running = (Running, Some(5), None);
-    let success = (Success, Some(5), Some(6));
-    let failed = (Failed, Some(5), Some(6));
-    let table = [
-        (queued, Mark::Success, (Success, None, Some(9))),
-        (running, Mark::Success, (Success, Some(5), Some(9))),
-        (success, Mark::Success, success),
-        (failed, Mark::Success, (Success, Some(5), Some(9))),
-        (queued, Mark::Failed, (Failed, None, Some(9))),
-        (running, Mark::Failed, (Failed, Some(5), Some(9))),
-        (success, Mark::Failed, (Failed, Some(5), Some(9))),
-        (failed, Mark::Failed, failed),
-        (queued, Mark::Queued, queued),
-        (running, Mark::Queued, queued),
-        (success, Mark::Queued, queued),
-        (failed, Mark::Queued, queued),
-    ];
-    for (before, mark, after) in table {
-        let holds = goes(rt.alloc(), before, mark, after)?;
-        assert!(rt; holds, "{:?} marked {mark:?}", before.0);
+    for (row, (before, mark, after)) in MARKED.iter().enumerate() {
+        let goes = goes(rt.alloc(), *before, *mark, *after)?;
+        row_holds(&rt, goes, row);
     }
     Ok(())
 }
@@ -98,53 +130,95 @@ fn each_mark_of_each_state(rt: HostRuntime) -> Result<(), Fail> {
 /// instance alone.
 fn becomes(alloc: Global, mark: Mark, state: TaskState) -> Result<(Instance, bool), Fail> {
     let mut runs = two_runs(alloc, (mark.state(), None, None), state)?;
-    let stood = runs.get(1).is_some_and(|run| run.is_marked(mark));
+    let stood = is_marked(&runs, mark);
     runs.mark(1, mark, moment(9)?);
+    Ok((first_instance(&runs)?, stood))
+}
+
+/// Whether the first run is marked so, by its instance alone.
+fn is_marked(runs: &Runs, mark: Mark) -> bool {
+    match runs.get(1) {
+        Some(run) => run.is_marked(mark),
+        None => false,
+    }
+}
+
+fn first_instance(runs: &Runs) -> Result<Instance, Fail> {
     let Some(run) = runs.get(1) else {
         return Err(Fail::from("no run"));
     };
     match run.instances.as_slice().first() {
-        Some(instance) => Ok((*instance, stood)),
+        Some(instance) => Ok(*instance),
         None => Err(Fail::from("no instance")),
     }
 }
 
+/// Whether an instance in this state, which ended at 7, is as a mark at 9 leaves it in another.
+fn is_marked_so(instance: &Instance, before: TaskState, after: TaskState) -> Result<bool, Fail> {
+    let end_date = moment(if after == before { 7 } else { 9 })?;
+    let wanted = Instance {
+        state: after,
+        try_number: 2,
+        end_date: Some(end_date),
+        ..untried()
+    };
+    Ok(*instance == wanted)
+}
+
+/// The state before, and after the marks success and failed; the mark queued leaves each.
+const STATES: &[(TaskState, TaskState, TaskState)] = &[
+    (TaskState::NoStatus, TaskState::Success, TaskState::Skipped),
+    (TaskState::Scheduled, TaskState::Success, TaskState::Skipped),
+    (TaskState::Queued, TaskState::Success, TaskState::Skipped),
+    (TaskState::Running, TaskState::Success, TaskState::Failed),
+    (TaskState::Success, TaskState::Success, TaskState::Success),
+    (TaskState::Failed, TaskState::Success, TaskState::Failed),
+    (TaskState::Skipped, TaskState::Success, TaskState::Skipped),
+    (
+        TaskState::UpstreamFailed,
+        TaskState::Success,
+        TaskState::UpstreamFailed,
+    ),
+    (
+        TaskState::UpForRetry,
+        TaskState::Success,
+        TaskState::Skipped,
+    ),
+];
+
+/// Whether a mark makes this of an instance, and whether it was told beforehand that it changes nothing where it does not.
+fn makes(
+    alloc: Global,
+    mark: Mark,
+    before: TaskState,
+    after: TaskState,
+) -> Result<(bool, bool), Fail> {
+    let (instance, stood) = becomes(alloc, mark, before)?;
+    let is_made = is_marked_so(&instance, before, after)?;
+    Ok((is_made, stood == (after == before)))
+}
+
+/// Whether each mark makes of an instance what it is to make of it, and that is told beforehand.
+fn each_makes(
+    alloc: Global,
+    before: TaskState,
+    succeeded: TaskState,
+    failed: TaskState,
+) -> Result<[(bool, bool); 3], Fail> {
+    Ok([
+        makes(alloc, Mark::Success, before, succeeded)?,
+        makes(alloc, Mark::Failed, before, failed)?,
+        makes(alloc, Mark::Queued, before, before)?,
+    ])
+}
+
 #[test]
 fn each_mark_of_each_instance(rt: HostRuntime) -> Result<(), Fail> {
-    use TaskState::{
-        Failed, NoStatus, Queued, Running, Scheduled, Skipped, Success, UpForRetry, UpstreamFailed,
-    };
-    // The state before, and after the marks success and failed; the mark queued leaves each.
-    let table = [
-        (NoStatus, Success, Skipped),
-        (Scheduled, Success, Skipped),
-        (Queued, Success, Skipped),
-        (Running, Success, Failed),
-        (Success, Success, Success),
-        (Failed, Success, Failed),
-        (Skipped, Success, Skipped),
-        (UpstreamFailed, Success, UpstreamFailed),
-        (UpForRetry, Success, Skipped),
-    ];
-    for (before, succeeded, failed) in table {
-        for (mark, after) in [
-            (Mark::Success, succeeded),
-            (Mark::Failed, failed),
-            (Mark::Queued, before),
-        ] {
-            let end_date = moment(if after == before { 7 } else { 9 })?;
-            let wanted = Instance {
-                state: after,
-                try_number: 2,
-                end_date: Some(end_date),
-                ..untried()
-            };
-            let (instance, stood) = becomes(rt.alloc(), mark, before)?;
-            assert!(rt; instance == wanted, "{before:?} of a run marked {mark:?}");
-            assert!(rt;
-                stood == (after == before),
-                "no change: {before:?}, {mark:?}"
-            );
+    for (row, (before, succeeded, failed)) in STATES.iter().enumerate() {
+        let told = each_makes(rt.alloc(), *before, *succeeded, *failed)?;
+        for (is_made, is_told) in told {
+            row_holds(&rt, is_made, row);
+            row_holds(&rt, is_told, row);
         }
     }
     Ok(())
@@ -153,29 +227,38 @@ fn each_mark_of_each_instance(rt: HostRuntime) -> Result<(), Fail> {
 #[test]
 fn a_mark_is_that_of_its_state(rt: HostRuntime) -> Result<(), Fail> {
     for mark in [Mark::Success, Mark::Failed, Mark::Queued] {
-        assert!(rt; Mark::of(mark.state()) == Some(mark), "{mark:?}");
+        holds(&rt, Mark::of(mark.state()) == Some(mark), "each mark");
     }
-    assert!(rt;
+    holds(
+        &rt,
         Mark::of(RunState::Running).is_none(),
-        "none is marked running"
+        "none is marked running",
     );
+    Ok(())
+}
+
+/// Ends the test where the mark of one of two running runs leaves it busy, or the mark queued does not.
+fn ends(rt: &impl Abort, alloc: Global, mark: Mark) -> Result<(), Fail> {
+    let (first, second) = (moment(9)?, moment(10)?);
+    let mut runs = two_runs(alloc, RUNNING, TaskState::Running)?;
+    runs.mark(1, mark, first);
+    holds(rt, runs.busy_count() == 1, "one is left");
+    holds(rt, first_busy(&runs) == Some(2), "the other");
+    runs.mark(1, Mark::Queued, second);
+    holds(rt, runs.busy_count() == 2, "queued again");
     Ok(())
 }
 
 #[test]
 fn what_a_mark_ends_is_not_busy(rt: HostRuntime) -> Result<(), Fail> {
-    let alloc = rt.alloc();
-    let running = (RunState::Running, Some(5), None);
-    for mark in [Mark::Success, Mark::Failed] {
-        let mut runs = two_runs(alloc, running, TaskState::Running)?;
-        runs.mark(1, mark, moment(9)?);
-        assert!(rt; runs.busy_count() == 1, "one is left: {mark:?}");
-        assert!(rt;
-            runs.busy_at(0).is_some_and(|run| run.number == 2),
-            "the other: {mark:?}"
-        );
-        runs.mark(1, Mark::Queued, moment(10)?);
-        assert!(rt; runs.busy_count() == 2, "queued again: {mark:?}");
+    ends(&rt, rt.alloc(), Mark::Success)?;
+    ends(&rt, rt.alloc(), Mark::Failed)
+}
+
+/// The number of the first busy run.
+fn first_busy(runs: &Runs) -> Option<u64> {
+    match runs.busy_at(0) {
+        Some(run) => Some(run.number),
+        None => None,
     }
-    Ok(())
 }

@@ -1,7 +1,8 @@
-use crate::tests::openings::{add_run, at, instances, moment, new_run, state_of, task, tried};
+use crate::tests::asserts::{all_go, holds};
+use crate::tests::openings::{add_run_of_g, at, instances, moment, state_of, task, tried};
 use crate::tests::seen::states_are;
 use crate::tests::steps::{Step, first_fault};
-use af_graph::{Dag, DagSpec, Points, Rule, Schedule, TaskSpecs, TaskState};
+use af_graph::{Dag, DagSpec, Points, Rule, Schedule, TaskSpec, TaskSpecs, TaskState};
 use af_names::{DagId, NamesDag, PoolName, RunId};
 use af_runs::{RunFault, RunState};
 use af_sched::{AddDagFault, DagRow, State};
@@ -31,28 +32,38 @@ const FAULTS: [(&str, u32, u32, Result<(), AddDagFault>); 6] = [
 
 #[test]
 fn a_dag_is_added_once(rt: HostRuntime) -> Result<(), Fail> {
-    let alloc = rt.alloc();
-    let mut state = State::new(alloc)?;
-    let fault = first_fault(alloc, &mut state, ADDED_ONCE)?;
-    assert!(rt; fault.is_none(), "step {fault:?}");
-    let first = state.dags().first();
-    assert!(rt;
-        first.is_some_and(|row| row.dag_id().as_str() == "a"),
-        "a row names its DAG"
-    );
+    let mut state = State::new(rt.alloc())?;
+    let fault = first_fault(rt.alloc(), &mut state, ADDED_ONCE)?;
+    all_go(&rt, fault, "the steps");
+    holds(&rt, is_first_dag(&state, "a"), "a row names its DAG");
     Ok(())
+}
+
+/// Whether the first row names this DAG.
+fn is_first_dag(state: &State, dag_id: &str) -> bool {
+    match state.dags().first() {
+        Some(row) => row.dag_id().as_str() == dag_id,
+        None => false,
+    }
+}
+
+/// One task of this pool.
+fn only_of(alloc: Global, pool: &str) -> Result<Vec<TaskSpec>, Fail> {
+    let mut only = task(alloc, "t", &[], Rule::AllSuccess)?;
+    only.pool = PoolName::parse(alloc, pool)?;
+    Ok(vec![in alloc; only]?)
 }
 
 /// A DAG of one task of this pool, of which so many runs may be running, every so many seconds.
 fn every(alloc: Global, pool: &str, most: u32, seconds: u32) -> Result<DagRow, Fail> {
-    let mut only = task(alloc, "t", &[], Rule::AllSuccess)?;
-    only.pool = PoolName::parse(alloc, pool)?;
+    let tasks = only_of(alloc, pool)?;
+    let start_date = at("2024-01-01T00:00:00Z")?;
     let spec = DagSpec {
         dag_id: DagId::parse(alloc, "g")?,
-        tasks: TaskSpecs::of(vec![in alloc; only]?),
+        tasks: TaskSpecs::of(tasks),
         schedule: Some(Schedule {
             points: Points::Seconds(seconds),
-            start_date: at("2024-01-01T00:00:00Z")?,
+            start_date,
         }),
         catchup: true,
         max_active_runs: most,
@@ -62,11 +73,10 @@ fn every(alloc: Global, pool: &str, most: u32, seconds: u32) -> Result<DagRow, F
 
 #[test]
 fn the_first_fault_of_a_dag_is_told(rt: HostRuntime) -> Result<(), Fail> {
-    let alloc = rt.alloc();
-    let mut state = State::new(alloc)?;
+    let mut state = State::new(rt.alloc())?;
     for (pool, most, seconds, wanted) in FAULTS {
-        let told = state.add_dag(every(alloc, pool, most, seconds)?);
-        assert!(rt; told == wanted, "{pool} {most} {seconds}: {told:?}");
+        let told = state.add_dag(every(rt.alloc(), pool, most, seconds)?);
+        holds(&rt, told == wanted, pool);
     }
     Ok(())
 }
@@ -101,16 +111,20 @@ fn run_fault(
     run_id: &str,
     date: u64,
 ) -> Result<Option<RunFault>, Fail> {
+    let date = moment(date)?;
     let dag_id = DagId::parse(alloc, "g")?;
     let run_id = RunId::parse(alloc, run_id)?;
-    Ok(state.run_fault(&dag_id, &run_id, moment(date)?))
+    Ok(state.run_fault(&dag_id, &run_id, date))
 }
 
 /// The number of the run of this id of DAG g.
 fn number_of(alloc: Global, state: &State, run_id: &str) -> Result<Option<u64>, Fail> {
     let dag_id = DagId::parse(alloc, "g")?;
     let run_id = RunId::parse(alloc, run_id)?;
-    Ok(state.run(&dag_id, &run_id).map(|run| run.number))
+    Ok(match state.run(&dag_id, &run_id) {
+        Some(run) => Some(run.number),
+        None => None,
+    })
 }
 
 /// Adds run s of DAG g, where memory is reserved: its number.
@@ -118,7 +132,7 @@ fn added(alloc: Global, state: &mut State) -> Result<u64, Fail> {
     state.reserve_runs(3)?;
     state.reserve_pools(3)?;
     let untried = instances(alloc, UNTRIED)?;
-    add_run(state, new_run(alloc, "g", "s", moment(1)?, untried)?)
+    add_run_of_g(alloc, state, "s", 1, untried)
 }
 
 #[test]
@@ -126,7 +140,7 @@ fn why_a_run_is_not_added_is_told(rt: HostRuntime) -> Result<(), Fail> {
     let state = state_of(rt.alloc(), tried(TaskState::NoStatus, 0))?;
     for (run_id, date, wanted) in RUN_FAULTS {
         let told = run_fault(rt.alloc(), &state, run_id, date)?;
-        assert!(rt; told == wanted, "{told:?}");
+        holds(&rt, told == wanted, run_id);
     }
     Ok(())
 }
@@ -135,12 +149,19 @@ fn why_a_run_is_not_added_is_told(rt: HostRuntime) -> Result<(), Fail> {
 fn a_run_is_added_and_looked_up(rt: HostRuntime) -> Result<(), Fail> {
     let mut state = state_of(rt.alloc(), tried(TaskState::NoStatus, 0))?;
     let number = added(rt.alloc(), &mut state)?;
-    assert!(rt; number == 2, "the second run");
+    holds(&rt, number == 2, "the second run");
     let by_ids = number_of(rt.alloc(), &state, "s")?;
-    assert!(rt; by_ids == Some(2), "by its ids");
-    let by_number = state.run_numbered(2).map(|run| run.logical_date.micros());
-    assert!(rt; by_number == Some(1), "by its number");
+    holds(&rt, by_ids == Some(2), "by its ids");
+    holds(&rt, is_dated(&state, 2, 1), "by its number");
     Ok(())
+}
+
+/// Whether the run of a number is of this date in microseconds.
+fn is_dated(state: &State, number: u64, date: u64) -> bool {
+    match state.run_numbered(number) {
+        Some(run) => run.logical_date.micros() == date,
+        None => false,
+    }
 }
 
 #[test]
@@ -148,6 +169,10 @@ fn a_run_is_advanced(rt: HostRuntime) -> Result<(), Fail> {
     let mut state = state_of(rt.alloc(), tried(TaskState::NoStatus, 0))?;
     let _number = added(rt.alloc(), &mut state)?;
     fail_run(rt.alloc(), &mut state, 1)?;
-    assert!(rt; states_are(&state, ONE_HAS_FAILED), "the first is advanced");
+    holds(
+        &rt,
+        states_are(&state, ONE_HAS_FAILED),
+        "the first is advanced",
+    );
     Ok(())
 }

@@ -1,12 +1,13 @@
+use crate::tests::asserts::{all_go, holds};
 use crate::tests::openings::{
-    add_dag_of_one, add_run_of_one, instances, moment, state_of, task, tried, with_pool,
+    add_dag_of_one, add_run_of_one, instances, moment, pooled_tasks, state_of, tried, with_pool,
 };
 use crate::tests::seen::first_instance;
-use crate::tests::steps::{Step, claim_of, first_fault};
-use af_graph::{Rule, TaskState};
-use af_names::{DagId, TaskId};
+use crate::tests::steps::{Step, claim_of, first_fault, reports};
+use af_graph::TaskState;
+use af_names::{DagId, Instant, TaskId};
 use af_runs::Instance;
-use af_sched::{Executor, Outcome, ReportFault, Script, Scripted, State};
+use af_sched::{Claim, Executor, Outcome, ReportFault, Script, Scripted, State};
 use std::alloc::Global;
 use std::test::Fail;
 
@@ -59,19 +60,33 @@ fn tries_are_claimed_and_reported(rt: HostRuntime) -> Result<(), Fail> {
     for (name, state, try_number, steps) in STORIES {
         let mut state = state_of(rt.alloc(), tried(state, try_number))?;
         let fault = first_fault(rt.alloc(), &mut state, steps)?;
-        assert!(rt; fault.is_none(), "{name}: step {fault:?}");
+        all_go(&rt, fault, name);
     }
     Ok(())
+}
+
+/// Whether it is taken that this try of task t of run 1 failed at this moment.
+fn fails(alloc: Global, state: &mut State, try_number: u32, micros: u64) -> Result<bool, Fail> {
+    let claim = claim_of(alloc, 1, "t", try_number)?;
+    reports(state, &claim, Outcome::Failed, micros, Ok(()))
 }
 
 /// What becomes of a running instance at this try, with one retry, that fails at this moment.
 fn after_failure(alloc: Global, try_number: u32, micros: u64) -> Result<Instance, Fail> {
     let mut state = state_of(alloc, tried(TaskState::Running, try_number))?;
-    let steps = [Step::Reports(1, "t", try_number, Outcome::Failed, micros, Ok(()))];
-    if first_fault(alloc, &mut state, &steps)?.is_some() {
-        return Err(Fail::from("not taken"));
+    if fails(alloc, &mut state, try_number, micros)? {
+        first_instance(&state)
+    } else {
+        Err(Fail::from("not taken"))
     }
-    first_instance(&state)
+}
+
+/// A moment so many microseconds after 1970, where there is one.
+fn maybe(micros: Option<u64>) -> Result<Option<Instant>, Fail> {
+    match micros {
+        Some(micros) => Ok(Some(moment(micros)?)),
+        None => Ok(None),
+    }
 }
 
 /// A failure of this try at this moment: the state after it, and the moment of the next try.
@@ -93,19 +108,23 @@ const FAILURES: [(&str, u32, u64, TaskState, Option<u64>); 3] = [
     ),
 ];
 
+/// Whether an instance is tried again then, or never.
+fn is_tried_at(instance: &Instance, retry_at: Option<u64>) -> Result<bool, Fail> {
+    Ok(instance.retry_at == maybe(retry_at)?)
+}
+
+/// Whether an instance ended at this moment.
+fn has_ended_at(instance: &Instance, micros: u64) -> Result<bool, Fail> {
+    Ok(instance.end_date == maybe(Some(micros))?)
+}
+
 #[test]
 fn a_failed_try_is_tried_again(rt: HostRuntime) -> Result<(), Fail> {
     for (name, try_number, micros, state, retry_at) in FAILURES {
         let instance = after_failure(rt.alloc(), try_number, micros)?;
-        assert!(rt; instance.state == state, "{name}");
-        assert!(rt;
-            instance.retry_at.map(|moment| moment.micros()) == retry_at,
-            "its moment: {name}"
-        );
-        assert!(rt;
-            instance.end_date == Some(moment(micros)?),
-            "the try has ended: {name}"
-        );
+        holds(&rt, instance.state == state, name);
+        holds(&rt, is_tried_at(&instance, retry_at)?, name);
+        holds(&rt, has_ended_at(&instance, micros)?, name);
     }
     Ok(())
 }
@@ -119,19 +138,19 @@ const THE_HEAVIEST_FIRST: &[Step] = &[
     Step::ClaimsNone,
 ];
 
+const ONE_IS_HEAVY: &[(&str, u64, i32)] = &[("b", 1, 1), ("heavy", 1, 5), ("a", 1, 1)];
+
+/// Three queued instances, the second of which weighs 5.
+fn three_queued(alloc: Global) -> Result<State, Fail> {
+    let tasks = pooled_tasks(alloc, ONE_IS_HEAVY)?;
+    with_pool(alloc, 2, tasks, true, instances(alloc, THREE_QUEUED)?)
+}
+
 #[test]
 fn a_claim_takes_the_greatest_weight(rt: HostRuntime) -> Result<(), Fail> {
-    let alloc = rt.alloc();
-    let mut heavy = task(alloc, "heavy", &[], Rule::AllSuccess)?;
-    heavy.priority_weight = 5;
-    let tasks = vec![in alloc;
-        task(alloc, "b", &[], Rule::AllSuccess)?,
-        heavy,
-        task(alloc, "a", &[], Rule::AllSuccess)?,
-    ]?;
-    let mut state = with_pool(alloc, 2, tasks, true, instances(alloc, THREE_QUEUED)?)?;
-    let fault = first_fault(alloc, &mut state, THE_HEAVIEST_FIRST)?;
-    assert!(rt; fault.is_none(), "step {fault:?}");
+    let mut state = three_queued(rt.alloc())?;
+    let fault = first_fault(rt.alloc(), &mut state, THE_HEAVIEST_FIRST)?;
+    all_go(&rt, fault, "the heaviest first");
     Ok(())
 }
 
@@ -154,18 +173,31 @@ const WEIGHTS: [(&str, i32); 2] = [("g", 1), ("h", 5)];
 
 const RUNS: [(&str, &str, u64); 4] = [("g", "a", 0), ("h", "a", 0), ("g", "b", 1), ("h", "b", 1)];
 
+fn number_of(claim: Option<&Claim>) -> Option<u64> {
+    match claim {
+        Some(claim) => Some(claim.run_number),
+        None => None,
+    }
+}
+
+/// The number of the run whose instance is claimed next.
+fn claimed(alloc: Global, state: &mut State) -> Result<Option<u64>, Fail> {
+    let claim = state.claim(alloc, moment(3)?)?;
+    Ok(number_of(claim.as_ref()))
+}
+
 #[test]
 fn a_heavier_task_of_a_later_run_is_claimed_first(rt: HostRuntime) -> Result<(), Fail> {
-    let alloc = rt.alloc();
-    let mut state = two_weights(alloc)?;
+    let mut state = two_weights(rt.alloc())?;
     for number in IN_TURN {
-        let claim = state.claim(alloc, moment(3)?)?;
-        assert!(rt;
-            claim.is_some_and(|claim| claim.run_number == number),
-            "run {number}"
-        );
+        let told = claimed(rt.alloc(), &mut state)?;
+        holds(&rt, told == Some(number), "each in turn");
     }
-    assert!(rt; state.claim(alloc, moment(3)?)?.is_none(), "none is left");
+    holds(
+        &rt,
+        claimed(rt.alloc(), &mut state)?.is_none(),
+        "none is left",
+    );
     Ok(())
 }
 
@@ -176,22 +208,25 @@ const SCRIPT: [(&str, u32, Outcome); 4] = [
     ("u", 1, Outcome::Success),
 ];
 
+/// A script by which the first try of task t of DAG g fails, and the second is skipped.
+fn script(alloc: Global) -> Result<Script, Fail> {
+    let dag_id = DagId::parse(alloc, "g")?;
+    let task_id = TaskId::parse(alloc, "t")?;
+    let outcomes = vec![in alloc; Outcome::Failed, Outcome::Skipped]?;
+    Ok(Script::new(dag_id, task_id, outcomes))
+}
+
+fn executor(alloc: Global) -> Result<Scripted, Fail> {
+    Ok(Scripted::new(vec![in alloc; script(alloc)?]?))
+}
+
 #[test]
 fn a_script_answers_by_try(rt: HostRuntime) -> Result<(), Fail> {
-    let alloc = rt.alloc();
-    let outcomes = vec![in alloc; Outcome::Failed, Outcome::Skipped]?;
-    let script = Script::new(
-        DagId::parse(alloc, "g")?,
-        TaskId::parse(alloc, "t")?,
-        outcomes,
-    );
-    let mut executor = Scripted::new(vec![in alloc; script]?);
+    let mut executor = executor(rt.alloc())?;
     for (task_id, try_number, wanted) in SCRIPT {
-        let claim = claim_of(alloc, 1, task_id, try_number)?;
-        assert!(rt;
-            executor.run(&claim) == wanted,
-            "try {try_number} of {task_id}"
-        );
+        let claim = claim_of(rt.alloc(), 1, task_id, try_number)?;
+        let told = executor.run(&claim);
+        holds(&rt, told == wanted, task_id);
     }
     Ok(())
 }

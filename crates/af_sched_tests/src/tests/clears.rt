@@ -1,20 +1,24 @@
-use crate::tests::openings::{add_run, dag, moment, new_run, task};
+use crate::tests::asserts::all_go;
+use crate::tests::openings::{add_run_of_g, dag, only, state_with, task};
 use crate::tests::redone::cleared;
 use crate::tests::steps::{Step, first_fault};
 use af_graph::{Rule, TaskState};
-use af_runs::{Instances, Mark, RunState};
-use af_sched::{Outcome, ReportFault, State};
+use af_runs::{Mark, RunState};
+use af_sched::{DagRow, Outcome, ReportFault, State};
 use std::alloc::Global;
 use std::test::Fail;
 
-/// A DAG g of one task t without retries, and a new run r of it.
-fn one_run(alloc: Global) -> Result<State, Fail> {
+/// A DAG g of one task t without retries.
+fn without_retries(alloc: Global) -> Result<DagRow, Fail> {
     let mut only = task(alloc, "t", &[], Rule::AllSuccess)?;
     only.retries = 0;
-    let mut state = State::new(alloc)?;
-    state.add_dag(dag(alloc, "g", vec![in alloc; only]?, false)?)?;
-    let untried = Instances::of(vec![in alloc; cleared(0, 0)]?);
-    let _number = add_run(&mut state, new_run(alloc, "g", "r", moment(0)?, untried)?)?;
+    dag(alloc, "g", vec![in alloc; only]?, false)
+}
+
+/// A DAG g of one task t without retries, and a new run r of it.
+fn one_run(alloc: Global) -> Result<State, Fail> {
+    let mut state = state_with(alloc, without_retries(alloc)?)?;
+    let _number = add_run_of_g(alloc, &mut state, "r", 0, only(alloc, cleared(0, 0))?)?;
     Ok(state)
 }
 
@@ -138,7 +142,7 @@ fn what_was_done_is_done_again(rt: HostRuntime) -> Result<(), Fail> {
     for (name, steps) in STORIES {
         let mut state = one_run(rt.alloc())?;
         let fault = first_fault(rt.alloc(), &mut state, steps)?;
-        assert!(rt; fault.is_none(), "{name}: step {fault:?}");
+        all_go(&rt, fault, name);
     }
     Ok(())
 }

@@ -1,7 +1,9 @@
+use crate::tests::asserts::{all_go, holds};
 use crate::tests::openings::{add_run, at, instances, new_run, scheduled};
 use crate::tests::steps::{Step, first_fault};
 use af_graph::TaskState;
 use af_names::Preset;
+use af_sched::State;
 use std::alloc::Global;
 use std::test::Fail;
 
@@ -159,16 +161,23 @@ fn fault_in(alloc: Global, story: &Story) -> Result<Option<usize>, Fail> {
 fn runs_fall_due_by_the_schedule(rt: HostRuntime) -> Result<(), Fail> {
     for story in STORIES {
         let fault = fault_in(rt.alloc(), story)?;
-        assert!(rt; fault.is_none(), "{}: step {fault:?}", story.name);
+        all_go(&rt, fault, story.name);
     }
+    Ok(())
+}
+
+/// Adds a run of DAG s of this id and this date, whose instance has succeeded.
+fn add_done(alloc: Global, state: &mut State, run_id: &str, date: &str) -> Result<(), Fail> {
+    let date = at(date)?;
+    let done = instances(alloc, &[TaskState::Success])?;
+    let _number = add_run(state, new_run(alloc, "s", run_id, date, done)?)?;
     Ok(())
 }
 
 /// Whether February is passed over where a run of this id and this date is there, and the cursor moves to March.
 fn is_passed_over(alloc: Global, run_id: &str, date: &str) -> Result<bool, Fail> {
     let mut state = scheduled(alloc, Preset::Monthly, END_OF_JANUARY, true, false)?;
-    let done = instances(alloc, &[TaskState::Success])?;
-    let _number = add_run(&mut state, new_run(alloc, "s", run_id, at(date)?, done)?)?;
+    add_done(alloc, &mut state, run_id, date)?;
     Ok(first_fault(alloc, &mut state, FEBRUARY_IS_PASSED_OVER)?.is_none())
 }
 
@@ -178,8 +187,8 @@ const TAKEN: [(&str, &str); 2] = [(RUN_OF_FEBRUARY, EPOCH), ("february", FEBRUAR
 #[test]
 fn a_taken_id_or_date_is_passed_over(rt: HostRuntime) -> Result<(), Fail> {
     for (run_id, date) in TAKEN {
-        let holds = is_passed_over(rt.alloc(), run_id, date)?;
-        assert!(rt; holds, "{run_id} of {date}");
+        let is_passed = is_passed_over(rt.alloc(), run_id, date)?;
+        holds(&rt, is_passed, run_id);
     }
     Ok(())
 }

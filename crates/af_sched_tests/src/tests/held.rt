@@ -1,7 +1,8 @@
+use crate::tests::asserts::holds;
 use crate::tests::openings::{
-    add_dag_of_one, add_run_of_one, instances, moment, pooled, with_pool,
+    add_dag_of_one, add_pool, add_run_of_one, instances, moment, pooled_tasks, with_pool,
 };
-use af_graph::{TaskSpec, TaskState};
+use af_graph::TaskState;
 use af_names::PoolName;
 use af_runs::Mark;
 use af_sched::{Held, State};
@@ -41,29 +42,28 @@ const OF_THE_DEFAULT: Held = Held {
     running: 0,
 };
 
-fn four_of_p(alloc: Global) -> Result<Vec<TaskSpec>, Fail> {
-    Ok(vec![in alloc;
-        pooled(alloc, "a", 3, 1)?,
-        pooled(alloc, "b", 1, 1)?,
-        pooled(alloc, "c", 1, 1)?,
-        pooled(alloc, "d", 1, 1)?,
-    ]?)
+const TASKS: &[(&str, u64, i32)] = &[("a", 3, 1), ("b", 1, 1), ("c", 1, 1), ("d", 1, 1)];
+
+/// Four instances of pool p.
+fn four_instances(alloc: Global) -> Result<State, Fail> {
+    let tasks = pooled_tasks(alloc, TASKS)?;
+    with_pool(alloc, 9, tasks, false, instances(alloc, STATES)?)
+}
+
+/// Adds two instances of the default pool, of which one is of a run that has ended.
+fn add_two(alloc: Global, state: &mut State) -> Result<(), Fail> {
+    add_dag_of_one(alloc, state, "h", 1, false)?;
+    let _queued = add_run_of_one(alloc, state, "h", "a", 0, TaskState::Queued)?;
+    let ended = add_run_of_one(alloc, state, "h", "b", 1, TaskState::Queued)?;
+    state.mark_run(ended, Mark::Success, moment(2)?);
+    Ok(())
 }
 
 /// Four instances of pool p, two of the default pool, of which one is of a run that has ended, and none of pool q.
 fn six_instances(alloc: Global) -> Result<State, Fail> {
-    let mut state = with_pool(
-        alloc,
-        9,
-        four_of_p(alloc)?,
-        false,
-        instances(alloc, STATES)?,
-    )?;
-    state.add_pool(PoolName::parse(alloc, "q")?, 1)?;
-    add_dag_of_one(alloc, &mut state, "h", 1, false)?;
-    let _queued = add_run_of_one(alloc, &mut state, "h", "a", 0, TaskState::Queued)?;
-    let ended = add_run_of_one(alloc, &mut state, "h", "b", 1, TaskState::Queued)?;
-    state.mark_run(ended, Mark::Success, moment(2)?);
+    let mut state = four_instances(alloc)?;
+    add_pool(alloc, &mut state, "q", 1)?;
+    add_two(alloc, &mut state)?;
     Ok(state)
 }
 
@@ -78,7 +78,7 @@ fn what_instances_hold_of_a_pool_is_told(rt: HostRuntime) -> Result<(), Fail> {
     ];
     for (name, wanted) in rows {
         let told = state.held(&PoolName::parse(rt.alloc(), name)?);
-        assert_eq!(rt; told, wanted, "{name}");
+        holds(&rt, told == wanted, name);
     }
     Ok(())
 }
@@ -88,7 +88,7 @@ fn what_instances_hold_of_a_page_is_told(rt: HostRuntime) -> Result<(), Fail> {
     let state = six_instances(rt.alloc())?;
     for (limit, offset, wanted) in PAGES {
         let told = state.each_held(rt.alloc(), limit, offset)?;
-        assert!(rt; told.as_slice() == wanted, "{limit} after {offset}");
+        holds(&rt, told.as_slice() == wanted, "the page");
     }
     Ok(())
 }

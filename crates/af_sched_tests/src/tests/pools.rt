@@ -1,4 +1,5 @@
-use crate::tests::openings::{instances, pooled, with_pool};
+use crate::tests::asserts::holds;
+use crate::tests::openings::{add_pool, instances, pooled_tasks, with_pool};
 use af_graph::TaskState;
 use af_names::PoolName;
 use af_pool::PoolFault;
@@ -30,73 +31,100 @@ const FAULTS: [(&str, u64, Option<PoolFault>, Option<PoolFault>); 4] = [
 
 const BAD: Option<PoolFault> = Some(PoolFault::BadSlots);
 
+/// The default pool, and p of two slots, which the only task names.
+fn two_pools(alloc: Global) -> Result<State, Fail> {
+    let tasks = pooled_tasks(alloc, &[("t", 1, 1)])?;
+    with_pool(alloc, 2, tasks, false, instances(alloc, UNTRIED)?)
+}
+
 /// The default pool, p of two slots, which the only task names, and q, which no task names.
 fn three_pools(alloc: Global) -> Result<State, Fail> {
-    let tasks = vec![in alloc; pooled(alloc, "t", 1, 1)?]?;
-    let mut state = with_pool(alloc, 2, tasks, false, instances(alloc, UNTRIED)?)?;
+    let mut state = two_pools(alloc)?;
     state.reserve_pools(1)?;
-    state.add_pool(PoolName::parse(alloc, "q")?, 7)?;
+    add_pool(alloc, &mut state, "q", 7)?;
     Ok(state)
 }
 
 /// Whether the pools have these names and slots.
 fn are_pools(state: &State, wanted: &[(&str, u32)]) -> bool {
     let rows = state.pools();
+    for (row, (name, slots)) in rows.iter().zip(wanted) {
+        if row.name.as_str() != *name || row.slots != *slots {
+            return false;
+        }
+    }
     rows.len() == wanted.len()
-        && rows.iter().zip(wanted).all(|(row, want)| row.name.as_str() == want.0
-            && row.slots == want.1)
 }
 
-/// Removes a pool, and compares what is told beforehand and then.
-fn remove(
-    rt: &impl Abort,
+/// Removes a pool: what is told beforehand, and then.
+fn removed(
     alloc: Global,
     state: &mut State,
     name: &str,
-    wanted: Option<PoolFault>,
-) -> Result<(), Fail> {
+) -> Result<(Option<PoolFault>, Option<PoolFault>), Fail> {
     let pool = PoolName::parse(alloc, name)?;
-    assert_eq!(rt; state.remove_pool_fault(&pool), wanted, "{name} beforehand");
-    assert_eq!(rt; state.remove_pool(&pool).err(), wanted, "{name}");
+    let before = state.remove_pool_fault(&pool);
+    Ok((before, state.remove_pool(&pool).err()))
+}
+
+/// Ends the test where the removal of a pool is not foretold and told as it should be.
+fn are_removed(rt: &impl Abort, alloc: Global, state: &mut State) -> Result<(), Fail> {
+    for (name, wanted) in REMOVED {
+        let (before, then) = removed(alloc, state, name)?;
+        holds(rt, before == wanted, name);
+        holds(rt, then == wanted, name);
+    }
     Ok(())
 }
 
 #[test]
 fn a_pool_that_is_needed_stays(rt: HostRuntime) -> Result<(), Fail> {
-    let alloc = rt.alloc();
-    let mut state = three_pools(alloc)?;
-    for (name, wanted) in REMOVED {
-        remove(&rt, alloc, &mut state, name, wanted)?;
-    }
-    assert!(rt; are_pools(&state, LEFT), "the pools that are left");
+    let mut state = three_pools(rt.alloc())?;
+    are_removed(&rt, rt.alloc(), &mut state)?;
+    holds(&rt, are_pools(&state, LEFT), "the pools that are left");
     Ok(())
+}
+
+/// The faults that are foretold of a pool of this name and so many slots: where it is added, and where it gets these.
+fn foretold(
+    alloc: Global,
+    state: &State,
+    name: &str,
+    slots: u64,
+) -> Result<(Option<PoolFault>, Option<PoolFault>), Fail> {
+    let pool = PoolName::parse(alloc, name)?;
+    Ok((
+        state.add_pool_fault(&pool, slots),
+        state.set_slots_fault(&pool, slots),
+    ))
 }
 
 #[test]
 fn faults_of_pools_are_told_beforehand(rt: HostRuntime) -> Result<(), Fail> {
-    let alloc = rt.alloc();
-    let state = three_pools(alloc)?;
+    let state = three_pools(rt.alloc())?;
     for (name, slots, adding, setting) in FAULTS {
-        let pool = PoolName::parse(alloc, name)?;
-        assert_eq!(rt; state.add_pool_fault(&pool, slots), adding, "adding {name}");
-        assert_eq!(rt;
-            state.set_slots_fault(&pool, slots),
-            setting,
-            "setting {name}"
-        );
+        let (added, set) = foretold(rt.alloc(), &state, name, slots)?;
+        holds(&rt, added == adding, name);
+        holds(&rt, set == setting, name);
     }
     Ok(())
 }
 
 #[test]
 fn a_pool_is_looked_up(rt: HostRuntime) -> Result<(), Fail> {
-    let alloc = rt.alloc();
-    let state = three_pools(alloc)?;
+    let state = three_pools(rt.alloc())?;
     for (name, wanted) in [("q", Some(7)), ("p", Some(2)), ("x", None)] {
-        let told = state
-            .pool(&PoolName::parse(alloc, name)?)
-            .map(|pool| pool.slots);
-        assert_eq!(rt; told, wanted, "{name}");
+        let told = slots_of(rt.alloc(), &state, name)?;
+        holds(&rt, told == wanted, name);
     }
     Ok(())
+}
+
+/// The slots of the pool of this name.
+pub fn slots_of(alloc: Global, state: &State, name: &str) -> Result<Option<u32>, Fail> {
+    let name = PoolName::parse(alloc, name)?;
+    match state.pool(&name) {
+        Some(pool) => Ok(Some(pool.slots)),
+        None => Ok(None),
+    }
 }

@@ -1,6 +1,8 @@
+use crate::tests::asserts::holds;
 use crate::tests::openings::{add_dag_of_one, add_run_of_one};
 use af_graph::TaskState;
 use af_names::DagId;
+use af_runs::Run;
 use af_sched::State;
 use std::alloc::Global;
 use std::test::Fail;
@@ -12,17 +14,17 @@ fn with_runs(alloc: Global, runs: &[&str]) -> Result<State, Fail> {
         add_dag_of_one(alloc, &mut state, dag_id, 1, true)?;
     }
     for (date, dag_id) in runs.iter().enumerate() {
-        let run_id = format!(in alloc; "r{date}")?;
-        let _number = add_run_of_one(
-            alloc,
-            &mut state,
-            dag_id,
-            run_id.as_str(),
-            date as u64,
-            TaskState::NoStatus,
-        )?;
+        add_dated(alloc, &mut state, dag_id, date as u64)?;
     }
     Ok(state)
+}
+
+/// Adds a run of this date, by which it is called.
+fn add_dated(alloc: Global, state: &mut State, dag_id: &str, date: u64) -> Result<(), Fail> {
+    let run_id = format!(in alloc; "r{date}")?;
+    let run_id = run_id.as_str();
+    let _number = add_run_of_one(alloc, state, dag_id, run_id, date, TaskState::NoStatus)?;
+    Ok(())
 }
 
 /// Whether the runs of a DAG have these numbers, from a place among them on.
@@ -34,14 +36,41 @@ fn are(
     wanted: &[u64],
 ) -> Result<bool, Fail> {
     let dag_id = DagId::parse(alloc, dag_id)?;
-    let mut page = state.runs_of_dag(&dag_id, from);
-    let first = state.run_of_dag(&dag_id, from).map(|run| run.number);
-    let mut same = first == wanted.first().copied();
-    for number in wanted {
-        same = same && page.next().is_some_and(|run| run.number == *number);
-    }
     let count = state.count_of_dag(&dag_id);
-    Ok(same && page.next().is_none() && count == from.saturating_add(wanted.len()))
+    Ok(
+        number_of(state.run_of_dag(&dag_id, from)) == wanted.first().copied()
+            && is_page(state, &dag_id, from, wanted)
+            && count == from.saturating_add(wanted.len()),
+    )
+}
+
+/// Whether the runs of a DAG from a place on have these numbers.
+fn is_page(state: &State, dag_id: &DagId, from: usize, wanted: &[u64]) -> bool {
+    let mut page = state.runs_of_dag(dag_id, from);
+    for number in wanted {
+        if number_of(page.next()) != Some(*number) {
+            return false;
+        }
+    }
+    page.next().is_none()
+}
+
+fn number_of(run: Option<&Run>) -> Option<u64> {
+    match run {
+        Some(run) => Some(run.number),
+        None => None,
+    }
+}
+
+/// Whether the runs that have not ended have these numbers.
+fn are_busy(state: &State, wanted: &[u64]) -> bool {
+    let mut busy = state.busy_runs();
+    for number in wanted {
+        if number_of(busy.next()) != Some(*number) {
+            return false;
+        }
+    }
+    busy.next().is_none()
 }
 
 /// A DAG, a place, and the numbers of its runs from there on: first of all runs, then without number 3.
@@ -67,22 +96,27 @@ fn all_are(alloc: Global, state: &State, table: &[(&str, usize, &[u64])]) -> Res
     Ok(all)
 }
 
-#[test]
-fn runs_of_a_dag_are_read_from_any_place(rt: HostRuntime) -> Result<(), Fail> {
-    let alloc = rt.alloc();
-    let mut state = with_runs(alloc, ADDED)?;
-    assert!(rt; all_are(alloc, &state, &ALL)?, "all runs");
+/// Takes run 3 out, and run 7, which is not there.
+fn remove_two(state: &mut State) {
     state.remove_run(3);
     state.remove_run(7);
-    assert!(rt; all_are(alloc, &state, &WITHOUT_THREE)?, "without number 3");
-    let mut busy = state.busy_runs();
-    for number in BUSY {
-        assert!(rt;
-            busy.next().is_some_and(|run| run.number == number),
-            "each that has not ended"
-        );
-    }
-    assert!(rt; busy.next().is_none(), "and no other");
-    assert!(rt; state.next_run() == Some(6), "no number is used again");
+}
+
+#[test]
+fn runs_of_a_dag_are_read_from_any_place(rt: HostRuntime) -> Result<(), Fail> {
+    let mut state = with_runs(rt.alloc(), ADDED)?;
+    holds(&rt, all_are(rt.alloc(), &state, &ALL)?, "all runs");
+    remove_two(&mut state);
+    holds(
+        &rt,
+        all_are(rt.alloc(), &state, &WITHOUT_THREE)?,
+        "without number 3",
+    );
+    holds(
+        &rt,
+        are_busy(&state, &BUSY),
+        "each that has not ended, and no other",
+    );
+    holds(&rt, state.next_run() == Some(6), "no number is used again");
     Ok(())
 }

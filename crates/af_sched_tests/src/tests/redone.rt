@@ -1,10 +1,10 @@
-use crate::tests::openings::{add_run, instances, moment, new_run};
+use crate::tests::openings::{add_run_of_g, instances, moment, task_ids};
 use crate::tests::seen::first_instance_is;
 use crate::tests::steps::Step;
-use af_graph::{TaskIds, TaskState};
-use af_names::{DagId, TaskId};
+use af_graph::TaskState;
+use af_names::DagId;
 use af_runs::{Instance, RunFilter, Selection};
-use af_sched::State;
+use af_sched::{Claim, State};
 use std::alloc::Global;
 use std::test::Fail;
 
@@ -33,8 +33,7 @@ pub fn redone(alloc: Global, state: &mut State, step: Step) -> Result<bool, Fail
 /// Whether a run that is added gets this number.
 fn adds_run(alloc: Global, state: &mut State, number: u64) -> Result<bool, Fail> {
     let untried = instances(alloc, UNTRIED)?;
-    let new = new_run(alloc, "g", "r", moment(0)?, untried)?;
-    Ok(add_run(state, new)? == number)
+    Ok(add_run_of_g(alloc, state, "r", 0, untried)? == number)
 }
 
 /// Whether a step that clears instances, or asks which a clear would touch, goes as it says.
@@ -42,8 +41,7 @@ fn cleared_or_chosen(alloc: Global, state: &mut State, step: Step) -> Result<boo
     match step {
         Step::Clears(only_failed) => {
             let selection = of_t(alloc, state, only_failed)?;
-            state.clear_instances(&of_g(alloc)?, &selection);
-            Ok(true)
+            clears(alloc, state, &selection)
         }
         Step::ClearsRun(number, only_failed) => {
             let selection = of_t(alloc, state, only_failed)?;
@@ -51,20 +49,35 @@ fn cleared_or_chosen(alloc: Global, state: &mut State, step: Step) -> Result<boo
             Ok(true)
         }
         Step::Alone(only_failed) => is_t_alone(alloc, state, only_failed),
-        Step::Left(only_failed, wanted) => {
-            let selection = of_t(alloc, state, only_failed)?;
-            Ok(state.are_left_by(&of_g(alloc)?, &selection) == wanted)
-        }
+        Step::Left(only_failed, wanted) => Ok(are_left(alloc, state, only_failed)? == wanted),
         _ => Ok(false),
     }
+}
+
+/// Clears what is selected of the runs of DAG g.
+fn clears(alloc: Global, state: &mut State, selection: &Selection) -> Result<bool, Fail> {
+    state.clear_instances(&of_g(alloc)?, selection);
+    Ok(true)
+}
+
+/// Whether the runs of DAG g are left as they are by a clear.
+fn are_left(alloc: Global, state: &State, only_failed: bool) -> Result<bool, Fail> {
+    let selection = of_t(alloc, state, only_failed)?;
+    Ok(state.are_left_by(&of_g(alloc)?, &selection))
 }
 
 /// Ticks at a moment and claims at the next: whether that is this try of run 1.
 fn tries(alloc: Global, state: &mut State, micros: u64, try_number: u32) -> Result<bool, Fail> {
     let changed = state.tick(alloc, moment(micros)?)?;
-    match state.claim(alloc, moment(micros.saturating_add(1))?)? {
-        Some(claim) => Ok(changed && claim.try_number == try_number && claim.run_number == 1),
-        None => Ok(false),
+    let claim = state.claim(alloc, moment(micros.saturating_add(1))?)?;
+    Ok(changed && is_try(claim.as_ref(), try_number))
+}
+
+/// Whether a claim is of this try of run 1.
+fn is_try(claim: Option<&Claim>, try_number: u32) -> bool {
+    match claim {
+        Some(claim) => claim.try_number == try_number && claim.run_number == 1,
+        None => false,
     }
 }
 
@@ -73,12 +86,10 @@ fn is_t_alone(alloc: Global, state: &State, only_failed: bool) -> Result<bool, F
     let selection = of_t(alloc, state, only_failed)?;
     let filter = of_g(alloc)?;
     let chosen = state.chosen(alloc, &filter, &selection)?;
-    Ok(
-        chosen.len() == 1
-            && chosen
-                .iter()
-                .all(|row| row.run.number == 1 && row.place == 0),
-    )
+    Ok(match chosen.as_slice() {
+        [row] => row.run.number == 1 && row.place == 0,
+        _ => false,
+    })
 }
 
 /// All runs of DAG g.
@@ -93,9 +104,10 @@ fn of_g(alloc: Global) -> Result<RunFilter, Fail> {
 
 /// The instances of task t, or those that failed alone.
 fn of_t(alloc: Global, state: &State, only_failed: bool) -> Result<Selection, Fail> {
-    let ids = TaskIds::of(vec![in alloc; TaskId::parse(alloc, "t")?]?);
+    let ids = task_ids(alloc, &["t"])?;
+    let dag_id = DagId::parse(alloc, "g")?;
     Ok(Selection {
-        tasks: state.chosen_tasks(alloc, &DagId::parse(alloc, "g")?, Some(&ids))?,
+        tasks: state.chosen_tasks(alloc, &dag_id, Some(&ids))?,
         only_failed,
     })
 }

@@ -1,8 +1,10 @@
+use crate::tests::asserts::row_holds;
 use crate::tests::openings::{instances, moment, task, with_pool};
 use crate::tests::seen::first_are;
 use TaskState::{Failed, NoStatus, Running, Scheduled, Skipped, Success, UpstreamFailed};
 use af_graph::{Rule, TaskSpec, TaskState};
 use af_names::PoolName;
+use af_sched::State;
 use std::alloc::Global;
 use std::test::Fail;
 
@@ -25,6 +27,12 @@ fn diamond(alloc: Global, rule: Rule) -> Result<Vec<TaskSpec>, Fail> {
 /// The tasks above d, and those upstream of each.
 const ABOVE: [(&str, &[&str]); 3] = [("a", &[]), ("b", &["a"]), ("c", &["a"])];
 
+/// A run of a diamond whose instances are in these states, where d's rule is this and its pool has no slots.
+fn diamond_of(alloc: Global, rule: Rule, states: &[TaskState]) -> Result<State, Fail> {
+    let tasks = diamond(alloc, rule)?;
+    with_pool(alloc, 0, tasks, false, instances(alloc, states)?)
+}
+
 /// The states of a diamond's tasks d, a, b and c after a tick, of which a has succeeded and b and c are in these states,
 /// where d's rule is this and its pool has no slots.
 fn becomes(
@@ -34,10 +42,9 @@ fn becomes(
     c: TaskState,
     wanted: TaskState,
 ) -> Result<bool, Fail> {
-    let untried = instances(alloc, &[TaskState::NoStatus, TaskState::Success, b, c])?;
-    let mut state = with_pool(alloc, 0, diamond(alloc, rule)?, false, untried)?;
+    let mut state = diamond_of(alloc, rule, &[NoStatus, Success, b, c])?;
     let _changes = state.tick(alloc, moment(7)?)?;
-    Ok(first_are(&state, &[wanted, TaskState::Success, b, c]))
+    Ok(first_are(&state, &[wanted, Success, b, c]))
 }
 
 /// A rule, the states of b and c, and what d becomes.
@@ -70,9 +77,9 @@ const TABLE: [(Rule, TaskState, TaskState, TaskState); 24] = [
 
 #[test]
 fn a_diamond_goes_by_its_rule(rt: HostRuntime) -> Result<(), Fail> {
-    for (rule, b, c, wanted) in TABLE {
-        let holds = becomes(rt.alloc(), rule, b, c, wanted)?;
-        assert!(rt; holds, "{rule:?} of {b:?} and {c:?}");
+    for (row, (rule, b, c, wanted)) in TABLE.iter().enumerate() {
+        let becomes = becomes(rt.alloc(), *rule, *b, *c, *wanted)?;
+        row_holds(&rt, becomes, row);
     }
     Ok(())
 }

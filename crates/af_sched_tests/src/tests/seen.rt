@@ -7,11 +7,12 @@ use std::test::Fail;
 /// Whether the DAGs have these ids.
 pub fn are_dags(state: &State, wanted: &[&str]) -> bool {
     let rows = state.dags();
+    for (row, want) in rows.iter().zip(wanted) {
+        if row.dag.dag_id().as_str() != *want {
+            return false;
+        }
+    }
     rows.len() == wanted.len()
-        && rows
-            .iter()
-            .zip(wanted)
-            .all(|(row, want)| row.dag.dag_id().as_str() == *want)
 }
 
 /// Whether the first DAG's cursor is at this moment.
@@ -29,16 +30,23 @@ pub fn runs_are(state: &State, all: usize, running: usize) -> bool {
 }
 
 fn count_in(rows: &[Run], state: RunState) -> usize {
-    rows.iter().filter(|run| run.state == state).count()
+    let mut count: usize = 0;
+    for run in rows {
+        if run.state == state {
+            count = count.saturating_add(1);
+        }
+    }
+    count
 }
 
 pub fn states_are(state: &State, wanted: &[RunState]) -> bool {
     let rows = state.runs();
+    for (run, want) in rows.iter().zip(wanted) {
+        if run.state != *want {
+            return false;
+        }
+    }
     rows.len() == wanted.len()
-        && rows
-            .iter()
-            .zip(wanted)
-            .all(|(run, want)| run.state == *want)
 }
 
 /// Whether the first run has this id, and its interval ends at this moment.
@@ -60,11 +68,12 @@ pub fn first_are(state: &State, wanted: &[TaskState]) -> bool {
 /// Whether the instances of a run are in these states.
 pub fn are(run: &Run, wanted: &[TaskState]) -> bool {
     let rows = run.instances.as_slice();
+    for (row, want) in rows.iter().zip(wanted) {
+        if row.state != *want {
+            return false;
+        }
+    }
     rows.len() == wanted.len()
-        && rows
-            .iter()
-            .zip(wanted)
-            .all(|(row, want)| row.state == *want)
 }
 
 /// Whether the first instance of the first run is this one.

@@ -1,8 +1,8 @@
-use crate::tests::openings::{at, dag, moment, task};
+use crate::tests::openings::{at, dag_of_one, moment};
 use crate::tests::redone::redone;
 use crate::tests::seen::{are_dags, cursor_is, first_are, first_is, runs_are, states_are};
-use af_graph::{Rule, TaskState};
-use af_names::{DagId, PoolName, RunId, TaskId};
+use af_graph::TaskState;
+use af_names::{DagId, Instant, PoolName, RunId, TaskId};
 use af_runs::{Mark, RunState};
 use af_sched::{AddDagFault, Claim, Outcome, ReportFault, State};
 use std::alloc::Global;
@@ -80,39 +80,34 @@ pub fn first_fault(
 /// Whether a step goes as it says.
 fn goes(alloc: Global, state: &mut State, step: Step) -> Result<bool, Fail> {
     match step {
-        Step::Changes(moment) => Ok(state.tick(alloc, at(moment)?)?),
-        Step::Rests(moment) => Ok(!state.tick(alloc, at(moment)?)?),
+        Step::Changes(moment) => ticks(alloc, state, moment),
+        Step::Rests(moment) => Ok(!ticks(alloc, state, moment)?),
         Step::Planned(moment) => planned(alloc, state, moment),
-        Step::Claims(task_id) => claims(alloc, state, task_id),
-        Step::ClaimsNone => {
-            let told = state.next_claim(alloc)?;
-            Ok(told.is_none() && state.claim(alloc, moment(3)?)?.is_none())
-        }
+        Step::Claims(task_id) => claims(alloc, state, Some(task_id)),
+        Step::ClaimsNone => claims(alloc, state, None),
         Step::Ends(task_id, outcome, micros) => ends(alloc, state, task_id, outcome, micros),
         Step::Reports(run, task_id, try_number, outcome, micros, wanted) => {
             let claim = claim_of(alloc, run, task_id, try_number)?;
-            let told = state.report_fault(&claim);
-            Ok(state.report(&claim, outcome, moment(micros)?) == wanted && told == wanted.err())
+            reports(state, &claim, outcome, micros, wanted)
         }
         _ => changed_or_seen(alloc, state, step),
     }
 }
 
+/// Whether a tick at this moment changes the state.
+fn ticks(alloc: Global, state: &mut State, moment: &str) -> Result<bool, Fail> {
+    Ok(state.tick(alloc, at(moment)?)?)
+}
+
 /// Whether a step that is no tick, claim or report goes as it says.
 fn changed_or_seen(alloc: Global, state: &mut State, step: Step) -> Result<bool, Fail> {
     match step {
-        Step::Slots(slots) => {
-            let name = PoolName::parse(alloc, "p")?;
-            Ok(state.set_slots(&name, slots).is_ok())
-        }
+        Step::Slots(slots) => sets_slots(alloc, state, slots),
         Step::Paused(dag_id, is_paused) => {
             state.set_paused(&DagId::parse(alloc, dag_id)?, is_paused);
             Ok(true)
         }
-        Step::Added(dag_id, wanted) => {
-            let tasks = vec![in alloc; task(alloc, "t", &[], Rule::AllSuccess)?]?;
-            Ok(state.add_dag(dag(alloc, dag_id, tasks, false)?) == wanted)
-        }
+        Step::Added(dag_id, wanted) => is_added(alloc, state, dag_id, wanted),
         Step::Dags(_)
         | Step::Are(_)
         | Step::Cursor(_)
@@ -121,6 +116,23 @@ fn changed_or_seen(alloc: Global, state: &mut State, step: Step) -> Result<bool,
         | Step::First(_, _) => seen(state, step),
         _ => redone(alloc, state, step),
     }
+}
+
+/// Whether pool p gets so many slots.
+pub fn sets_slots(alloc: Global, state: &mut State, slots: u64) -> Result<bool, Fail> {
+    let name = PoolName::parse(alloc, "p")?;
+    Ok(state.set_slots(&name, slots).is_ok())
+}
+
+/// Whether adding a DAG of this id is answered so.
+fn is_added(
+    alloc: Global,
+    state: &mut State,
+    dag_id: &str,
+    wanted: Result<(), AddDagFault>,
+) -> Result<bool, Fail> {
+    let row = dag_of_one(alloc, dag_id, 1, false)?;
+    Ok(state.add_dag(row) == wanted)
 }
 
 /// Whether the state is as a step says.
@@ -136,6 +148,19 @@ fn seen(state: &State, step: Step) -> Result<bool, Fail> {
     }
 }
 
+/// Whether a report is answered so, and its fault told beforehand.
+pub fn reports(
+    state: &mut State,
+    claim: &Claim,
+    outcome: Outcome,
+    micros: u64,
+    wanted: Result<(), ReportFault>,
+) -> Result<bool, Fail> {
+    let at = moment(micros)?;
+    let told = state.report_fault(claim);
+    Ok(state.report(claim, outcome, at) == wanted && told == wanted.err())
+}
+
 /// Plans a tick, and does it: whether the plan leaves the runs as they are, and tells a change.
 fn planned(alloc: Global, state: &mut State, moment: &str) -> Result<bool, Fail> {
     let before = state.runs().len();
@@ -145,22 +170,42 @@ fn planned(alloc: Global, state: &mut State, moment: &str) -> Result<bool, Fail>
     Ok(is_planned)
 }
 
-/// Whether the next claim is the first try of this task of the first run.
-fn claims(alloc: Global, state: &mut State, task_id: &str) -> Result<bool, Fail> {
-    let Some(told) = state.next_claim(alloc)? else {
-        return Ok(false);
-    };
-    match state.claim(alloc, moment(3)?)? {
-        Some(claim) => Ok(
-            claim.task_id.as_str() == task_id
-                && claim.try_number == 1
-                && claim.run_number == 1
-                && told.task_id == claim.task_id
-                && told.try_number == 1
-                && told.run_number == 1,
-        ),
-        None => Ok(false),
+/// Whether a claim is the first try of this task of the first run.
+fn is_first_try(claim: &Claim, task_id: &str) -> bool {
+    claim.run_number == 1 && claim.try_number == 1 && claim.task_id.as_str() == task_id
+}
+
+/// Whether the first try of this task of the first run is claimed; of no task, whether there is nothing to claim.
+fn is_claimed(claim: Option<&Claim>, wanted: Option<&str>) -> bool {
+    match (claim, wanted) {
+        (Some(claim), Some(task_id)) => is_first_try(claim, task_id),
+        (None, None) => true,
+        _ => false,
     }
+}
+
+/// Whether this is told to be claimed next.
+fn is_next(alloc: Global, state: &State, wanted: Option<&str>) -> Result<bool, Fail> {
+    let told = state.next_claim(alloc)?;
+    Ok(is_claimed(told.as_ref(), wanted))
+}
+
+/// Whether this is told to be claimed next, and then is claimed.
+fn claims(alloc: Global, state: &mut State, wanted: Option<&str>) -> Result<bool, Fail> {
+    let is_next = is_next(alloc, state, wanted)?;
+    let claim = state.claim(alloc, moment(3)?)?;
+    Ok(is_next && is_claimed(claim.as_ref(), wanted))
+}
+
+/// Reports a claim: whether it is of this task, and the report is taken.
+fn is_taken(
+    state: &mut State,
+    claim: &Claim,
+    task_id: &str,
+    outcome: Outcome,
+    at: Instant,
+) -> bool {
+    state.report(claim, outcome, at).is_ok() && claim.task_id.as_str() == task_id
 }
 
 fn ends(
@@ -171,11 +216,10 @@ fn ends(
     micros: u64,
 ) -> Result<bool, Fail> {
     let at = moment(micros)?;
-    let Some(claim) = state.claim(alloc, at)? else {
-        return Ok(false);
-    };
-    let is_taken = state.report(&claim, outcome, at).is_ok();
-    Ok(is_taken && claim.task_id.as_str() == task_id)
+    match state.claim(alloc, at)? {
+        Some(claim) => Ok(is_taken(state, &claim, task_id, outcome, at)),
+        None => Ok(false),
+    }
 }
 
 /// A claim of run r of DAG g.

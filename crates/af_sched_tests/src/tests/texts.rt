@@ -1,4 +1,6 @@
+use crate::tests::asserts::holds;
 use af_sched::{AddDagFault, Outcome, ReportFault};
+use std::alloc::Global;
 use std::test::Fail;
 
 const OUTCOMES: [(&str, Option<Outcome>); 5] = [
@@ -27,27 +29,50 @@ const REPORTED: [(ReportFault, &str); 3] = [
     (ReportFault::WrongTry, "the instance runs another try"),
 ];
 
+/// Whether the text of an outcome is this one.
+fn has_text(outcome: Option<Outcome>, text: &str) -> bool {
+    match outcome {
+        Some(outcome) => outcome.as_str() == text,
+        None => true,
+    }
+}
+
 #[test]
 fn outcomes_are_read_by_their_texts(rt: HostRuntime) -> Result<(), Fail> {
     for (text, wanted) in OUTCOMES {
-        assert!(rt; Outcome::read(text) == wanted, "{text}");
-        if let Some(outcome) = wanted {
-            assert!(rt; outcome.as_str() == text, "{text} is written");
-        }
+        let outcome = Outcome::read(text);
+        holds(&rt, outcome == wanted, text);
+        holds(&rt, has_text(outcome, text), text);
+    }
+    Ok(())
+}
+
+/// Whether the fault of an addition is told so.
+fn is_told_of_adding(alloc: Global, fault: AddDagFault, text: &str) -> Result<bool, Fail> {
+    let shown = format!(in alloc; "{fault}")?;
+    Ok(shown.as_str() == text)
+}
+
+/// Whether the fault of a report is told so.
+fn is_told_of_a_report(alloc: Global, fault: ReportFault, text: &str) -> Result<bool, Fail> {
+    let shown = format!(in alloc; "{fault}")?;
+    Ok(shown.as_str() == text)
+}
+
+#[test]
+fn faults_of_adding_a_dag_have_texts(rt: HostRuntime) -> Result<(), Fail> {
+    for (fault, text) in ADDED {
+        let is_told = is_told_of_adding(rt.alloc(), fault, text)?;
+        holds(&rt, is_told, text);
     }
     Ok(())
 }
 
 #[test]
-fn faults_have_texts(rt: HostRuntime) -> Result<(), Fail> {
-    let alloc = rt.alloc();
-    for (fault, text) in ADDED {
-        let shown = format!(in alloc; "{fault}")?;
-        assert!(rt; shown.as_str() == text, "{text}");
-    }
+fn faults_of_a_report_have_texts(rt: HostRuntime) -> Result<(), Fail> {
     for (fault, text) in REPORTED {
-        let shown = format!(in alloc; "{fault}")?;
-        assert!(rt; shown.as_str() == text, "{text}");
+        let is_told = is_told_of_a_report(rt.alloc(), fault, text)?;
+        holds(&rt, is_told, text);
     }
     Ok(())
 }

@@ -1,9 +1,11 @@
+use crate::tests::asserts::{all_go, holds};
 use crate::tests::openings::{
-    add_dag_of_one, add_run_of_one, at, instances, pooled, scheduled, task, with_pool,
+    ONE_TASK, add_dag_of_one, add_run_of_one, at, instances, pooled_tasks, scheduled, tasks,
+    with_pool,
 };
 use crate::tests::seen::are;
 use crate::tests::steps::{Step, first_fault};
-use af_graph::{Rule, TaskSpec, TaskState};
+use af_graph::{TaskSpec, TaskState};
 use af_names::Preset;
 use af_runs::RunState;
 use af_sched::{Outcome, State};
@@ -85,26 +87,13 @@ fn two_dags(alloc: Global) -> Result<State, Fail> {
 fn runs_start_by_number(rt: HostRuntime) -> Result<(), Fail> {
     let mut state = two_dags(rt.alloc())?;
     let fault = first_fault(rt.alloc(), &mut state, RUNS_START_BY_NUMBER)?;
-    assert!(rt; fault.is_none(), "step {fault:?}");
+    all_go(&rt, fault, "runs start by number");
     Ok(())
 }
 
-fn four_in_a_pool(alloc: Global) -> Result<Vec<TaskSpec>, Fail> {
-    Ok(vec![in alloc;
-        pooled(alloc, "x", 3, 5)?,
-        pooled(alloc, "y", 1, 1)?,
-        pooled(alloc, "z", 1, 1)?,
-        pooled(alloc, "w", 1, 1)?,
-    ]?)
-}
+const FOUR_IN_A_POOL: &[(&str, u64, i32)] = &[("x", 3, 5), ("y", 1, 1), ("z", 1, 1), ("w", 1, 1)];
 
-fn three_in_a_row(alloc: Global) -> Result<Vec<TaskSpec>, Fail> {
-    Ok(vec![in alloc;
-        task(alloc, "z", &["y"], Rule::AllSuccess)?,
-        task(alloc, "y", &["x"], Rule::AllSuccess)?,
-        task(alloc, "x", &[], Rule::AllSuccess)?,
-    ]?)
-}
+const THREE_IN_A_ROW: &[(&str, &[&str])] = &[("z", &["y"]), ("y", &["x"]), ("x", &[])];
 
 const FOUR_UNTRIED: &[TaskState] = &[
     TaskState::NoStatus,
@@ -185,44 +174,49 @@ fn fault_in(
     states: &[TaskState],
     steps: &[Step],
 ) -> Result<Option<usize>, Fail> {
-    let mut state = with_pool(alloc, 2, tasks, false, instances(alloc, states)?)?;
+    let instances = instances(alloc, states)?;
+    let mut state = with_pool(alloc, 2, tasks, false, instances)?;
     first_fault(alloc, &mut state, steps)
 }
 
 #[test]
 fn a_lowered_pool_is_not_filled(rt: HostRuntime) -> Result<(), Fail> {
-    let tasks = four_in_a_pool(rt.alloc())?;
+    let tasks = pooled_tasks(rt.alloc(), FOUR_IN_A_POOL)?;
     let fault = fault_in(
         rt.alloc(),
         tasks,
         FOUR_UNTRIED,
         A_LOWERED_POOL_IS_NOT_FILLED,
     )?;
-    assert!(rt; fault.is_none(), "step {fault:?}");
+    all_go(&rt, fault, "a lowered pool");
     Ok(())
 }
 
 #[test]
 fn a_failure_goes_down_in_one_tick(rt: HostRuntime) -> Result<(), Fail> {
-    let tasks = three_in_a_row(rt.alloc())?;
+    let tasks = tasks(rt.alloc(), THREE_IN_A_ROW)?;
     let fault = fault_in(rt.alloc(), tasks, THE_FIRST_HAS_FAILED, A_FAILURE_GOES_DOWN)?;
-    assert!(rt; fault.is_none(), "step {fault:?}");
+    all_go(&rt, fault, "a failure");
     Ok(())
 }
 
 #[test]
 fn a_retry_waits_for_its_moment(rt: HostRuntime) -> Result<(), Fail> {
-    let alloc = rt.alloc();
-    let tasks = vec![in alloc; task(alloc, "t", &[], Rule::AllSuccess)?]?;
-    let fault = fault_in(alloc, tasks, UNTRIED, A_RETRY_WAITS)?;
-    assert!(rt; fault.is_none(), "step {fault:?}");
+    let tasks = tasks(rt.alloc(), ONE_TASK)?;
+    let fault = fault_in(rt.alloc(), tasks, UNTRIED, A_RETRY_WAITS)?;
+    all_go(&rt, fault, "a retry");
     Ok(())
 }
 
 /// How many runs have their one instance queued.
 fn queued_in(state: &State) -> usize {
-    let rows = state.runs();
-    rows.iter().filter(|run| are(run, QUEUED)).count()
+    let mut count: usize = 0;
+    for run in state.runs() {
+        if are(run, QUEUED) {
+            count = count.saturating_add(1);
+        }
+    }
+    count
 }
 
 /// Whether a claim, or want of memory for it, leaves as many queued instances as it is to leave.
@@ -237,20 +231,21 @@ const SIXTEEN_RUNS: &[Step] = &[Step::Runs(16, 2), Step::Cursor(SIXTEEN_HOURS_LA
 
 const NO_RUNS: &[Step] = &[Step::Runs(0, 0), Step::Cursor(NEW_YEAR)];
 
+/// What is seen after a tick, or after want of memory for it.
+fn after_tick(alloc: Global, state: &mut State, moment: &str) -> Result<&'static [Step], Fail> {
+    match state.tick(alloc, at(moment)?) {
+        Ok(_) => Ok(SIXTEEN_RUNS),
+        Err(_) => Ok(NO_RUNS),
+    }
+}
+
 #[test]
 fn a_refused_growth_leaves_the_state(rt: HostRuntime) -> Result<(), Fail> {
-    let alloc = rt.alloc();
-    let mut state = scheduled(alloc, Preset::Hourly, NEW_YEAR, true, false)?;
-    let steps = match state.tick(alloc, at(ONE_DAY_LATER)?) {
-        Ok(_) => SIXTEEN_RUNS,
-        Err(_) => NO_RUNS,
-    };
-    let fault = first_fault(alloc, &mut state, steps)?;
-    assert!(rt; fault.is_none(), "step {fault:?}");
-    if state.runs().is_empty() {
-        return Ok(());
-    }
-    let holds = claims_one(alloc, &mut state, ONE_DAY_LATER)?;
-    assert!(rt; holds, "one is claimed, or as before");
+    let mut state = scheduled(rt.alloc(), Preset::Hourly, NEW_YEAR, true, false)?;
+    let steps = after_tick(rt.alloc(), &mut state, ONE_DAY_LATER)?;
+    let fault = first_fault(rt.alloc(), &mut state, steps)?;
+    all_go(&rt, fault, "a refused growth");
+    let is_claimed = state.runs().is_empty() || claims_one(rt.alloc(), &mut state, ONE_DAY_LATER)?;
+    holds(&rt, is_claimed, "one is claimed, or as before");
     Ok(())
 }

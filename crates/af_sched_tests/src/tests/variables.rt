@@ -1,3 +1,4 @@
+use crate::tests::asserts::holds;
 use af_names::VarKey;
 use af_sched::State;
 use af_vars::{VarText, Variable, VariableFault};
@@ -33,25 +34,45 @@ const CHANGES: &[Row] = &[
 
 const LEFT: &[(&str, &str)] = &[("b", "5"), ("c", "4")];
 
-pub fn variable(alloc: Global, key: &str, text: &str) -> Result<Variable, Fail> {
+fn variable(alloc: Global, key: &str, text: &str) -> Result<Variable, Fail> {
     let key = VarKey::parse(alloc, key)?;
     let value = VarText::of(String::from_str(alloc, text)?);
     Ok(Variable { key, value })
 }
 
+pub fn add_variable(alloc: Global, state: &mut State, key: &str, text: &str) -> Result<(), Fail> {
+    state.add_variable(variable(alloc, key, text)?)?;
+    Ok(())
+}
+
+/// Whether the variable of this key may be removed, and is.
+pub fn remove_variable(alloc: Global, state: &mut State, key: &str) -> Result<bool, Fail> {
+    let key = VarKey::parse(alloc, key)?;
+    Ok(state.remove_variable(&key).is_ok())
+}
+
 /// Whether the variables have these keys and texts.
 pub fn are_variables(state: &State, wanted: &[(&str, &str)]) -> bool {
     let rows = state.variables();
+    for (row, (key, text)) in rows.iter().zip(wanted) {
+        if row.key.as_str() != *key || row.value.as_str() != *text {
+            return false;
+        }
+    }
     rows.len() == wanted.len()
-        && rows.iter().zip(wanted).all(|(row, want)| row.key.as_str() == want.0
-            && row.value.as_str() == want.1)
 }
 
 /// The fault that is told beforehand.
-fn foretold(state: &State, key: &VarKey, change: Change) -> Option<VariableFault> {
+fn foretold(
+    alloc: Global,
+    state: &State,
+    key: &str,
+    change: Change,
+) -> Result<Option<VariableFault>, Fail> {
+    let key = VarKey::parse(alloc, key)?;
     match change {
-        Add(_) => state.add_variable_fault(key),
-        Set(_) | Remove => state.change_variable_fault(key),
+        Add(_) => Ok(state.add_variable_fault(&key)),
+        Set(_) | Remove => Ok(state.change_variable_fault(&key)),
     }
 }
 
@@ -62,47 +83,74 @@ fn told(
     key: &str,
     change: Change,
 ) -> Result<Option<VariableFault>, Fail> {
-    let of_key = VarKey::parse(alloc, key)?;
     match change {
         Add(text) => Ok(state.add_variable(variable(alloc, key, text)?).err()),
-        Set(text) => {
-            let value = variable(alloc, key, text)?.value;
-            Ok(state.set_variable(&of_key, value).err())
+        Set(text) => set_variable(alloc, state, key, text),
+        Remove => {
+            let key = VarKey::parse(alloc, key)?;
+            Ok(state.remove_variable(&key).err())
         }
-        Remove => Ok(state.remove_variable(&of_key).err()),
     }
 }
 
-/// Does what a row says, and compares what is told beforehand and then.
-fn done(rt: &impl Abort, alloc: Global, state: &mut State, row: Row) -> Result<(), Fail> {
+/// The fault that is told when the variable of this key gets this text.
+fn set_variable(
+    alloc: Global,
+    state: &mut State,
+    key: &str,
+    text: &str,
+) -> Result<Option<VariableFault>, Fail> {
+    let key = VarKey::parse(alloc, key)?;
+    let value = VarText::of(String::from_str(alloc, text)?);
+    Ok(state.set_variable(&key, value).err())
+}
+
+/// Does what a row says: whether what is told beforehand, and then, is the fault of the row.
+fn goes(alloc: Global, state: &mut State, row: Row) -> Result<(bool, bool), Fail> {
     let (key, change, wanted) = row;
-    let before = foretold(state, &VarKey::parse(alloc, key)?, change);
-    assert_eq!(rt; before, wanted, "{key} beforehand");
-    assert_eq!(rt; told(alloc, state, key, change)?, wanted, "{key}");
+    let before = foretold(alloc, state, key, change)?;
+    let then = told(alloc, state, key, change)?;
+    Ok((before == wanted, then == wanted))
+}
+
+/// Ends the test where a change of variables is not foretold and told as it should be.
+fn are_changed(rt: &impl Abort, alloc: Global, state: &mut State) -> Result<(), Fail> {
+    for row in CHANGES {
+        let (before, then) = goes(alloc, state, *row)?;
+        holds(rt, before, row.0);
+        holds(rt, then, row.0);
+    }
     Ok(())
 }
 
 #[test]
 fn variables_are_changed_one_by_one(rt: HostRuntime) -> Result<(), Fail> {
-    let alloc = rt.alloc();
-    let mut state = State::new(alloc)?;
-    assert!(rt; are_variables(&state, &[]), "none at first");
+    let mut state = State::new(rt.alloc())?;
+    holds(&rt, are_variables(&state, &[]), "none at first");
     state.reserve_variables(3)?;
-    for row in CHANGES {
-        done(&rt, alloc, &mut state, *row)?;
-    }
-    assert!(rt; are_variables(&state, LEFT), "the variables that are left");
+    are_changed(&rt, rt.alloc(), &mut state)?;
+    let are_left = are_variables(&state, LEFT);
+    holds(&rt, are_left, "the variables that are left");
     Ok(())
+}
+
+/// Whether a variable has this text; of none, whether there is no variable.
+fn has_text(found: Option<&Variable>, wanted: Option<&str>) -> bool {
+    match (found, wanted) {
+        (Some(row), Some(text)) => row.value.as_str() == text,
+        (None, None) => true,
+        _ => false,
+    }
 }
 
 #[test]
 fn a_variable_is_looked_up(rt: HostRuntime) -> Result<(), Fail> {
-    let alloc = rt.alloc();
-    let mut state = State::new(alloc)?;
-    state.add_variable(variable(alloc, "k", "v")?)?;
-    for (key, wanted) in [("k", Some("v")), ("x", None)] {
-        let found = state.variable(&VarKey::parse(alloc, key)?);
-        assert_eq!(rt; found.map(|row| row.value.as_str()), wanted, "{key}");
+    let mut state = State::new(rt.alloc())?;
+    add_variable(rt.alloc(), &mut state, "k", "v")?;
+    for (name, wanted) in [("k", Some("v")), ("x", None)] {
+        let key = VarKey::parse(rt.alloc(), name)?;
+        let is_there = has_text(state.variable(&key), wanted);
+        holds(&rt, is_there, name);
     }
     Ok(())
 }

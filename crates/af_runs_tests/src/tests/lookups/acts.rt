@@ -1,4 +1,5 @@
-use super::super::{moment, task};
+use super::super::moment;
+use super::super::tasks::task;
 use af_graph::TaskState;
 use af_names::{DagId, RunId};
 use af_runs::{
@@ -49,18 +50,37 @@ pub fn all(alloc: Global) -> Result<Selection, Fail> {
     })
 }
 
-pub fn act_on_runs(alloc: Global, runs: &mut Runs, act: u64, number: u64) -> Result<(), Fail> {
+/// The mark that an act is, if it is one.
+fn mark_of(act: u64) -> Option<Mark> {
+    match act {
+        8 => Some(Mark::Success),
+        9 => Some(Mark::Failed),
+        10 => Some(Mark::Queued),
+        _ => None,
+    }
+}
+
+/// Takes a run out, ends it, or queues or settles its instance, if an act is that.
+fn set(runs: &mut Runs, act: u64, number: u64) {
     match act {
         0 => runs.remove(number),
         1 => runs.set_state(number, RunState::Success, None, None),
         2 => runs.set_instance(number, 0, instance(true)),
         3 => runs.set_instance(number, 0, instance(false)),
-        4 => runs.reserve(3)?,
-        8 => runs.mark(number, Mark::Success, moment(9)?),
-        9 => runs.mark(number, Mark::Failed, moment(9)?),
-        10 => runs.mark(number, Mark::Queued, moment(9)?),
-        11 => runs.clear_run(number, &all(alloc)?),
         _ => {}
+    }
+}
+
+pub fn act_on_runs(alloc: Global, runs: &mut Runs, act: u64, number: u64) -> Result<(), Fail> {
+    let at = moment(9)?;
+    if let Some(mark) = mark_of(act) {
+        runs.mark(number, mark, at);
+        return Ok(());
+    }
+    match act {
+        4 => runs.reserve(3)?,
+        11 => runs.clear_run(number, &all(alloc)?),
+        _ => set(runs, act, number),
     }
     Ok(())
 }

@@ -1,8 +1,8 @@
-use super::plain::Plain;
+use super::plain::{Plain, busy_count, count_of, nth_busy, nth_of, numbered, of_key};
 use af_names::{DagId, Instant, RunId};
 use af_runs::{Run, RunFault, Runs};
 
-fn is_it(run: Option<&Run>, plain: Option<&Plain>) -> bool {
+fn is_it(run: Option<&Run>, plain: Option<Plain>) -> bool {
     match (run, plain) {
         (Some(run), Some(plain)) => run.number == plain.number && run.state == plain.state,
         (None, None) => true,
@@ -14,8 +14,7 @@ fn is_it(run: Option<&Run>, plain: Option<&Plain>) -> bool {
 fn is_page(runs: &Runs, plain: &[Plain], dag: usize, dag_id: &DagId, from: usize) -> bool {
     let mut page = runs.of_dag(dag_id, from);
     for place in 0..3 {
-        let place = from.saturating_add(place);
-        let wanted = plain.iter().filter(|row| row.dag == dag).nth(place);
+        let wanted = nth_of(plain, dag, from.saturating_add(place));
         if !is_it(page.next(), wanted) {
             return false;
         }
@@ -25,24 +24,24 @@ fn is_page(runs: &Runs, plain: &[Plain], dag: usize, dag_id: &DagId, from: usize
 
 /// Whether the busy runs are those of a filter.
 fn are_busy(runs: &Runs, plain: &[Plain]) -> bool {
-    let mut wanted = plain.iter().filter(|row| row.is_busy());
-    for run in runs.busy() {
-        if !is_it(Some(run), wanted.next()) {
+    let mut busy = runs.busy();
+    for row in plain {
+        if row.is_busy() && !is_it(busy.next(), Some(*row)) {
             return false;
         }
     }
-    wanted.next().is_none()
+    busy.next().is_none()
 }
 
 /// Whether the runs that hold slots are those of a filter.
 fn are_holders(runs: &Runs, plain: &[Plain]) -> bool {
-    let mut wanted = plain.iter().filter(|row| row.held);
-    for run in runs.holders() {
-        if !is_it(Some(run), wanted.next()) {
+    let mut holders = runs.holders();
+    for row in plain {
+        if row.held && !is_it(holders.next(), Some(*row)) {
             return false;
         }
     }
-    wanted.next().is_none()
+    holders.next().is_none()
 }
 
 /// Whether the look-ups of a run of a DAG answer what a filter over the plain list answers.
@@ -53,15 +52,16 @@ pub fn agrees_of_dag(
     key: u64,
     id: (&RunId, Instant),
 ) -> bool {
-    let there = plain.iter().find(|row| row.dag == dag.0 && row.key == key);
-    let fault = there.map(|_row| RunFault::RunExists);
-    let count = plain.iter().filter(|row| row.dag == dag.0).count();
+    let there = of_key(plain, dag.0, key);
+    let fault = match there {
+        Some(_) => Some(RunFault::RunExists),
+        None => None,
+    };
     let place = (key % 400) as usize;
-    let nth = plain.iter().filter(|row| row.dag == dag.0).nth(place);
     is_it(runs.find(dag.1, id.0), there)
         && runs.add_fault(dag.1, id.0, id.1) == fault
-        && runs.count_of(dag.1) == count
-        && is_it(runs.nth_of(dag.1, place), nth)
+        && runs.count_of(dag.1) == count_of(plain, dag.0)
+        && is_it(runs.nth_of(dag.1, place), nth_of(plain, dag.0, place))
         && is_page(runs, plain, dag.0, dag.1, (key % 300) as usize)
 }
 
@@ -69,13 +69,10 @@ pub fn agrees_of_dag(
 /// answers.
 pub fn agrees_at(runs: &Runs, plain: &[Plain], key: u64) -> bool {
     let number = key.saturating_add(1);
-    let numbered = plain.iter().find(|row| row.number == number);
     let place = (key % 500) as usize;
-    let busy = plain.iter().filter(|row| row.is_busy()).nth(place);
-    let count = plain.iter().filter(|row| row.is_busy()).count();
     runs.rows().len() == plain.len()
-        && is_it(runs.get(number), numbered)
-        && runs.busy_count() == count
-        && is_it(runs.busy_at(place), busy)
+        && is_it(runs.get(number), numbered(plain, number))
+        && runs.busy_count() == busy_count(plain)
+        && is_it(runs.busy_at(place), nth_busy(plain, place))
         && (key % 16 != 0 || (are_busy(runs, plain) && are_holders(runs, plain)))
 }

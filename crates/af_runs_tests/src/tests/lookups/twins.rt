@@ -2,7 +2,7 @@ use super::super::moment;
 use super::acts::{act_on_runs, all, new_run, run_id};
 use super::filters::{agrees_at, agrees_of_dag};
 use super::next_of;
-use super::plain::{Plain, act_on_plain, clear, queued};
+use super::plain::{Plain, act_on_plain, clear_between, of_key, queued};
 use af_names::DagId;
 use af_runs::{RunFault, RunFilter, Runs};
 use std::alloc::Global;
@@ -50,30 +50,31 @@ impl Twins {
         Ok(())
     }
 
+    /// The runs of a DAG whose dates are from a key on until another.
+    fn filter(&self, dag: usize, key: u64, last: u64) -> Result<RunFilter, Fail> {
+        let start = moment(key)?;
+        let end = moment(last)?;
+        Ok(RunFilter {
+            dag_id: copied(self.alloc, self.dags.get(dag))?,
+            run_id: None,
+            start_date: Some(start),
+            end_date: Some(end),
+        })
+    }
+
     /// Clears those of a DAG's runs whose dates are from a key on until the twentieth after it, in both.
     fn clear_some(&mut self, dag: usize, key: u64) -> Result<(), Fail> {
         let last = key.saturating_add(20);
-        let filter = RunFilter {
-            dag_id: copied(self.alloc, self.dags.get(dag))?,
-            run_id: None,
-            start_date: Some(moment(key)?),
-            end_date: Some(moment(last)?),
-        };
-        self.runs.clear(&filter, &all(self.alloc)?);
-        for row in self.plain.iter_mut() {
-            if row.dag == dag && row.key >= key && row.key <= last {
-                clear(row);
-            }
-        }
+        let filter = self.filter(dag, key, last)?;
+        let all = all(self.alloc)?;
+        self.runs.clear(&filter, &all);
+        clear_between(&mut self.plain, dag, key, last);
         Ok(())
     }
 
     /// Adds a run of a DAG in both, unless the plain list has it. Whether that is told.
     fn add(&mut self, dag: usize, key: u64) -> Result<bool, Fail> {
-        let there = self
-            .plain
-            .iter()
-            .any(|row| row.dag == dag && row.key == key);
+        let there = of_key(self.plain.as_slice(), dag, key).is_some();
         let dag_id = copied(self.alloc, self.dags.get(dag))?;
         match self.runs.add_run(new_run(self.alloc, dag_id, key)?) {
             Ok(number) => {
