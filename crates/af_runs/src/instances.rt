@@ -7,7 +7,7 @@ use crate::instance::Instance;
 use crate::mark::Mark;
 use crate::selection::Selection;
 use af_base::Items;
-use af_graph::Dag;
+use af_graph::{Dag, TaskSpec};
 use af_names::Instant;
 use std::alloc::{AllocError, Global};
 
@@ -19,12 +19,15 @@ pub type Instances = Items<Instance>;
 pub fn new_instances(alloc: Global, dag: &Dag) -> Result<Instances, AllocError>
     ensures { IfOk result (λ instances. instances ≡ new_instances dag.now.tasks) }
 {
-    let items = dag
-        .tasks()
-        .iter()
-        .map(|task| Instance::of(task))
-        .collect(alloc)?;
+    let items = items_of(alloc, dag.tasks())?;
     Ok(Instances::of(items))
+}
+
+/// For each of these tasks an instance in `NoStatus`, never tried. `AllocError` only where a growth was refused.
+fn items_of(alloc: Global, tasks: &[TaskSpec]) -> Result<Vec<Instance>, AllocError>
+    ensures { IfOk result (λ items. items.items ≡ new_instances tasks.now) }
+{
+    tasks.iter().map(|task| Instance::of(task)).collect(alloc)
 }
 
 /// Whether two lists have the same instances.

@@ -1,8 +1,9 @@
-use Rattle.std.proofs.Common.{arith}
+use Rattle.std.proofs.Common.{ap, arith, length}
 use Rattle.af_runs.specs.Clears.{after_clear}
+use Rattle.af_runs.specs.declared.instance.Instance.{Instance}
 use Rattle.af_runs.proofs.ChangeLemmas.{enumerated-from}
 use Rattle.af_runs.proofs.instances.clear_all.Goals as goal
 
 pub returns : goal.returns
 returns c =
-    enumerated-from (after_clear c.args.selection.now) c.args.instances.now c.loop-place.instances c.loop-place.invariant.0 (λ k d inside. c.loop-place.invariant.1 k d (omega arith))
+    enumerated-from (after_clear c.args.selection.now) c.args.instances.now c.loop-place.instances c.loop-place.invariant.0 (λ k d inside. c.loop-place.invariant.1 k d (omega (arith, ap (length {A = Instance}) c.as_slice-place-end.ensures)))

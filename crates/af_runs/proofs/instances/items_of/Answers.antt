@@ -1,0 +1,10 @@
+use Rattle.std.proofs.Common.{rules}
+use Rattle.std.proofs.lemmas.Iterator.{YieldsList-from_map, YieldsList-from_slice, items_from_collect}
+use Rattle.std.proofs.lemmas.Iterator.Consumers.{YieldsList-at}
+use Rattle.af_runs.specs.Instances.{new_instance}
+use Rattle.af_runs.proofs.instances.items_of.Goals as goal
+
+pub returns : goal.returns
+returns c =
+    items_from_collect c.collect.result c.collect.ensures.ran
+    (YieldsList-from_map _ new_instance (YieldsList-at c.map.ensures.source (YieldsList-from_slice c.args.tasks.now c.iter.ensures.rest)) c.map.ensures.closure (λ x r q k. search rules))
