@@ -11,7 +11,6 @@ mod FillLemmas
 mod FittingLemmas
 mod FrameLemmas
 mod HeavyLemmas
-mod HeldLawLemmas
 mod HolderPlacedLemmas
 mod IdleLemmas
 mod KeyLemmas
@@ -30,6 +29,7 @@ mod StillLemmas
 mod TakenLemmas
 mod TickLemmas
 pub mod FinishLemmas
+pub mod HeldLawLemmas
 pub mod PlacedLemmas
 pub mod QueueLemmas
 pub mod SettleLemmas
