@@ -17,13 +17,10 @@ use crate::prepared::Prepared;
 use crate::row::row_text;
 use crate::trigger::Trigger;
 use af_names::{DagId, Instant, RunId};
-use af_runs::{Interval, NewRun, Run, RunFault, RunType, new_instances};
+use af_runs::{Interval, MOST_RUNS, NewRun, Run, RunFault, RunType, new_instances};
 use af_sched::{DagRow, State};
 use arrayvec::ArrayString;
 use std::alloc::{AllocError, Global};
-
-/// The most runs that a DAG has.
-const MOST_RUNS: usize = 65_536;
 
 pub(crate) fn triggered_run(
     alloc: Global,
