@@ -1,5 +1,5 @@
 -- Listings stand in order, and what is read leaves the state.
-use Rattle.std.proofs.Common.{◌≡◌, ℕ, Bool, not, List}
+use Rattle.std.proofs.Common.{◌≡◌, ℕ, Bool, List}
 use Rattle.std.specs.Prelude.{Option, Some, None, Result, Ok, Err, ok_or}
 use Rattle.std.specs.Cmp.Lexicographic.{nat_list_cmp_total}
 use Rattle.serde_json.specs.Data.{Data}

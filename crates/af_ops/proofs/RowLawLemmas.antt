@@ -23,7 +23,7 @@ use Rattle.af_ops.specs.declared.pool_op.PoolOp.{PoolOp}
 use Rattle.af_ops.specs.declared.pool_op.PoolOp.TheVariants as pool_op
 use Rattle.af_ops.specs.Effects.{Effect}
 use Rattle.af_ops.specs.PoolEffects.{pool_effect}
-use Rattle.af_ops.specs.RowLaws.{NeededPoolsStay, PoolChangesTouchOnePool, PoolsAreAsWritten, PoolsAreToldByState, PoolsAreToldWhole, RowsGoByName, VariableChangesTouchOneVariable, VariablesAreAsWritten, is_of_pool_in, occupied_in_all, slots_of_instances}
+use Rattle.af_ops.specs.RowLaws.{NeededPoolsStay, PoolChangesTouchOnePool, PoolsAreAsWritten, PoolsAreToldByState, PoolsAreToldWhole, RowsGoByName, VariableChangesTouchOneVariable, VariablesAreAsWritten, is_of_pool_in, slots_of_instances}
 use Rattle.af_ops.proofs.KeyLemmas.{added_found, any_found, changed_found, found_key, removed_found}
 use Rattle.af_ops.proofs.LawLemmas.{changes_stay, unchanged}
 use Rattle.af_ops.proofs.ReadingLemmas.{readings_keep}

@@ -1,10 +1,16 @@
 -- What effects are made of: a reply and a state after it, and the faults of parameters and of bodies, which come first.
-use Rattle.std.specs.Prelude.{ℕ, List, Option, Some, None, Result, Ok, Err}
+use Rattle.std.specs.Prelude.{ℕ, List, [], Option, Some, None, ok_or, Result, Ok, Err}
+use Rattle.std.specs.List.{slice_get}
+use Rattle.std.specs.Option.{option_map_or}
 use Rattle.serde_json.specs.Data.{Data}
 use Rattle.serde_json.specs.Written.{compact_text}
+use Rattle.af_graph.specs.declared.task_spec.TaskSpec.{TaskSpec}
 use Rattle.af_listing.specs.Windows.{Cut}
 use Rattle.af_policy.specs.declared.bad_input.Parameter.{Parameter}
-use Rattle.af_sched.specs.State.{StateRows}
+use Rattle.af_runs.specs.Runs.{run_of}
+use Rattle.af_runs.specs.declared.run.Run.{Run}
+use Rattle.af_sched.specs.State.{StateRows, dag_of}
+use Rattle.af_sched.specs.declared.dag_row.DagRow.{DagRow}
 use Rattle.af_ops.specs.declared.answer.OpFault.{OpFault}
 use Rattle.af_ops.specs.declared.answer.OpFault.TheVariants as fault
 use Rattle.af_ops.specs.declared.body_fault.BodyFault.{BodyFault}
@@ -42,3 +48,15 @@ input_or (Err why) = Err (input_fault why)
 abbrev pub window_or : Result Cut Parameter → Result Cut OpFault
 window_or (Ok window) = Ok window
 window_or (Err parameter) = Err (fault.BadParameter parameter)
+
+-- the DAG of an id
+abbrev pub dag_or : StateRows → List ℕ → Result DagRow OpFault
+dag_or state dag_id = ok_or (dag_of state.dags dag_id) fault.NoSuchDag
+
+-- the run of two ids
+abbrev pub run_or : StateRows → List ℕ → List ℕ → Result Run OpFault
+run_or state dag_id run_id = ok_or (run_of state.runs dag_id run_id) fault.NoSuchRun
+
+-- the id of the task at a place
+abbrev pub id_at : List TaskSpec → ℕ → List ℕ
+id_at tasks place = option_map_or (λ task. task.task_id) (slice_get tasks place) []

@@ -1,6 +1,7 @@
 pub mod AccessTexts
 pub mod Bodies
 pub mod Calls
+pub mod ClearEffects
 pub mod Decisions
 pub mod Edits
 pub mod EffectParts
