@@ -179,12 +179,17 @@ fn are_found(rt: &impl Abort, alloc: Global, runs: &Runs) -> Result<(), Fail> {
 fn runs_are_found(rt: HostRuntime) -> Result<(), Fail> {
     let runs = with_runs(rt.alloc(), THREE)?;
     are_found(&rt, rt.alloc(), &runs)?;
-    let is_second = is_at(&runs, 2, &(2, "b", "r2", RunState::Queued));
-    holds(&rt, is_second, "number 2");
-    holds(&rt, runs.get(4).is_none(), "no number 4");
+    have_numbers(&rt, &runs);
     let told = fault_of_b(rt.alloc(), &runs)?;
     holds(&rt, told == Some(RunFault::DateTaken), "the date of r2");
     Ok(())
+}
+
+/// Ends the test where run 2 is not found by its number, or a run 4 is.
+fn have_numbers(rt: &impl Abort, runs: &Runs) {
+    let is_second = is_at(runs, 2, &(2, "b", "r2", RunState::Queued));
+    holds(rt, is_second, "number 2");
+    holds(rt, runs.get(4).is_none(), "no number 4");
 }
 
 const CHANGED: &[Row<'static>] = &[
@@ -246,10 +251,15 @@ fn is_half_failed(alloc: Global, runs: &Runs) -> Result<bool, Fail> {
 fn one_instance_is_set(rt: HostRuntime) -> Result<(), Fail> {
     let mut runs = with_runs(rt.alloc(), THREE)?;
     set_last(&mut runs);
-    let of_b = is_half_failed(rt.alloc(), &runs)?;
-    holds(&rt, of_b, "the second of run 3");
-    let of_a = is_untried(rt.alloc(), &runs)?;
-    holds(&rt, of_a, "run 1 as it was");
+    is_set(&rt, rt.alloc(), &runs)
+}
+
+/// Ends the test where the last instance of run 3 alone is not set.
+fn is_set(rt: &impl Abort, alloc: Global, runs: &Runs) -> Result<(), Fail> {
+    let of_b = is_half_failed(alloc, runs)?;
+    holds(rt, of_b, "the second of run 3");
+    let of_a = is_untried(alloc, runs)?;
+    holds(rt, of_a, "run 1 as it was");
     Ok(())
 }
 

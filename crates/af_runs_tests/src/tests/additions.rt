@@ -43,10 +43,15 @@ fn are_told_of(rt: &impl Abort, alloc: Global, additions: &mut Additions<'_>) ->
 #[test]
 fn an_addition_clashes_with_lent_and_added_runs(rt: HostRuntime) -> Result<(), Fail> {
     let runs = with_runs(rt.alloc(), ONE)?;
-    let mut additions = Additions::of(rt.alloc(), &runs);
-    holds(&rt, additions.rows().is_empty(), "none yet");
-    are_told_of(&rt, rt.alloc(), &mut additions)?;
-    holds(&rt, has_rows(additions.rows(), ADDED), "in order of number");
+    clash(&rt, rt.alloc(), Additions::of(rt.alloc(), &runs))
+}
+
+/// Ends the test where these additions, of which there are none yet, are not what they should be once runs are asked for.
+fn clash(rt: &impl Abort, alloc: Global, additions: Additions<'_>) -> Result<(), Fail> {
+    let mut additions = additions;
+    holds(rt, additions.rows().is_empty(), "none yet");
+    are_told_of(rt, alloc, &mut additions)?;
+    holds(rt, has_rows(additions.rows(), ADDED), "in order of number");
     Ok(())
 }
 
@@ -169,9 +174,14 @@ fn is_later(alloc: Global, runs: &Runs) -> Result<bool, Fail> {
 fn a_run_advances(rt: HostRuntime) -> Result<(), Fail> {
     let runs = advanced(rt.alloc())?;
     are_told(&rt, &runs)?;
-    let of_b = is_later(rt.alloc(), &runs)?;
-    holds(&rt, of_b, "the instances of the later one");
-    let of_a = is_untried(rt.alloc(), &runs)?;
-    holds(&rt, of_a, "run 1 as it was");
+    have_instances(&rt, rt.alloc(), &runs)
+}
+
+/// Ends the test where the instances of the runs are not the advanced ones.
+fn have_instances(rt: &impl Abort, alloc: Global, runs: &Runs) -> Result<(), Fail> {
+    let of_b = is_later(alloc, runs)?;
+    holds(rt, of_b, "the instances of the later one");
+    let of_a = is_untried(alloc, runs)?;
+    holds(rt, of_a, "run 1 as it was");
     Ok(())
 }

@@ -126,30 +126,11 @@ fn each_mark_of_each_state(rt: HostRuntime) -> Result<(), Fail> {
     Ok(())
 }
 
-/// What an instance in this state becomes where its run is marked at 9, and whether the run was marked so before, by its
-/// instance alone.
-fn becomes(alloc: Global, mark: Mark, state: TaskState) -> Result<(Instance, bool), Fail> {
-    let mut runs = two_runs(alloc, (mark.state(), None, None), state)?;
-    let stood = is_marked(&runs, mark);
-    runs.mark(1, mark, moment(9)?);
-    Ok((first_instance(&runs)?, stood))
-}
-
 /// Whether the first run is marked so, by its instance alone.
 fn is_marked(runs: &Runs, mark: Mark) -> bool {
     match runs.get(1) {
         Some(run) => run.is_marked(mark),
         None => false,
-    }
-}
-
-fn first_instance(runs: &Runs) -> Result<Instance, Fail> {
-    let Some(run) = runs.get(1) else {
-        return Err(Fail::from("no run"));
-    };
-    match run.instances.as_slice().first() {
-        Some(instance) => Ok(*instance),
-        None => Err(Fail::from("no instance")),
     }
 }
 
@@ -186,15 +167,29 @@ const STATES: &[(TaskState, TaskState, TaskState)] = &[
     ),
 ];
 
-/// Whether a mark makes this of an instance, and whether it was told beforehand that it changes nothing where it does not.
+/// Whether the first run's instance, which was in this state and ended at 7, is as a mark at 9 leaves it in another.
+fn has_marked(runs: &Runs, before: TaskState, after: TaskState) -> Result<bool, Fail> {
+    let Some(run) = runs.get(1) else {
+        return Err(Fail::from("no run"));
+    };
+    match run.instances.as_slice().first() {
+        Some(instance) => is_marked_so(instance, before, after),
+        None => Err(Fail::from("no instance")),
+    }
+}
+
+/// Whether a mark at 9 makes this of an instance, and whether it was told beforehand, by the run's instance alone, that it changes
+/// nothing where it does not.
 fn makes(
     alloc: Global,
     mark: Mark,
     before: TaskState,
     after: TaskState,
 ) -> Result<(bool, bool), Fail> {
-    let (instance, stood) = becomes(alloc, mark, before)?;
-    let is_made = is_marked_so(&instance, before, after)?;
+    let mut runs = two_runs(alloc, (mark.state(), None, None), before)?;
+    let stood = is_marked(&runs, mark);
+    runs.mark(1, mark, moment(9)?);
+    let is_made = has_marked(&runs, before, after)?;
     Ok((is_made, stood == (after == before)))
 }
 
