@@ -19,10 +19,21 @@ fill_more old new s e n ordered within same =
     ∙ drop-append-le s (take e new) (take n (drop e new)) (omega (arith, length-take-le e new within))
     ∙ ap (λ t. drop s t ++ take n (drop e new)) same
 
--- more came, and nothing was dropped
-pub holds_more : (a b c : Given) (held now new : List ℕ) → (more : List ℕ) × Holds a b held now more → (more : List ℕ) × Fills b c now new more
+-- more came, twice
+pub fills_both : {a b c : Given} {held now new : List ℕ} → (more : List ℕ) × Fills a b held now more → (more : List ℕ) × Fills b c now new more
+    → (more : List ℕ) × Fills a c held new more
+fills_both {a} {b} {c} {held} {now} {new} (x, h) (y, f) = (
+  x ++ y,
+  record {
+    came = f.came ∙ ap (λ t. t ++ y) h.came ∙ append_assoc a.bytes x y;
+    kept = f.kept ∙ ap (λ t. t ++ y) h.kept ∙ append_assoc held x y;
+  },
+)
+
+-- and reads as what is held, whatever follows
+pub holds_both : {a b c : Given} {held now new : List ℕ} → (more : List ℕ) × Holds a b held now more → (more : List ℕ) × Holds b c now new more
     → (more : List ℕ) × Holds a c held new more
-holds_more a b c held now new (x, h) (y, f) = (
+holds_both {a} {b} {c} {held} {now} {new} (x, h) (y, f) = (
   x ++ y,
   record {
     came = f.came ∙ ap (λ t. t ++ y) h.came ∙ append_assoc a.bytes x y;
@@ -31,6 +42,6 @@ holds_more a b c held now new (x, h) (y, f) = (
         ∙ ap front_of (append_assoc (held ++ x) y tail)
         ∙ h.same (y ++ tail)
         ∙ ap front_of (sym (append_assoc now y tail))
-        ∙ ap (λ (t : List ℕ). front_of (t ++ tail)) (sym f.kept);
+        ∙ f.same tail;
   },
 )

@@ -16,7 +16,7 @@ use Rattle.af_http.specs.declared.route_fault.RouteFault.{RouteFault}
 use Rattle.af_http.specs.declared.route_fault.RouteFault.TheVariants as fault
 use Rattle.af_ops.specs.Calls.{IsRead}
 use Rattle.af_ops.specs.declared.served.Served.TheVariants as served
-use Rattle.af_http.specs.Laws.{IsFunction, IsByText}
+use Rattle.af_http.specs.Laws.{IsByText, IsFunction}
 use Rattle.af_http.specs.declared.reply.Reply.{Reply}
 use Rattle.af_http.specs.declared.reply.Reply.TheVariants as reply
 use Rattle.af_http.specs.declared.refusal.Refusal.{Refusal}

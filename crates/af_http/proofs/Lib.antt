@@ -7,7 +7,15 @@ pub mod SendLemmas
 pub mod AnswerLemmas
 pub mod RouteLemmas
 pub mod PartLemmas
+pub mod NameLemmas
+pub mod FitLemmas
+pub mod OperationLemmas
+pub mod AwaitLemmas
+pub mod StopLemmas
 pub mod TurnLemmas
 pub mod ReadLemmas
+pub mod EndLemmas
 pub mod RunLemmas
+pub mod ConnectLemmas
+pub mod ToldLemmas
 pub mod LawLemmas

@@ -51,10 +51,6 @@ not_blank b (c ∷ []) none = ap (λ t. cond (b == 13) t false) (ne_eqb c 10 (no
     same false = refl
 not_blank b (c ∷ d ∷ bytes) none = refl
 
-pub none-begins : (bytes : List ℕ) → HasNoLine bytes → begins_blank (lines_of bytes) ≡ false
-none-begins [] none = refl
-none-begins (b ∷ bytes) none = ap begins_blank (no_line b bytes none) ∙ not_blank b bytes none
-
 none-split : (bytes : List ℕ) → HasNoLine bytes → split_head (lines_of bytes) ≡ None
 none-split [] none = refl
 none-split (b ∷ bytes) none =
@@ -73,9 +69,6 @@ pub record Passed (bytes rest : List ℕ) (at count : ℕ) : Type 0 where
   pub joined : bytes ≡ text_of front ++ rest
   pub at_is : at ≡ length (text_of front)
   pub lines : (tail : List ℕ) → lines_of (bytes ++ tail) ≡ front ++ lines_of (rest ++ tail)
-
-pub passed_none : (bytes : List ℕ) → Passed bytes bytes 0 0
-passed_none bytes = record { front = []; counted = refl; few = omega arith; plain = refl; joined = refl; at_is = refl; lines = λ tail. refl }
 
 text_of-push : (front : List (List ℕ)) (line : List ℕ) → text_of (front ++ line ∷ []) ≡ text_of front ++ line
 text_of-push [] line = append-nil line

@@ -8,7 +8,7 @@ use Rattle.af_http.specs.Reading.{Begins}
 use Rattle.af_http.specs.Run.{Exchange, asked_in}
 use Rattle.af_http.specs.Reads.{Awaits, Awaited, Reads, read_faults}
 use Rattle.af_http.proofs.StreamLemmas.{took_none, took_more}
-use Rattle.af_http.proofs.TurnLemmas.{awaits_none}
+use Rattle.af_http.proofs.AwaitLemmas.{awaits_none}
 use Rattle.af_http.specs.declared.ended.Ended.{Ended}
 use Rattle.af_http.specs.declared.ended.Ended.TheVariants as end
 

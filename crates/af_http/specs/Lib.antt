@@ -5,8 +5,8 @@ pub mod Fronts
 pub mod Extents
 pub mod Fields
 pub mod Requests
-pub mod Parts
 pub mod Routes
+pub mod Parts
 pub mod Answers
 pub mod Replies
 pub mod Lengths

@@ -29,6 +29,10 @@ unread_limit = 81920
 abbrev pub incoming_room : ℕ
 incoming_room = 98304
 
+-- for how many bytes each read has room at least
+abbrev pub read_room : ℕ
+read_room = 16384
+
 -- how many bytes are held for the writer at most
 abbrev pub outgoing_room : ℕ
 outgoing_room = 65536

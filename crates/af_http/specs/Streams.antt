@@ -1,16 +1,19 @@
 -- What a reader has given and a writer has taken, from the first call to a moment.
 use Rattle.std.specs.Prelude.{◌≡◌, ◌+◌, ℕ, Bool, ◌&&◌, ◌==◌, ◌<◌, cond, nat_lt, List, ◌++◌, map, Option, Some}
 use Rattle.std.specs.Io.KnownBytes.{Appends}
+use Rattle.af_http.specs.Limits.{read_room}
 
 -- a reader
 pub record Given : Type 0 where
   -- all bytes that reads gave
   pub bytes : List ℕ
-  -- the reads; those that gave a byte; those that had room and gave none, since the input had ended; those that failed
+  -- the reads; those that gave a byte; those that had room and gave none, since the input had ended; those that failed;
+  -- those that had room for fewer bytes than a read of a connection has
   pub reads : ℕ
   pub fruitful : ℕ
   pub ends : ℕ
   pub failures : ℕ
+  pub narrow : ℕ
   -- all bytes that come before the input ends, where they are known
   pub whole : Option (List ℕ)
 
@@ -28,6 +31,10 @@ pub record Taken : Type 0 where
 abbrev pub is_end : ℕ → ℕ → Bool
 is_end moved room = moved == 0 && nat_lt 0 room
 
+-- whether a read has room for fewer bytes than one of a connection has
+abbrev pub is_narrow : ℕ → Bool
+is_narrow room = nat_lt room read_room
+
 -- one, where this is so
 abbrev pub one_if : Bool → ℕ
 one_if so = cond so 1 0
@@ -40,12 +47,14 @@ StaysKnown old new = (all : List ℕ) → old ≡ Some all → new ≡ Some all
 abbrev pub IsWhole : Given → Type 0
 IsWhole g = (all : List ℕ) → g.whole ≡ Some all → all ≡ g.bytes
 
--- So many reads from one moment to another: so many of them found the end, so many failed, and each other gave a byte.
+-- So many reads from one moment to another: so many of them found the end, so many failed, and each other gave a byte. Each
+-- had room for as many bytes as one of a connection has, so that no message is read in many where few would do.
 pub record Took (count ends failures : ℕ) (old new : Given) : Type 0 where
   pub reads_are : new.reads ≡ old.reads + count
   pub each_gave : new.fruitful + ends + failures ≡ old.fruitful + count
   pub ends_are : new.ends ≡ old.ends + ends
   pub failed : new.failures ≡ old.failures + failures
+  pub wide : new.narrow ≡ old.narrow
   pub known : StaysKnown old.whole new.whole
   pub whole : old.ends < new.ends → IsWhole new
 

@@ -10,7 +10,7 @@ use Rattle.af_http.specs.Reading.{Begins, Parses, IsUnread, IsRefused, IsEmpty, 
 use Rattle.af_http.specs.Run.{Exchange, asked_in, exchange_text, exchanges_text, end_after, IsLeft, EndsOr, Makes, Answered}
 use Rattle.af_http.specs.Reading.{Stand}
 use Rattle.af_http.specs.Reads.{Awaits, Reads, read_faults}
-use Rattle.af_http.specs.Sending.{Place, all_put, Broke, Puts}
+use Rattle.af_http.specs.Sending.{Outlet, all_put, Broke, Puts}
 use Rattle.af_http.specs.Fronts.{front_of}
 use Rattle.af_http.specs.Gathering.{Holds, ends_of, failures_of}
 use Rattle.af_http.specs.declared.gathering.Gathered.{Gathered}
@@ -54,7 +54,7 @@ left_by (Over outcome total) held = drop total held
 left_by (Short n head_only) held = held
 
 -- the run ends before a request, where so many reads had been made for it
-pub record Stopped (used : ℕ) (before after : Given) (held : List ℕ) (p q : Place) (outcome : Option Ended) : Type 0 where
+pub record Stopped (used : ℕ) (before after : Given) (held : List ℕ) (p q : Outlet) (outcome : Option Ended) : Type 0 where
   pub more : List ℕ
   pub ended : Bool
   pub all : List ℕ
@@ -66,7 +66,7 @@ pub record Stopped (used : ℕ) (before after : Given) (held : List ℕ) (p q : 
   pub turns : e ≡ end.Turns → used + awaits.count ≡ read_limit
 
 -- What was put in a run: all of it was taken or waits, or a write failed.
-abbrev pub WentAll : Bool → Place → Place → List Exchange → List ℕ → Ended → Type 0
+abbrev pub WentAll : Bool → Outlet → Outlet → List Exchange → List ℕ → Ended → Type 0
 WentAll false p q exchanges closing e =
     (all_put q ≡ all_put p ++ (exchanges_text 0 exchanges ++ closing)) × (q.sink.failures ≡ p.sink.failures) × (e ≡ end.WriteFault → ⊥)
     × (e ≡ end.ReadFault → q.waiting.bytes ≡ [])
@@ -76,7 +76,7 @@ WentAll true p q exchanges closing e =
 
 module _ {S : Type 0} (answers : S → Option (List ℕ) → Call → Served → S → Type 0) where
   -- a request, which so many went before, is answered so
-  pub record Answers (count : ℕ) (old : S) (asked : Asked) (p q : Place) (new : S) (outcome : Option Ended) : Type 0 where
+  pub record Answers (count : ℕ) (old : S) (asked : Asked) (p q : Outlet) (new : S) (outcome : Option Ended) : Type 0 where
     pub exchange : Exchange
     pub asks : exchange.asked ≡ asked
     pub makes : Makes answers old exchange.asked exchange.reply new
@@ -84,7 +84,7 @@ module _ {S : Type 0} (answers : S → Option (List ℕ) → Call → Served →
     pub outcome_is : outcome ≡ or_fault q.waiting.failed (end_after count exchange)
 
   -- a head is refused
-  pub record Refuses (head : List ℕ) (old : S) (p q : Place) (new : S) (outcome : Option Ended) : Type 0 where
+  pub record Refuses (head : List ℕ) (old : S) (p q : Outlet) (new : S) (outcome : Option Ended) : Type 0 where
     pub refusal : Refusal
     pub bad : IsUnread head refusal
     pub early : at_end refusal ≡ false
@@ -94,7 +94,7 @@ module _ {S : Type 0} (answers : S → Option (List ℕ) → Call → Served →
 
   -- what comes of the message at the front of what is held, whose head has so many bytes: its request is answered, or its
   -- head is refused, or its body is not whole
-  abbrev pub Messages : ℕ → S → List ℕ → ℕ → Place → Place → S → Handled → Type 0
+  abbrev pub Messages : ℕ → S → List ℕ → ℕ → Outlet → Outlet → S → Handled → Type 0
   Messages count old held size p q new (Over outcome total) =
       ((h : RequestHead) × (n : ℕ) × Parses (take size held) h × (body_length h ≡ Ok n) × (n ≤ length (drop size held)) × (total ≡ size + n)
       × Answers count old (asked_by h (take n (drop size held))) p q new outcome)
@@ -102,7 +102,7 @@ module _ {S : Type 0} (answers : S → Option (List ℕ) → Call → Served →
   Messages count old held size p q new (Short n head_only) = WantsBody held size n head_only × (new ≡ old) × (q ≡ p)
 
   -- the turn answers a request, whatever follows the bytes that are held with those that came; they are what is left, with it
-  pub record Exchanges (used count : ℕ) (old : S) (before after : Given) (held left : List ℕ) (p q : Place) (new : S) (outcome : Option Ended) : Type 0 where
+  pub record Exchanges (used count : ℕ) (old : S) (before after : Given) (held left : List ℕ) (p q : Outlet) (new : S) (outcome : Option Ended) : Type 0 where
     pub more : List ℕ
     pub exchange : Exchange
     pub awaits : Awaits used 0 0 before after held more
@@ -112,12 +112,12 @@ module _ {S : Type 0} (answers : S → Option (List ℕ) → Call → Served →
     pub outcome_is : outcome ≡ or_fault q.waiting.failed (end_after count exchange)
 
   -- a turn: a request is answered, or none is and the run ends
-  abbrev pub Turned : ℕ → ℕ → S → Given → Given → List ℕ → List ℕ → Place → Place → S → Option Ended → Type 0
+  abbrev pub Turned : ℕ → ℕ → S → Given → Given → List ℕ → List ℕ → Outlet → Outlet → S → Option Ended → Type 0
   Turned used count old before after held left p q new outcome =
       Exchanges used count old before after held left p q new outcome ⊎ (Stopped used before after held p q outcome × (new ≡ old))
 
   -- a run, of which all was put, and what is left may wait
-  pub record Ran (old : S) (before after : Given) (p q : Place) (new : S) (e : Ended) : Type 0 where
+  pub record Ran (old : S) (before after : Given) (p q : Outlet) (new : S) (e : Ended) : Type 0 where
     pub exchanges : List Exchange
     pub text : List ℕ
     pub rest : List ℕ

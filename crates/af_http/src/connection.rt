@@ -5,7 +5,7 @@ use crate::outgoing::Outgoing;
 use crate::routes::Routes;
 use std::alloc::{AllocError, Global};
 
-/// What a connection keeps from its opening on, beside its reader and its writer, which each call is lent.
+/// What a connection keeps from its opening on, beside its reader and its writer, which each call borrows.
 #[derive(Drop)]
 pub struct Connection {
     /// The table of paths.

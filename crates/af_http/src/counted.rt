@@ -1,7 +1,8 @@
 ghost use Rattle.std.specs.Prelude.{◌≡◌, ◌+◌, ◌++◌, ◌∷◌, [], false, length, take};
 ghost use Rattle.std.specs.Io.KnownBytes.{prepend_known};
-ghost use Rattle.af_http.specs.Streams.{bytes_of, one_if, is_end};
+ghost use Rattle.af_http.specs.Streams.{bytes_of, one_if, is_end, is_narrow};
 
+use crate::incoming::READ_ROOM;
 use crate::stream::{Failed, Sink, Source};
 use http_server::Log;
 use std::io::{Read, Write};
@@ -20,6 +21,7 @@ pub struct Counted<T> {
     fruitful: Log<u8, u8>,
     ends: Log<u8, u8>,
     failures: Log<u8, u8>,
+    narrow: Log<u8, u8>,
 }
 
 impl<T> Counted<T> {
@@ -32,6 +34,7 @@ impl<T> Counted<T> {
         ensures fruitful { length result.fruitful.items ≡ 0 }
         ensures ends { length result.ends.items ≡ 0 }
         ensures failures { length result.failures.items ≡ 0 }
+        ensures narrow { length result.narrow.items ≡ 0 }
     {
         Counted {
             inner,
@@ -41,6 +44,7 @@ impl<T> Counted<T> {
             fruitful: Log::new(),
             ends: Log::new(),
             failures: Log::new(),
+            narrow: Log::new(),
         }
     }
 
@@ -85,6 +89,13 @@ fn is_end(count: usize, bytes: &[u8]) -> bool
     count == 0 && !bytes.is_empty()
 }
 
+/// Whether a read has room for fewer bytes than one of a connection has.
+fn is_narrow(bytes: &[u8]) -> bool
+    ensures { result ≡ is_narrow (length bytes.now) }
+{
+    bytes.len() < READ_ROOM
+}
+
 impl<T: Read> Source for Counted<T> {
     ghost given = { λ s. record {
       bytes = bytes_of s.moved.items;
@@ -92,12 +103,15 @@ impl<T: Read> Source for Counted<T> {
       fruitful = length s.fruitful.items;
       ends = length s.ends.items;
       failures = length s.failures.items;
+      narrow = length s.narrow.items;
       whole = prepend_known (bytes_of s.moved.items) (T.remaining s.inner);
     } };
 
     #[tactic(auto, using(crate::proofs::StreamLemmas::consumed, crate::proofs::StreamLemmas::kept, crate::proofs::StreamLemmas::at_end))]
     fn read(&mut self, buffer: &mut [u8]) -> Result<usize, Failed> {
         self.calls = with_one(&self.calls);
+        let narrow = std::mem::replace(&mut self.narrow, Log::new());
+        self.narrow = with_one_if(narrow, is_narrow(buffer));
         match self.inner.read(buffer) {
             Ok(count) => {
                 let log = std::mem::replace(&mut self.fruitful, Log::new());

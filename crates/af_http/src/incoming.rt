@@ -1,5 +1,5 @@
 ghost use Rattle.std.specs.Prelude.{◌≡◌, ◌≢◌, ◌==◌, ℕ, ◌+◌, ◌<◌, ◌≤◌, List, [], ◌++◌, length, take, drop, IfOk, OnErr, Ok, true};
-ghost use Rattle.af_http.specs.Limits.{incoming_room, unread_limit};
+ghost use Rattle.af_http.specs.Limits.{incoming_room, read_room, unread_limit};
 ghost use Rattle.af_http.specs.Streams.{Took, one_if};
 ghost use Rattle.af_http.specs.Gathering.{Fills, ends_in, failures_in};
 
@@ -13,6 +13,9 @@ pub const INCOMING_ROOM: usize = 98_304;
 
 /// The most bytes that are still to be used when more are read: a head with its empty line, and a body that is not whole.
 pub const UNREAD_LIMIT: usize = 81_920;
+
+/// For how many bytes each read has room at least.
+pub const READ_ROOM: usize = INCOMING_ROOM - UNREAD_LIMIT;
 
 /// The bytes that have come and were not used yet. A contract sees them.
 ///
@@ -126,7 +129,7 @@ fn with_room(bytes: &mut [u8], start: usize, end: usize) -> (usize, usize)
 
 /// Reads once, to what stands behind the end.
 fn read_behind<R: Source>(reader: &mut R, bytes: &mut [u8], end: usize) -> Result<usize, Failed>
-    requires { end < length bytes.old }
+    requires { end + read_room ≤ length bytes.old }
     ensures before { take end bytes.new ≡ take end bytes.old }
     ensures room { IfOk result (λ n. end + n ≤ length bytes.old) }
     ensures came { IfOk result (λ n. (R.given reader.new).bytes ≡ (R.given reader.old).bytes ++ take n (drop end bytes.new)) }

@@ -1,9 +1,11 @@
-ghost use Rattle.std.specs.Prelude.{◌≡◌, ◌+◌, ◌≤◌, Some, false, length, map, string_bytes, true};
+ghost use Rattle.std.specs.Prelude.{◌≡◌, ◌+◌, ◌≤◌, ◌∷◌, [], Some, false, length, map, string_bytes, true};
 ghost use Rattle.af_ops.specs.Segments.{seen};
+ghost use Rattle.af_ops.specs.Table.{segments_of};
 ghost use Rattle.af_http.specs.Limits.{part_limit};
-ghost use Rattle.af_http.specs.Parts.{IsUnfit, part_count, with_all};
+ghost use Rattle.af_http.specs.Parts.{IsFit, IsFound, IsLeftOut, IsPut, part_count, unfit};
 ghost use Rattle.af_http.specs.Routes.{IsRouted, before, endpoint_of, has_form, named, onward, call_of, parts_in, path_of, place_of, query_of, read, stands_for};
 
+use crate::fit::Fit;
 use crate::parts::Parts;
 use crate::route_fault::RouteFault;
 use af_ops::{
@@ -13,8 +15,8 @@ use matchit::Router;
 use memchr::memchr;
 use std::alloc::{AllocError, Global};
 
-/// The table of paths, with room for the parts of one. A router finds the likely one; that it has the path's form is tested, so what is found does not depend
-/// on the router.
+/// The table of paths, with room for the parts of one. A router finds the likely one; that it has the path's form is tested, so
+/// what is found does not depend on the router.
 #[derive(Drop)]
 pub struct Routes {
     alloc: Global,
@@ -60,24 +62,53 @@ fn has_form(segments: &[Segment], path: &[u8]) -> bool
     *slash == b'/' && (stands_for(segment, piece) && has_form(segments, rest))
 }
 
-/// Puts the texts of a path's parts behind those that are there, in order, and tells whether each has one that is not too long
-/// for a name.
-fn read_parts(segments: &[Segment], path: &[u8], parts: &mut Parts) -> bool
+/// Puts the text of a part behind those that are there, and tells whether it has one that is not too long for a name. Where the
+/// segment is no part there is none to put.
+fn put_part(segment: &Segment, piece: &[u8], parts: &mut Parts) -> bool
+    requires { length parts.old + part_count (seen segment.now ∷ []) ≤ part_limit }
+    ensures put { result ≡ true → IsPut (seen segment.now) piece.now parts.old parts.new }
+    ensures unfit { result ≡ false → IsLeftOut (seen segment.now) piece.now }
+{
+    if !segment.is_part {
+        return true;
+    }
+    parts.push(piece)
+}
+
+/// What a path is to these segments where a part before has no text, or one that is too long for a name.
+fn unfit(segments: &[Segment], path: &[u8]) -> Fit
+    ensures { result ≡ unfit (has_form (map seen segments.now) path.now) }
+{
+    if has_form(segments, path) {
+        Fit::Unfit
+    } else {
+        Fit::Other
+    }
+}
+
+/// What a path is to these segments, a slash before each. The texts of its parts are put behind those that are there, in order.
+fn compared(segments: &[Segment], path: &[u8], parts: &mut Parts) -> Fit
     requires { length parts.old + part_count (map seen segments.now) ≤ part_limit }
-    ensures texts { result ≡ true → with_all parts.old (parts_in (map seen segments.now) path.now) ≡ Some parts.new }
-    ensures unfit { result ≡ false → IsUnfit (parts_in (map seen segments.now) path.now) }
+    ensures { IsFit (map seen segments.now) path.now parts.old parts.new result }
 {
     let Some((segment, segments)) = segments.split_first() else {
-        return true;
+        return if path.is_empty() {
+            Fit::Fits
+        } else {
+            Fit::Other
+        };
     };
-    let Some((_, path)) = path.split_first() else {
-        return true;
+    let Some((slash, path)) = path.split_first() else {
+        return Fit::Other;
     };
     let (piece, rest) = cut(path);
-    if !segment.is_part {
-        return read_parts(segments, rest, parts);
+    if *slash != b'/' || !stands_for(segment, piece) {
+        return Fit::Other;
     }
-    parts.push(piece) && read_parts(segments, rest, parts)
+    if !put_part(segment, piece, parts) {
+        return unfit(segments, rest);
+    }
+    compared(segments, rest, parts)
 }
 
 /// The operation of a method at a path.
@@ -128,23 +159,18 @@ fn named(
     }
 }
 
-/// The path of a target: what stands before its first `?`.
-fn path_of(target: &[u8]) -> &[u8]
-    ensures { result.now ≡ path_of target.now }
+/// The path of a target, which stands before its first `?`, and its query, which stands behind that.
+fn parted(target: &[u8]) -> (&[u8], &[u8])
+    ensures path { result.0.now ≡ path_of target.now }
+    ensures query { result.1.now ≡ query_of target.now }
 {
     match memchr(b'?', target) {
-        Some(at) => target.split_at(at).0,
-        None => target,
-    }
-}
-
-/// The query of a target: what stands behind its first `?`.
-fn query_of(target: &[u8]) -> &[u8]
-    ensures { result.now ≡ query_of target.now }
-{
-    match memchr(b'?', target) {
-        Some(at) => target.split_at(at + 1).1,
-        None => &[],
+        Some(at) => {
+            let (path, marked) = target.split_at(at);
+            let (_, query) = marked.split_at(1);
+            (path, query)
+        }
+        None => (target, &[]),
     }
 }
 
@@ -178,16 +204,50 @@ impl Routes {
         Some(*found.value)
     }
 
-    /// The path of the table that this is.
+    /// The path of the table that has this form, looked for from the first on.
     fn place_of(&self, path: &[u8]) -> Option<Place>
         ensures { result ≡ place_of path.now }
     {
-        match self.likely(path) {
-            Some(place) if has_form(place.segments(), path) => Some(place),
-            _ => PLACES
-                .iter()
-                .copied()
-                .find(|place| has_form(place.segments(), path)),
+        PLACES
+            .iter()
+            .copied()
+            .find(|place| has_form(place.segments(), path))
+    }
+
+    /// What a path is to the segments of a path of the table. The texts of its parts are those of this one alone.
+    fn read_parts(&mut self, place: Place, path: &[u8]) -> Fit
+        ensures { IsFit (segments_of place) path.now [] self.new.parts result }
+    {
+        self.parts.clear();
+        compared(place.segments(), path, &mut self.parts)
+    }
+
+    /// The path of the table that this is, with the texts of its parts; none also where one of these has no text, or one that is
+    /// too long for a name.
+    fn find(&mut self, path: &[u8]) -> Option<Place>
+        ensures { IsFound path.now self.new.parts result }
+    {
+        if let Some(place) = self.likely(path) {
+            match self.read_parts(place, path) {
+                Fit::Fits => return Some(place),
+                Fit::Unfit => return None,
+                Fit::Other => {}
+            }
+        }
+        self.search(path)
+    }
+
+    /// The same where the router did not find it: each path of the table is tried.
+    #[cold]
+    fn search(&mut self, path: &[u8]) -> Option<Place>
+        ensures { IsFound path.now self.new.parts result }
+    {
+        match self.place_of(path) {
+            Some(place) => match self.read_parts(place, path) {
+                Fit::Fits => Some(place),
+                _ => None,
+            },
+            None => None,
         }
     }
 
@@ -201,22 +261,17 @@ impl Routes {
     ) -> Result<Call, RouteFault>
         ensures { IsRouted (call_of method.now target.now body.now) result }
     {
-        let path = path_of(target);
-        let Some(place) = self.place_of(path) else {
-            return Err(RouteFault::NoPath);
-        };
-        self.parts.clear();
-        if !read_parts(place.segments(), path, &mut self.parts) {
-            return Err(RouteFault::NoPath);
+        let (path, query) = parted(target);
+        match self.find(path) {
+            Some(place) => named(
+                self.alloc,
+                method,
+                place,
+                self.parts.as_slice(),
+                query,
+                body,
+            ),
+            None => Err(RouteFault::NoPath),
         }
-        let query = query_of(target);
-        named(
-            self.alloc,
-            method,
-            place,
-            self.parts.as_slice(),
-            query,
-            body,
-        )
     }
 }

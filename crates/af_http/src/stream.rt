@@ -1,6 +1,6 @@
 ghost use Rattle.std.specs.Prelude.{◌≡◌, ℕ, ◌+◌, ◌≤◌, ◌==◌, Bool, not, true, false, List, ◌++◌, length, take, IfOk, OnErr, MatchResult};
 ghost use Rattle.std.specs.Io.KnownBytes.{Keeps, WriteAppends};
-ghost use Rattle.af_http.specs.Streams.{Given, Taken, is_end, one_if, StaysKnown, IsWhole};
+ghost use Rattle.af_http.specs.Streams.{Given, Taken, is_end, is_narrow, one_if, StaysKnown, IsWhole};
 
 /// A read or a write that failed. Why is for the one who knows the device.
 #[derive(Clone, Copy, Debug, PartialEq, Eq)]
@@ -16,6 +16,7 @@ pub trait Source {
         ensures room { IfOk result (λ n. n ≤ length buffer.new) }
         ensures bytes { IfOk result (λ n. (given self.new).bytes ≡ (given self.old).bytes ++ take n buffer.new) }
         ensures reads { (given self.new).reads ≡ (given self.old).reads + 1 }
+        ensures narrow { (given self.new).narrow ≡ (given self.old).narrow + one_if (is_narrow (length buffer.new)) }
         ensures fruitful { IfOk result (λ n. (given self.new).fruitful ≡ (given self.old).fruitful + one_if (not (n == 0))) }
         ensures ends { IfOk result (λ n. (given self.new).ends ≡ (given self.old).ends + one_if (is_end n (length buffer.new))) }
         ensures fine { IfOk result (λ n. (given self.new).failures ≡ (given self.old).failures) }

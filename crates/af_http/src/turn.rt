@@ -1,4 +1,4 @@
-ghost use Rattle.std.specs.Prelude.{◌≡◌, ◌<◌, ◌≤◌, [], length, Option, None, Some, IfSome, false, true};
+ghost use Rattle.std.specs.Prelude.{◌≡◌, ◌<◌, ◌≤◌, ℕ, Bool, [], drop, length, Option, None, Some, IfSome, false, true};
 ghost use Rattle.af_http.specs.Limits.{outgoing_room, read_limit, request_limit};
 ghost use Rattle.af_http.specs.Gathering.{IsGathered};
 ghost use Rattle.af_http.specs.Turns.{AwaitsHead, Messages, Turned, WantsBody, left_by};
@@ -128,6 +128,32 @@ fn answer_held<W: Sink, S: Service>(
     handled
 }
 
+/// Answers the message at the front of what is held, whose head has so many bytes and whose body is whole, or refuses its head,
+/// and drops it.
+fn answer_whole<W: Sink, S: Service>(
+    connection: &mut Connection,
+    size: usize,
+    count: u32,
+    writer: &mut W,
+    service: &mut S,
+) -> Option<Ended>
+    requires few { count < request_limit }
+    requires within { size ≤ length connection.old.incoming }
+    requires sound { connection.old.outgoing.failed ≡ false }
+    requires room { length connection.old.outgoing.bytes < outgoing_room }
+    requires whole { (n : ℕ) (head_only : Bool) → WantsBody connection.old.incoming size n head_only → ⊥ }
+    ensures { (total : ℕ) × Messages S.answers count service.old connection.old.incoming size
+        (record { sink = W.taken writer.old; waiting = connection.old.outgoing })
+        (record { sink = W.taken writer.new; waiting = connection.new.outgoing })
+        service.new (Handled.Over result total) × (connection.new.incoming ≡ drop total connection.old.incoming) }
+{
+    match answer_held(connection, size, count, writer, service) {
+        Handled::Over(ended, _) => ended,
+        // The body is whole, so the message is not short.
+        Handled::Short(..) => Some(Ended::Turns),
+    }
+}
+
 /// Reads the body of so many bytes that follows a head, and answers the message.
 fn serve_body<R: Source, W: Sink, S: Service>(
     connection: &mut Connection,
@@ -152,31 +178,21 @@ fn serve_body<R: Source, W: Sink, S: Service>(
     if connection.outgoing.has_failed() {
         return Some(Ended::WriteFault);
     }
-    let WantedBody {
-        size,
-        length,
-        head_only,
-    } = wanted;
     let (found, _) = gather_body(
         reader,
         &mut connection.incoming,
         &connection.outgoing,
-        size + length,
+        wanted.size + wanted.length,
         turn.used,
     );
     match found {
-        BodyGathered::Whole => {}
+        BodyGathered::Whole => answer_whole(connection, wanted.size, turn.count, writer, service),
         BodyGathered::Cut => {
-            let refusal = Refusal::Incomplete(head_only);
-            return end_refused(writer, &mut connection.outgoing, refusal);
+            let refusal = Refusal::Incomplete(wanted.head_only);
+            end_refused(writer, &mut connection.outgoing, refusal)
         }
-        BodyGathered::ReadFailed => return Some(Ended::ReadFault),
-        BodyGathered::Turns => return Some(Ended::Turns),
-    }
-    match answer_held(connection, size, turn.count, writer, service) {
-        Handled::Over(ended, _) => ended,
-        // The same head says the same length, so the body is whole.
-        Handled::Short(..) => Some(Ended::Turns),
+        BodyGathered::ReadFailed => Some(Ended::ReadFault),
+        BodyGathered::Turns => Some(Ended::Turns),
     }
 }
 

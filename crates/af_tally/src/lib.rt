@@ -3,14 +3,11 @@
 
 mod fault;
 mod keeper;
-mod laws;
+pub mod laws;
 mod plays;
 mod view;
 mod witness;
 
 pub use fault::OutOfMemory;
 pub use keeper::Keeper;
-pub use laws::{
-    every_run_keeps_the_rule, no_seat_forgets, no_step_falls, others_keep_their_view, seats_agree,
-};
 pub use witness::Witness;

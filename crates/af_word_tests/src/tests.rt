@@ -80,25 +80,39 @@ fn played(
     Ok(())
 }
 
-#[test]
-fn versions_follow_one_another(rt: HostRuntime) -> Result<(), Fail> {
-    let moved = PublishFault::Moved {
+/// The version and the place that a pass moves to where another was first.
+fn moved() -> PublishFault {
+    PublishFault::Moved {
         version: 5,
         index: 60,
-    };
-    let two_and_no_third = [
+    }
+}
+
+#[test]
+fn no_version_follows_the_last(rt: HostRuntime) -> Result<(), Fail> {
+    let calls = [
         (1, Publish(0, 70), Ok((1, 70))),
         (1, Publish(1, 80), Ok((2, 80))),
         (1, Publish(2, 90), Err(PublishFault::Last)),
         (1, Look, Ok((2, 80))),
     ];
-    let the_first_alone = [
+    played(&rt, rt.alloc(), 0, 2, &calls)
+}
+
+#[test]
+fn the_first_may_be_the_last(rt: HostRuntime) -> Result<(), Fail> {
+    let calls = [
         (1, Look, Ok((0, 7))),
         (1, Publish(0, 8), Err(PublishFault::Last)),
         (2, Publish(0, 9), Err(PublishFault::Last)),
         (2, Look, Ok((0, 7))),
     ];
-    let the_second_has_moved = [
+    played(&rt, rt.alloc(), 7, 0, &calls)
+}
+
+#[test]
+fn who_comes_second_has_moved(rt: HostRuntime) -> Result<(), Fail> {
+    let calls = [
         (1, Publish(0, 20), Ok((1, 20))),
         (2, Tell, Ok((0, 10))),
         (2, Look, Ok((1, 20))),
@@ -109,10 +123,15 @@ fn versions_follow_one_another(rt: HostRuntime) -> Result<(), Fail> {
         (1, Look, Ok((4, 50))),
         (1, Publish(4, 60), Ok((5, 60))),
         (2, Tell, Ok((4, 50))),
-        (2, Publish(4, 61), Err(moved)),
+        (2, Publish(4, 61), Err(moved())),
         (2, Tell, Ok((5, 60))),
     ];
-    let who_has_seen_more_moves_to_the_last = [
+    played(&rt, rt.alloc(), 10, 9, &calls)
+}
+
+#[test]
+fn who_has_seen_more_moves_to_the_last(rt: HostRuntime) -> Result<(), Fail> {
+    let calls = [
         (1, Publish(0, 20), Ok((1, 20))),
         (1, Publish(1, 30), Ok((2, 30))),
         (1, Publish(2, 40), Ok((3, 40))),
@@ -121,19 +140,20 @@ fn versions_follow_one_another(rt: HostRuntime) -> Result<(), Fail> {
         (1, Publish(4, 60), Ok((5, 60))),
         (1, Agree, Ok((5, 60))),
         (2, Tell, Ok((4, 50))),
-        (2, Publish(0, 61), Err(moved)),
+        (2, Publish(0, 61), Err(moved())),
         (2, Tell, Ok((5, 60))),
     ];
-    let a_pass_meets_another = [
+    played(&rt, rt.alloc(), 10, 9, &calls)
+}
+
+#[test]
+fn a_pass_meets_another(rt: HostRuntime) -> Result<(), Fail> {
+    let calls = [
         (2, Publish(0, 20), Ok((1, 20))),
         (1, Agree, Ok((0, 10))),
         (2, Tell, Ok((1, 20))),
         (1, Meet, Ok((1, 20))),
         (1, Tell, Ok((1, 20))),
     ];
-    played(&rt, rt.alloc(), 0, 2, &two_and_no_third)?;
-    played(&rt, rt.alloc(), 7, 0, &the_first_alone)?;
-    played(&rt, rt.alloc(), 10, 9, &the_second_has_moved)?;
-    played(&rt, rt.alloc(), 10, 9, &who_has_seen_more_moves_to_the_last)?;
-    played(&rt, rt.alloc(), 10, 9, &a_pass_meets_another)
+    played(&rt, rt.alloc(), 10, 9, &calls)
 }

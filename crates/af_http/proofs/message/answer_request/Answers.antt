@@ -1,7 +1,7 @@
 use Rattle.std.proofs.Common.{refl}
 use Rattle.af_http.specs.Requests.{seen}
 use Rattle.af_http.proofs.SendLemmas.{put_as}
-use Rattle.af_http.proofs.TurnLemmas.{text_is, end_is}
+use Rattle.af_http.proofs.StopLemmas.{text_is, end_is}
 use Rattle.af_http.proofs.message.answer_request.Goals as goal
 
 pub returns : goal.returns

@@ -3,7 +3,7 @@ use Rattle.std.specs.Prelude.{Result}
 use Rattle.af_ops.specs.declared.call.Call.{Call}
 use Rattle.af_http.specs.declared.route_fault.RouteFault.{RouteFault}
 use Rattle.af_http.specs.Routes.{IsRouted}
-use Rattle.af_http.proofs.PartLemmas.{named_read}
+use Rattle.af_http.proofs.OperationLemmas.{named_read}
 use Rattle.af_http.proofs.routes.named.Goals as goal
 
 pub returns-in-Some : goal.returns-in-Some

@@ -1,4 +1,4 @@
-use Rattle.af_http.proofs.RunLemmas.{turned_away}
+use Rattle.af_http.proofs.ConnectLemmas.{turned_away}
 use Rattle.af_http.proofs.serving.serve.Goals as goal
 
 pub returns-in-Err : goal.returns-in-Err

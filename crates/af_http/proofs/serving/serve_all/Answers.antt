@@ -1,5 +1,5 @@
 use Rattle.std.proofs.Common.{◌∙◌, sym}
-use Rattle.af_http.proofs.RunLemmas.{connects_fine, connects_fault}
+use Rattle.af_http.proofs.ConnectLemmas.{connects_fine, connects_fault}
 use Rattle.af_http.proofs.serving.serve_all.Goals as goal
 
 pub returns-then-has_failed : goal.returns-then-has_failed

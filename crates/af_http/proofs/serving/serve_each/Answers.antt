@@ -1,5 +1,6 @@
 use Rattle.std.proofs.Common.{arith}
-use Rattle.af_http.proofs.RunLemmas.{begun_none, begun_more, begun_ends, goes_few}
+use Rattle.af_http.proofs.RunLemmas.{begun_none, begun_more, begun_ends}
+use Rattle.af_http.proofs.EndLemmas.{goes_few}
 use Rattle.af_http.proofs.serving.serve_each.Goals as goal
 
 pub loop-count-init : goal.loop-count-init

@@ -1,5 +1,5 @@
 use Rattle.std.proofs.Common.{refl}
-use Rattle.af_http.proofs.TurnLemmas.{not_gathered, gathered_more}
+use Rattle.af_http.proofs.AwaitLemmas.{not_gathered, gathered_more}
 use Rattle.af_http.proofs.turn.next_head.Goals as goal
 
 pub returns-in-Whole-clause-holds : goal.returns-in-Whole-clause-holds

@@ -5,7 +5,8 @@ use Rattle.af_http.specs.declared.gathering.BodyGathered.TheVariants as body
 use Rattle.af_http.specs.declared.refusal.Refusal.TheVariants.{Incomplete}
 use Rattle.std.proofs.Common.{Some}
 use Rattle.af_http.proofs.SendLemmas.{put_nothing}
-use Rattle.af_http.proofs.TurnLemmas.{body_stops, body_awaits, write_stops, message_turn, never_short, or_fine}
+use Rattle.af_http.proofs.StopLemmas.{body_awaits, body_stops, never_short, or_fine, write_stops}
+use Rattle.af_http.proofs.TurnLemmas.{message_turn}
 use Rattle.af_http.proofs.turn.serve_body.Goals as goal
 
 pub returns-then-has_failed : goal.returns-then-has_failed
@@ -50,21 +51,23 @@ returns-in-Turns g c =
       refl,
     )
 
-pub returns-in-Over : goal.returns-in-Over
-returns-in-Over g c =
+pub returns-in-Whole : goal.returns-in-Whole
+returns-in-Whole g c =
     let h = c.gather_body-found.ensures in
     let w = c.args.wanted in
+    let e = c.answer_whole.ensures in
     let sound = sym c.has_failed.ensures ∙ c.if-has_failed.false in
     let awaits = body_awaits c.args.turn.used _ _ c.args.connection.now.incoming c.gather_body-found.new.incoming h.came.0 w.size w.length c.gather_body-found.result.1 w.head_only
     h.came.1 c.requires.head c.requires.body (rw c.in-Whole.is at h.took) h.few in
-    rw c.in-Over.ensures.left (
-    message_turn g.S.Service.answers c.args.turn.used c.args.turn.count c.args.service.now _ _ c.args.connection.now.incoming h.came.0 c.gather_body-found.new.incoming _ _ _ c.answer_held.new.service
-    w.size c.in-Over.field-1 c.in-Over.ended c.requires.head h.came.1.kept awaits c.flush.ensures.sent sound c.in-Over.ensures.message
+    rw e.2 (
+    message_turn g.S.Service.answers c.args.turn.used c.args.turn.count c.args.service.now _ _ c.args.connection.now.incoming h.came.0 c.gather_body-found.new.incoming _ _ _ c.answer_whole.new.service
+    w.size e.0 c.answer_whole.result c.requires.head h.came.1.kept awaits c.flush.ensures.sent sound e.1
     )
 
-pub returns-in-Short : goal.returns-in-Short
-returns-in-Short g c =
+pub answer_whole-requires-clause-whole : goal.answer_whole-requires-clause-whole
+answer_whole-requires-clause-whole g c =
     let h = c.gather_body-found.ensures in
     let w = c.args.wanted in
-    absurd (never_short g.S.Service.answers c.args.turn.count c.args.service.now c.args.connection.now.incoming h.came.0 c.gather_body-found.new.incoming _ _ c.answer_held.new.service
-    w.size w.length c.in-Short.field-0 w.head_only c.in-Short.field-1 c.requires.head h.came.1.kept c.requires.body (rw c.in-Whole.is at h.found) c.in-Short.ensures.message)
+    λ n again s.
+    never_short c.args.connection.now.incoming h.came.0 c.gather_body-found.new.incoming w.size w.length n w.head_only again
+    c.requires.head h.came.1.kept c.requires.body (rw c.in-Whole.is at h.found) s

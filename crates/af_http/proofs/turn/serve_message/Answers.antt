@@ -1,7 +1,8 @@
 use Rattle.std.proofs.Common.{[], sym}
 use Rattle.std.proofs.lemmas.List.{append-nil}
 use Rattle.af_http.proofs.SendLemmas.{put_nothing}
-use Rattle.af_http.proofs.TurnLemmas.{message_turn, awaits_none}
+use Rattle.af_http.proofs.TurnLemmas.{message_turn}
+use Rattle.af_http.proofs.AwaitLemmas.{awaits_none}
 use Rattle.af_http.proofs.turn.serve_message.Goals as goal
 
 pub returns-in-Over : goal.returns-in-Over

@@ -1,5 +1,6 @@
 use Rattle.std.proofs.Common.{refl, inr, arith, ap, ◌∙◌, Some}
-use Rattle.af_http.proofs.TurnLemmas.{turned_after, large_stops, incomplete_stops, closed_stops, fault_stops, turns_stops, write_stops}
+use Rattle.af_http.proofs.TurnLemmas.{turned_after}
+use Rattle.af_http.proofs.StopLemmas.{large_stops, incomplete_stops, closed_stops, fault_stops, turns_stops, write_stops}
 use Rattle.af_http.proofs.turn.serve_one.Goals as goal
 
 pub returns-in-Head : goal.returns-in-Head

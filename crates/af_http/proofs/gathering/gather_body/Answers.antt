@@ -1,0 +1,36 @@
+use Rattle.std.proofs.Common.{◌≡◌, ◌-◌, ap, arith}
+use Rattle.af_http.proofs.IncomingLemmas.{fills_both}
+use Rattle.af_http.proofs.StreamLemmas.{took_as, took_more}
+use Rattle.af_http.proofs.gathering.gather_body.Goals as goal
+
+pub loop-count-preserved : goal.loop-count-preserved
+loop-count-preserved g c =
+    let h = c.in-Turns.ensures in
+    let i = c.loop-count.invariant in
+    (fills_both i.0 h.came, took_as (omega (arith, c.loop-count.auto.count)) (took_more i.1 h.took), h.found)
+
+pub returns-in_default : goal.returns-in_default
+returns-in_default g c =
+    let h = c.gather_body_once.ensures in
+    let i = c.loop-count.invariant in
+    record {
+      came = fills_both i.0 h.came;
+      found = h.found;
+      took = took_more i.1 h.took;
+      few = omega (arith, c.loop-count-test.true, c.loop-count.auto.count);
+      turns = λ is. absurd (c.in_default.not-Turns is);
+    }
+
+pub returns : goal.returns
+returns g c =
+    let i = c.loop-count.invariant in
+    let few = c.requires.few in
+    let top = c.loop-count.auto.count-end few in
+    let all : c.loop-count.count ≡ 65536 = omega (arith, c.loop-count-test.false, top) in
+    record {
+      came = i.0;
+      found = i.2;
+      took = took_as (ap (λ n. n - c.args.before) all) i.1;
+      few = omega (arith, few);
+      turns = λ is. omega (arith, few);
+    }

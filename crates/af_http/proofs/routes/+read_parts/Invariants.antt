@@ -1,5 +1,0 @@
-use Rattle.std.proofs.Common.{length}
-use Rattle.af_http.proofs.routes.+read_parts.Given as goal
-
-abbrev pub decreases-read_parts : goal.decreases-read_parts
-decreases-read_parts l = length l.segments.now
