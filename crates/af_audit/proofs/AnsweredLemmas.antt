@@ -11,15 +11,26 @@ use Rattle.af_ops.specs.declared.answer.Under.{Under}
 use Rattle.af_ops.specs.declared.op.Op.{Op}
 use Rattle.af_ops.specs.declared.served.Served.TheVariants.{Shown}
 use Rattle.af_ops.specs.Decisions.{prepared_verdict, verdict_by}
-use Rattle.af_ops.specs.Edits.{edited, is_edit}
+use Rattle.af_ops.specs.declared.edit.Edit.{Edit}
+use Rattle.af_ops.specs.declared.edit.Edit.TheVariants as edit
+use Rattle.af_ops.specs.Edits.{edited, is_edit, next_by}
 use Rattle.af_ops.specs.Effects.{Effect, effect_of}
 use Rattle.af_ops.specs.Prepared.{Preparation}
 use Rattle.af_ops.specs.Served.{IsServed, reply_told}
 use Rattle.af_ops.specs.Standings.{StandingRows, with_entry}
 use Rattle.af_ops.specs.Verdicts.{Verdict, Changes, Refuses, Tells, done, permitted, recorded}
 use Rattle.af_audit.specs.Acts.{after_op, next_of}
-use Rattle.af_audit.proofs.OperatedLemmas.{no_edit, some_edit}
 use Rattle.af_audit.proofs.ReplayLemmas.{no_change_depends}
+
+-- ---- whether an edit makes another state
+
+no_edit : (it : Edit) (state : StateRows) → is_edit it ≡ false → next_by it state ≡ None
+no_edit edit.Nothing state none = refl
+no_edit it state none = cc
+
+some_edit : (it : Edit) (state : StateRows) → is_edit it ≡ true → next_by it state ≡ Some (edited it state)
+some_edit edit.Nothing state is_change = cc
+some_edit it state is_change = refl
 
 -- ---- the state of a change is that which the operation leaves
 

@@ -69,7 +69,7 @@ pub claims_follow : ClaimsFollow
 claims_follow t old new (Ok None) is = follows_same old new is.ledger
 claims_follow t old new (Ok (Some claim)) is = follows_entered old new _ _ t new.state is.ledger
 claims_follow t old new (Err HistoryFull) is = follows_same old new is.ledger
-claims_follow t old new (Err OutOfMemory) is = follows_same old new is
+claims_follow t old new (Err OutOfMemory) is = follows_same old new is.ledger
 
 pub reports_follow : ReportsFollow
 reports_follow t claim outcome old new (Ok done) is = follows_entered old new _ _ t _ is.ledger

@@ -5,7 +5,6 @@ use Rattle.std.proofs.lemmas.List.{length-append}
 use Rattle.std.specs.Prelude.{Some, None, Result, Ok, Err}
 use Rattle.af_role.specs.Pairs.{PairRow}
 use Rattle.af_policy.specs.Grants.{first_unmet}
-use Rattle.af_sched.specs.State.{StateRows}
 use Rattle.af_ops.specs.declared.answer.CallFault.{CallFault}
 use Rattle.af_ops.specs.declared.answer.CallFault.TheVariants as why
 use Rattle.af_ops.specs.declared.answer.OpFault.TheVariants.{OutOfMemory}
@@ -30,19 +29,19 @@ use Rattle.af_audit.specs.Entries.{AuditRows, has_room, with_entry}
 use Rattle.af_audit.specs.Ledgers.{Enters, LedgerRows, entry_of}
 use Rattle.af_audit.proofs.AnsweredLemmas.{change_is_after, change_verdict, serves_change, serves_told}
 
--- ---- a fault, or want of memory for what is permitted
+-- ---- a fault, or no memory for what is permitted
 
 none_some : {X : Type 0} {x : X} → None ≡ Some x → ⊥
 none_some same = cc
 
--- want of memory may be served of each verdict
+-- out of memory may be served of each verdict
 without_memory : (asked : Op) (it : Verdict) (old : StandingRows) (gave : Served) (new : StandingRows) → IsServed asked (Refuses OutOfMemory) old gave new → IsServed asked it old gave new
 without_memory asked it old (served.Shown shown) new is = absurd (none_some is.0)
 without_memory asked it old served.NothingDone new is = is
 without_memory asked it old served.ReplyLost new is = absurd is.0
 
 -- what is served of a fault is served of its verdict
-served_fault : (asked : Op) (it : Verdict) (old : StandingRows) (fault : CallFault) (gave : Served) → (it ≡ fault_verdict fault) ⊎ (IsDoing asked it × (fault ≡ why.Op OutOfMemory)) → IsServed asked (fault_verdict fault) old gave old → IsServed asked it old gave old
+pub served_fault : (asked : Op) (it : Verdict) (old : StandingRows) (fault : CallFault) (gave : Served) → (it ≡ fault_verdict fault) ⊎ (IsDoing asked it × (fault ≡ why.Op OutOfMemory)) → IsServed asked (fault_verdict fault) old gave old → IsServed asked it old gave old
 served_fault asked it old fault gave (inl is) was = subst (λ (v : Verdict). IsServed asked v old gave old) (sym is) was
 served_fault asked it old fault gave (inr wants) was =
     without_memory asked it old gave old (subst (λ (f : CallFault). IsServed asked (fault_verdict f) old gave old) wants.1 was)
@@ -60,17 +59,16 @@ module _ (granted : PairRow → Bool) (asked : Op) (t : ℕ) (old : LedgerRows) 
       subst (λ (k : ℕ). IsDecided asked old.state (granted_verdict k granted (standing_of old) asked t) outcome) most
       (subst (λ (u : Under). IsDecided asked old.state (granted_verdict limit granted (record { under = u; state = old.state }) asked t) outcome) same decided)
 
-  -- a fault
-  pub serves_fault : (under : Under) (fault : CallFault) (gave : Served) → under ≡ (standing_of old).under → IsDecided asked old.state ledger_verdict (Err fault) → ((state : StateRows) → IsServed asked (fault_verdict fault) (record { under = under; state = state }) gave (record { under = under; state = state })) → IsServed asked ledger_verdict (standing_of old) gave (standing_of old)
-  serves_fault under fault gave same decided served =
-      served_fault asked ledger_verdict (standing_of old) fault gave decided
-      (subst (λ (u : Under). IsServed asked (fault_verdict fault) (record { under = u; state = old.state }) gave (record { under = u; state = old.state })) same (served old.state))
-
   -- a reply that changes nothing
   pub serves_reply : (under : Under) (prepared : Preparation) → under ≡ (standing_of old).under → IsDecided asked old.state ledger_verdict (Ok prepared) → is_edit prepared.edit ≡ false → IsServed asked ledger_verdict (standing_of old) (Shown (reply_told under prepared.reply)) (standing_of old)
   serves_reply under prepared same decided none =
       subst (λ (u : Under). IsServed asked ledger_verdict (standing_of old) (Shown (reply_told u prepared.reply)) (standing_of old)) (sym same)
       (serves_told asked ledger_verdict (standing_of old) prepared decided none)
+
+  -- a change for which there is no memory
+  pub wants_memory : (prepared : Preparation) → IsDecided asked old.state ledger_verdict (Ok prepared) → is_edit prepared.edit ≡ true → IsDecided asked old.state ledger_verdict (Err (why.Op OutOfMemory))
+  wants_memory prepared decided some =
+      inr (subst (IsDoing asked) (sym (change_verdict asked ledger_verdict (standing_of old) prepared decided some)) tt, refl)
 
   -- the state that the edit of a change makes is that which the operation leaves
   pub edit_is_after : (prepared : Preparation) → IsDecided asked old.state ledger_verdict (Ok prepared) → is_edit prepared.edit ≡ true → edited prepared.edit old.state ≡ after_op asked t old.state

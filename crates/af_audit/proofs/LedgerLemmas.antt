@@ -1,20 +1,18 @@
 -- What holds of a ledger once an act is done, or once it decides under a later version.
-use Rattle.std.proofs.Common.{◌≡◌, ◌∙◌, refl, sym, ap, ℕ, ◌≤◌, ◌<◌, List, [], ◌∷◌, ◌++◌, Bool, true, false, length, arith}
-use Rattle.std.specs.Prelude.{Option, Some, Ok, unwrap_or, nat_lt}
+use Rattle.std.proofs.Common.{◌≡◌, refl, ℕ, ◌≤◌, ◌<◌, List, [], ◌∷◌, ◌++◌, true, length, arith}
+use Rattle.std.specs.Prelude.{nat_lt}
 use Rattle.std.proofs.lemmas.Bool.{ltb-true}
 use Rattle.std.proofs.lemmas.List.{map-append}
 use Rattle.std.proofs.lemmas.List.Elements.{All-push}
 use Rattle.af_sched.specs.State.{StateRows}
-use Rattle.af_ops.specs.declared.op.Op.{Op}
-use Rattle.af_ops.specs.Effects.{Effect, effect_of}
 use Rattle.af_audit.specs.declared.act.Act.{Act}
 use Rattle.af_audit.specs.declared.actor.Actor.{Actor}
 use Rattle.af_audit.specs.declared.entry.Entry.{Entry}
-use Rattle.af_audit.specs.Acts.{IsAfter, IsState, after_op, is_by, next_of}
+use Rattle.af_audit.specs.Acts.{IsAfter, IsState, is_by}
 use Rattle.af_audit.specs.Entries.{has_room}
 use Rattle.af_audit.specs.Ledgers.{Climb, IsLedger, LedgerRows, entered, entry_of, versions_of}
 use Rattle.af_audit.proofs.EntryLemmas.{audit_more}
-use Rattle.af_audit.proofs.ReplayLemmas.{no_change_depends, replay_more}
+use Rattle.af_audit.proofs.ReplayLemmas.{replay_more}
 
 -- a later end
 climb_later : (low : ℕ) (ns : List ℕ) (m n : ℕ) → m ≤ n → Climb low (ns ++ m ∷ []) → Climb low (ns ++ n ∷ [])
@@ -53,10 +51,3 @@ ledger_looked ledger later is le = record {
   acted = is.acted;
   climbs = climb_later 0 (versions_of ledger.audit.entries) ledger.version later le is.climbs;
 }
-
--- what an operation changes for one reader is what it leaves for each
-pub after_change : (reads : List ℕ → Bool) (state : StateRows) (asked : Op) (t : ℕ) (effect : Effect) (next : StateRows) → effect_of reads state asked t ≡ Ok effect → effect.next ≡ Some next → next ≡ after_op asked t state
-after_change reads state asked t effect next is some =
-    let same : next_of (effect_of (λ dag. false) state asked t) ≡ Some next =
-    no_change_depends (λ dag. false) reads state asked t ∙ ap next_of is ∙ some in
-    sym (ap (λ (made : Option StateRows). unwrap_or made state) same)

@@ -5,8 +5,8 @@ pub mod FollowLemmas
 pub mod JudgedLemmas
 pub mod LedgerLemmas
 pub mod LogLemmas
-pub mod OperatedLemmas
 pub mod ReplayLemmas
+pub mod ReportedLemmas
 pub mod RequestLemmas
 pub mod TickedLemmas
 pub mod TriggerLemmas

@@ -63,10 +63,10 @@ told_rows shown tells window rows places told here found =
     found ∙ ap (filter_map (slice_get rows)) here
     ∙ found_at_each (slice_get rows) (page_of shown window rows).places (cut window (filter shown rows)) (tells window rows)
 
--- rows that are lent, told as a page with a total
-pub lent_rows : {X : Type 0} (now : X → Entry) (lent : List X) (rows : List Entry) (total count : ℕ) → map now lent ≡ rows → total ≡ count → compact_text (listing_of (codes "event_logs") (map (λ x. object_of (entry_fields (now x))) lent) total) ≡ compact_text (logs_data rows count)
-lent_rows {X = X} now lent rows total count is counts =
-    ap₂ (λ (told : List Data) (n : ℕ). compact_text (listing_of (codes "event_logs") told n)) (each lent ∙ ap (map (λ (entry : Entry). object_of (entry_fields entry))) is) counts
+-- rows that are borrowed, told as a page with a total
+pub borrowed_rows : {X : Type 0} (now : X → Entry) (borrowed : List X) (rows : List Entry) (total count : ℕ) → map now borrowed ≡ rows → total ≡ count → compact_text (listing_of (codes "event_logs") (map (λ x. object_of (entry_fields (now x))) borrowed) total) ≡ compact_text (logs_data rows count)
+borrowed_rows {X = X} now borrowed rows total count is counts =
+    ap₂ (λ (told : List Data) (n : ℕ). compact_text (listing_of (codes "event_logs") told n)) (each borrowed ∙ ap (map (λ (entry : Entry). object_of (entry_fields entry))) is) counts
   where
     each : (xs : List X) → map (λ x. object_of (entry_fields (now x))) xs ≡ map (λ entry. object_of (entry_fields entry)) (map now xs)
     each [] = refl

@@ -86,7 +86,7 @@ VerdictsLeaveOneLedger =
     → MayEnter (bearer_of policy token) asked t old new
     → new ≡ ledger_left (bearer_of policy token) asked t old (verdict_on policy old token asked t)
 
--- where memory was wanted, and nothing done, the ledger is as it was
+-- where there was no memory, and nothing was done, the ledger is as it was
 abbrev pub NothingDoneLeavesTheLedger : Type 0
 NothingDoneLeavesTheLedger =
     (policy : PolicyRows) (token : Option (List ℕ)) (asked : Op) (t : ℕ) (old new : LedgerRows)

@@ -6,6 +6,5 @@ pub mod EventLogs
 pub mod Laws
 pub mod Ledgers
 pub mod Logs
-pub mod Operated
 pub mod Reported
 pub mod Ticked

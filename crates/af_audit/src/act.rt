@@ -1,5 +1,7 @@
-ghost use Rattle.std.specs.Prelude.{◌≡◌, option_map};
+ghost use Rattle.std.specs.Prelude.{◌≡◌, option_map, true};
+ghost use Rattle.std.specs.List.{list_all};
 ghost use Rattle.std.specs.Option.{option_copied};
+ghost use Rattle.json.specs.Run.{is_plain};
 ghost use Rattle.af_audit.specs.Logs.{act_dag, act_run, act_task, event_of, id_named, op_event, pool_event, variable_event};
 
 use crate::run_name::{RunName, op_run};
@@ -54,9 +56,10 @@ impl Act {
         }
     }
 
-    /// The name of its event.
+    /// The name of its event, of which no byte wants an escape.
     pub fn event(&self) -> &'static str
-        ensures { result.now ≡ event_of self.now }
+        ensures name { result.now ≡ event_of self.now }
+        ensures plain { list_all is_plain result.now ≡ true }
     {
         match self {
             Act::Did(op) => op_event(op),
@@ -69,7 +72,8 @@ impl Act {
 
 /// The name of the event of an operation; empty for one that never changes anything.
 fn op_event(op: &Op) -> &'static str
-    ensures { result.now ≡ op_event op.now }
+    ensures name { result.now ≡ op_event op.now }
+    ensures plain { list_all is_plain result.now ≡ true }
 {
     match op {
         Op::PauseDag(_, _) => "patch_dag",
@@ -86,7 +90,8 @@ fn op_event(op: &Op) -> &'static str
 
 /// The name of the event of an operation on pools.
 fn pool_event(op: &PoolOp) -> &'static str
-    ensures { result.now ≡ pool_event op.now }
+    ensures name { result.now ≡ pool_event op.now }
+    ensures plain { list_all is_plain result.now ≡ true }
 {
     match op {
         PoolOp::Add(_) => "post_pool",
@@ -98,7 +103,8 @@ fn pool_event(op: &PoolOp) -> &'static str
 
 /// The name of the event of an operation on variables.
 fn variable_event(op: &VariableOp) -> &'static str
-    ensures { result.now ≡ variable_event op.now }
+    ensures name { result.now ≡ variable_event op.now }
+    ensures plain { list_all is_plain result.now ≡ true }
 {
     match op {
         VariableOp::Add(_) => "post_variable",

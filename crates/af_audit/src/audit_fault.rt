@@ -35,7 +35,7 @@ impl From<AllocFailed<Entry>> for AuditFault {
 
 impl From<AuditFault> for OpFault {
     ghost use Rattle.std.specs.Prelude.{◌≡◌};
-    ghost use Rattle.af_audit.specs.Operated.{op_fault};
+    ghost use Rattle.af_audit.specs.Answered.{op_fault};
 
     ghost from_gives = { λ fault why. why ≡ op_fault fault };
 

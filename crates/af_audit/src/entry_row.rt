@@ -1,16 +1,16 @@
 // Entries as rows of event logs: which a reader is shown, and how they are told.
-ghost use Rattle.std.specs.Prelude.{◌≡◌, ◌∷◌, [], IsTrue, OnOk, IfOk, codes, false, true};
+ghost use Rattle.std.specs.Prelude.{◌≡◌, ◌∷◌, [], OnOk, IfOk, codes, false, true};
 ghost use Rattle.std.specs.Option.{option_copied};
+ghost use Rattle.serde_json.specs.Data.{string};
 ghost use Rattle.af_listing.specs.Pages.{page_of, shows};
-ghost use Rattle.af_ops.specs.Texts.{Adds, is_name};
-ghost use Rattle.af_audit.specs.Logs.{act_dag, act_task, entry_fields, entry_run, name_data, owner_of};
+ghost use Rattle.af_ops.specs.Texts.{Adds};
+ghost use Rattle.af_audit.specs.Logs.{act_dag, entry_fields, entry_run, name_data, owner_of};
 
-use crate::act::Act;
 use crate::actor::Actor;
 use crate::entry::Entry;
 use crate::run_name::{RunName, made_text};
 use af_listing::{Listed, Page, Window, page};
-use af_names::DagId;
+use af_names::{DagId, TaskId};
 use af_ops::{Row, Text};
 use af_policy::Reader;
 use std::alloc::{AllocError, Global};
@@ -52,31 +52,34 @@ impl Row for Entry {
 fn put_entry(alloc: Global, out: &mut Text, entry: &Entry) -> Result<(), AllocError>
     ensures { OnOk result (Adds false out.old out.new (entry_fields entry.now)) }
 {
-    put_name(alloc, out, false, "dag_id", dag_text(&entry.act))?;
-    out.text(alloc, true, "event", entry.act.event())?;
+    put_dag(out, entry.act.dag())?;
+    out.plain(true, "event", entry.act.event())?;
     out.number(true, "event_log_id", u64::from(entry.seq))?;
-    out.text(alloc, true, "owner", owner(&entry.actor))?;
+    put_owner(alloc, out, &entry.actor)?;
     out.number(true, "policy_version", u64::from(entry.version))?;
     put_run(alloc, out, entry)?;
-    put_name(alloc, out, true, "task_id", task_text(&entry.act))?;
+    put_task(out, entry.act.task())?;
     out.instant(true, "when", Some(entry.moment))?;
     Ok(())
 }
 
-/// A name, or null for none.
-fn put_name(
-    alloc: Global,
-    out: &mut Text,
-    later: bool,
-    name: &str,
-    value: Option<&str>,
-) -> Result<(), AllocError>
-    requires { IsTrue (is_name name.now) }
-    ensures { OnOk result (Adds later out.old out.new ((name.now, name_data (option_copied value.entry)) ∷ [])) }
+/// The id of a DAG, or null for none.
+fn put_dag(out: &mut Text, dag: Option<&DagId>) -> Result<(), AllocError>
+    ensures { OnOk result (Adds false out.old out.new ((codes "dag_id", name_data (option_copied dag.entry)) ∷ [])) }
 {
-    match value {
-        None => out.null(later, name),
-        Some(value) => out.text(alloc, later, name, value),
+    match dag {
+        None => out.null(false, "dag_id"),
+        Some(dag_id) => out.dag_id(false, "dag_id", dag_id),
+    }
+}
+
+/// The id of a task, or null for none.
+fn put_task(out: &mut Text, task: Option<&TaskId>) -> Result<(), AllocError>
+    ensures { OnOk result (Adds true out.old out.new ((codes "task_id", name_data (option_copied task.entry)) ∷ [])) }
+{
+    match task {
+        None => out.null(true, "task_id"),
+        Some(task_id) => out.task_id(true, "task_id", task_id),
     }
 }
 
@@ -91,33 +94,13 @@ fn put_run(alloc: Global, out: &mut Text, entry: &Entry) -> Result<(), AllocErro
     }
 }
 
-/// Who is named as the owner.
-fn owner(actor: &Actor) -> &str
-    ensures { result.now ≡ owner_of actor.now }
+/// Who is named as the owner. The name of a user may have bytes that want an escape.
+fn put_owner(alloc: Global, out: &mut Text, actor: &Actor) -> Result<(), AllocError>
+    ensures { OnOk result (Adds true out.old out.new ((codes "owner", string (owner_of actor.now)) ∷ [])) }
 {
     match actor {
-        Actor::User(name) => name.as_str(),
-        Actor::Scheduler => "scheduler",
-        Actor::Executor => "executor",
-    }
-}
-
-/// The id of the DAG that an act names, as a text.
-fn dag_text(act: &Act) -> Option<&str>
-    ensures { option_copied result ≡ act_dag act.now }
-{
-    match act.dag() {
-        Some(id) => Some(id.as_str()),
-        None => None,
-    }
-}
-
-/// The id of the task that an act names, as a text.
-fn task_text(act: &Act) -> Option<&str>
-    ensures { option_copied result ≡ act_task act.now }
-{
-    match act.task() {
-        Some(id) => Some(id.as_str()),
-        None => None,
+        Actor::User(name) => out.text(alloc, true, "owner", name.as_str()),
+        Actor::Scheduler => out.plain(true, "owner", "scheduler"),
+        Actor::Executor => out.plain(true, "owner", "executor"),
     }
 }

@@ -31,7 +31,7 @@ pub fn entries_text<R: Reader>(
     Ok(text)
 }
 
-/// The entries at these places, lent. `AllocError` only where a growth was refused.
+/// The entries at these places, borrowed. `AllocError` only where a growth was refused.
 fn entries_at<'a>(
     alloc: Global,
     entries: &'a [Entry],

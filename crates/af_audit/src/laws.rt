@@ -45,7 +45,7 @@ pub fn triggers_name_their_run()
     triggers_add_a_run();
 }
 
-/// What is told of a request leaves the ledger that the verdict on it says; where memory was wanted in its place, the ledger is as it was.
+/// What is told of a request leaves the ledger that the verdict on it says; where there was no memory to tell it, the ledger is as it was.
 pub fn verdicts_leave_one_ledger()
     ensures told { VerdictsLeaveOneLedger }
     ensures nothing_done { NothingDoneLeavesTheLedger }

@@ -10,7 +10,7 @@ use std::marker::Model;
 mod answering;
 mod claiming;
 mod listing;
-mod operating;
+mod recording;
 mod reporting;
 mod ticking;
 

@@ -1,10 +1,13 @@
+mod asks;
 mod asserts;
 mod entries;
 mod event_logs;
+mod long;
 mod opening;
 mod playing;
 mod requests;
 mod rows;
 mod runs;
+mod same;
 mod steps;
 mod users;

@@ -17,7 +17,7 @@ use Rattle.af_ops.specs.Effects.{Effect, effect_of}
 use Rattle.af_ops.specs.Endpoints.{endpoint_of}
 use Rattle.af_ops.specs.Served.{IsServed, answer_of}
 use Rattle.af_ops.specs.Table.{is_open}
-use Rattle.af_ops.specs.Verdicts.{Verdict, judged, opened}
+use Rattle.af_ops.specs.Verdicts.{judged, opened}
 use Rattle.af_audit.specs.Answered.{MayEnter, ledger_left, standing_of, verdict_on}
 use Rattle.af_audit.specs.EventLogs.{entries_verdict, nameless}
 use Rattle.af_audit.specs.Ledgers.{LedgerRows}

@@ -1,6 +1,6 @@
 -- What is asked of the policy is a step of the one session of its world.
-use Rattle.std.proofs.Common.{◌≡◌, ◌≢◌, ◌∙◌, refl, sym, ap, subst, ℕ, ◌<◌, List, [], ◌∷◌, ◌++◌, Bool, true, false, ◌==◌, length, length-append, nat_lt, arith}
-use Rattle.std.specs.Prelude.{Option, Some, None, Result, Ok, Err, max, slice_get, if◌then◌else◌}
+use Rattle.std.proofs.Common.{◌≡◌, ◌∙◌, refl, sym, ap, ℕ, ◌<◌, List, [], ◌∷◌, ◌++◌, Bool, true, false, ◌==◌, length, length-append, nat_lt, arith}
+use Rattle.std.specs.Prelude.{Option, Some, None, Result, max, slice_get, if◌then◌else◌}
 use Rattle.std.specs.Bool.{Decides}
 use Rattle.std.proofs.lemmas.Bool.Decides.{Decides-eqb, Decides-ltb}
 use Rattle.af_role.specs.declared.need.Need.{Need}
@@ -27,7 +27,7 @@ use Rattle.af_world.specs.declared.step.Step.{Step}
 use Rattle.af_world.specs.Moving.{Move, move_of}
 use Rattle.af_world.specs.Publishing.{handed_in, lost, made, overtaken, publishing}
 use Rattle.af_world.specs.Steps.{Moves}
-use Rattle.af_world.specs.Worlds.{World, is_held, policy_at}
+use Rattle.af_world.specs.Worlds.{World, is_held}
 use Rattle.af_plane.specs.Alone.{Administers, Runs, policy_step, world_of}
 use Rattle.af_plane.specs.Planes.{over}
 use Rattle.af_plane.specs.Solos.{SoloRows}

@@ -15,7 +15,7 @@ use Rattle.af_world.specs.declared.step.Step.TheVariants as step
 use Rattle.af_world.specs.Laws as world
 use Rattle.af_world.specs.Runs.{IsRun}
 use Rattle.af_world.specs.Worlds.{OpeningRows, World}
-use Rattle.af_plane.specs.Alone.{Administers, AreSteps, IsAnswered, LooksAndActs, Runs, policy_step, world_of}
+use Rattle.af_plane.specs.Alone.{Administers, AreSteps, LooksAndActs, Runs, policy_step, world_of}
 use Rattle.af_plane.specs.Laws.{AreAnswered, CallsAreOneRun, CallsGoOn, EntriesAreGranted, Exchange, IsReached, OpensARun, VersionsFollow}
 use Rattle.af_plane.specs.Solos.{SoloRows}
 

@@ -1,8 +1,6 @@
 -- What a server for one thread answers is a run of its world.
-use Rattle.std.proofs.Common.{◌≡◌, ◌≢◌, ◌∙◌, refl, sym, ap, subst, ℕ, List, [], ◌∷◌, ◌++◌, Bool, true, false, length, arith}
-use Rattle.std.specs.Prelude.{Option, Some, None, Result, max, slice_get, if◌then◌else◌}
-use Rattle.af_listing.specs.Windows.{Cut}
-use Rattle.af_policy.specs.declared.bad_input.Parameter.{Parameter}
+use Rattle.std.proofs.Common.{◌≡◌, ◌≢◌, ◌∙◌, refl, sym, ap, subst, ℕ, List, [], ◌∷◌, Bool, true, false, length, arith}
+use Rattle.std.specs.Prelude.{Option, Some, None, max, slice_get, if◌then◌else◌}
 use Rattle.af_policy.specs.Identity.{bearer_of}
 use Rattle.af_policy.specs.Versions.{VersionRows, all_versions}
 use Rattle.af_ops.specs.declared.call.Call.{Call}
@@ -10,7 +8,6 @@ use Rattle.af_ops.specs.declared.call.Call.TheVariants as call
 use Rattle.af_ops.specs.declared.op.Op.{Op}
 use Rattle.af_ops.specs.declared.served.Served.{Served}
 use Rattle.af_ops.specs.declared.served.Served.TheVariants as served
-use Rattle.af_ops.specs.declared.shown_answer.Shown.{Shown}
 use Rattle.af_ops.specs.Endpoints.{endpoint_of}
 use Rattle.af_ops.specs.PolicyVerdicts.{current}
 use Rattle.af_ops.specs.Served.{IsServed}
@@ -21,8 +18,8 @@ use Rattle.af_audit.specs.Ledgers.{LedgerRows}
 use Rattle.af_world.specs.declared.step.Step.TheVariants as step
 use Rattle.af_world.specs.Moving.{move_of}
 use Rattle.af_world.specs.Steps.{Moves}
-use Rattle.af_plane.specs.Alone.{AreSteps, IsAnswered, LooksAndActs, Runs, all_seen, world_of}
-use Rattle.af_plane.specs.Planes.{ActIn, ServesAct, over}
+use Rattle.af_plane.specs.Alone.{AreSteps, IsAnswered, LooksAndActs, all_seen, world_of}
+use Rattle.af_plane.specs.Planes.{ServesAct, over}
 use Rattle.af_plane.specs.Solos.{IsDecided, OnState, SoloRows, looked}
 use Rattle.af_plane.proofs.ActLemmas.{open_stays, serves_logs, serves_op}
 use Rattle.af_plane.proofs.PolicyLemmas.{administers, latest_got}

@@ -29,7 +29,7 @@ use Rattle.af_world.specs.declared.step.Step.TheVariants as step
 use Rattle.af_world.specs.declared.try_report.TryReport.{TryReport}
 use Rattle.af_world.specs.Acting.{holds}
 use Rattle.af_world.specs.Moving.{move_of}
-use Rattle.af_world.specs.Plane.{claim_told, claimed_try, report_told, tick_told}
+use Rattle.af_world.specs.Plane.{claim_told, report_told, tick_told}
 use Rattle.af_world.specs.Steps.{Moves}
 use Rattle.af_world.specs.Worlds.{World, has_session, sees, sees_entries}
 
@@ -110,14 +110,9 @@ ClaimIs old t (Err OutOfMemory) new = new ≡ old
 abbrev pub try_of : Claim → Outcome → TryReport
 try_of claim outcome = record { run_number = claim.run_number; task_id = claim.task_id; try_number = claim.try_number; outcome = outcome }
 
--- the claim has the ids of the run of its number
-abbrev pub IsNamed : LedgerRows → Claim → Type 0
-IsNamed ledger claim = (outcome : Outcome) → claimed_try ledger (try_of claim outcome) ≡ Some claim
-
--- where the claim has the ids of the run of its number
 abbrev pub ReportIn : LedgerRows → Claim → Outcome → ℕ → Reporting → LedgerRows → Type 0
 ReportIn old claim outcome t comes new =
-    IsNamed old claim → (versions : VersionRows) (holder : Option ℕ) (sessions : List Seen)
+    (versions : VersionRows) (holder : Option ℕ) (sessions : List Seen)
     → Moves (over versions old holder sessions) (step.Report (try_of claim outcome) t) (move_of (Some (report_told new comes)) (over versions new None sessions))
 
 -- what a report came to

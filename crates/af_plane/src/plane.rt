@@ -81,7 +81,7 @@ impl Plane {
 
     /// Answers an operation on the state, or a request for event logs, of who holds the token, at a moment, under the policy of the version
     /// that was looked at; none where the call is an operation on the policy, which is not the plane's. Where the state changes there is one
-    /// entry, of that user. A full history is told before want of memory, and no reply is lost.
+    /// entry, of that user. A full history is told before out of memory, and no reply is lost.
     pub fn apply(
         &mut self,
         alloc: Global,
@@ -171,7 +171,7 @@ impl Plane {
     }
 
     /// Takes the outcome of a claimed try at a moment; then there is one entry, of an executor. The report's own faults are told first, then
-    /// a full history, then want of memory; after each the plane is as before.
+    /// a full history, then out of memory; after each the plane is as before.
     pub fn report(
         &mut self,
         alloc: Global,

@@ -75,7 +75,7 @@ impl Solo {
     }
 
     /// Answers a call of who holds the token, at a moment. It is decided where its data live, under the latest version of the policy, and
-    /// that is a run of the world of one session: a look and an act, or one step on the policy. Want of memory comes last, then nothing is
+    /// that is a run of the world of one session: a look and an act, or one step on the policy. Out of memory comes last, then nothing is
     /// done but that look; no reply of a change is lost.
     pub fn answer(
         &mut self,

@@ -25,7 +25,7 @@ use Rattle.af_world.proofs.VerdictLemmas.{IsClosed}
 
 -- ---- versions
 
--- an answer names this version, or nothing is told for want of memory
+-- an answer names this version, or nothing is told where there is no memory
 abbrev pub Names : ℕ → Option Shown → Type 0
 Names version None = ⊤
 Names version (Some shown) = shown.version ≡ Some version

@@ -13,7 +13,7 @@ use std::test::Fail;
 
 /// The rows of event logs of a run whose only task fails.
 const LOGS: &[&[u8]] = &[
-    br#"{"dag_id":"b","event":"trigger_dag_run","event_log_id":1,"owner":"uma","policy_version":0,"run_id":"manual__2024-01-01T00:00:00+00:00","task_id":null,"when":"2024-01-01T00:00:00+00:00"}"#,
+    br#"{"dag_id":"b","event":"trigger_dag_run","event_log_id":1,"owner":"adam","policy_version":0,"run_id":"manual__2024-01-01T00:00:00+00:00","task_id":null,"when":"2024-01-01T00:00:00+00:00"}"#,
     br#"{"dag_id":null,"event":"tick","event_log_id":2,"owner":"scheduler","policy_version":0,"run_id":null,"task_id":null,"when":"2024-01-01T00:00:00+00:00"}"#,
     br#"{"dag_id":"b","event":"claim","event_log_id":3,"owner":"executor","policy_version":0,"run_id":"manual__2024-01-01T00:00:00+00:00","task_id":"t","when":"2024-01-01T00:00:00+00:00"}"#,
     br#"{"dag_id":"b","event":"report","event_log_id":4,"owner":"executor","policy_version":0,"run_id":"manual__2024-01-01T00:00:00+00:00","task_id":"t","when":"2024-01-01T00:00:00+00:00"}"#,

@@ -1,6 +1,6 @@
 //! Requests for event logs: who is told which entries.
 use crate::tests::opening::{ledger, op};
-use crate::tests::playing::played;
+use crate::tests::playing::{played, shown_to};
 use crate::tests::rows::{JANUARY, MIXED, PAUSED};
 use crate::tests::users::{policy, token};
 use af_audit::Ledger;
@@ -30,10 +30,10 @@ const ONE: &[u8] =
     br#"{"event_logs":[{"dag_id":"b","event":"patch_dag","event_log_id":1,"owner":"uma","policy_version":0,"run_id":null,"task_id":null,"when":"2024-01-01T00:00:00+00:00"}],"total_entries":1}"#;
 
 const ALL: &[u8] =
-    br#"{"event_logs":[{"dag_id":"b","event":"patch_dag","event_log_id":1,"owner":"uma","policy_version":0,"run_id":null,"task_id":null,"when":"2024-01-01T00:00:00+00:00"},{"dag_id":null,"event":"tick","event_log_id":2,"owner":"scheduler","policy_version":0,"run_id":null,"task_id":null,"when":"2024-03-01T00:00:00+00:00"},{"dag_id":"monthly","event":"claim","event_log_id":3,"owner":"executor","policy_version":0,"run_id":"scheduled__2024-02-01T00:00:00+00:00","task_id":"t","when":"2024-03-01T00:00:00+00:00"}],"total_entries":3}"#;
+    br#"{"event_logs":[{"dag_id":"b","event":"patch_dag","event_log_id":1,"owner":"adam","policy_version":0,"run_id":null,"task_id":null,"when":"2024-01-01T00:00:00+00:00"},{"dag_id":null,"event":"tick","event_log_id":2,"owner":"scheduler","policy_version":0,"run_id":null,"task_id":null,"when":"2024-03-01T00:00:00+00:00"},{"dag_id":"monthly","event":"claim","event_log_id":3,"owner":"executor","policy_version":0,"run_id":"scheduled__2024-02-01T00:00:00+00:00","task_id":"t","when":"2024-03-01T00:00:00+00:00"}],"total_entries":3}"#;
 
 const OF_B: &[u8] =
-    br#"{"event_logs":[{"dag_id":"b","event":"patch_dag","event_log_id":1,"owner":"uma","policy_version":0,"run_id":null,"task_id":null,"when":"2024-01-01T00:00:00+00:00"},{"dag_id":null,"event":"tick","event_log_id":2,"owner":"scheduler","policy_version":0,"run_id":null,"task_id":null,"when":"2024-03-01T00:00:00+00:00"}],"total_entries":2}"#;
+    br#"{"event_logs":[{"dag_id":"b","event":"patch_dag","event_log_id":1,"owner":"adam","policy_version":0,"run_id":null,"task_id":null,"when":"2024-01-01T00:00:00+00:00"},{"dag_id":null,"event":"tick","event_log_id":2,"owner":"scheduler","policy_version":0,"run_id":null,"task_id":null,"when":"2024-03-01T00:00:00+00:00"}],"total_entries":2}"#;
 
 const SECOND: &[u8] =
     br#"{"event_logs":[{"dag_id":null,"event":"tick","event_log_id":2,"owner":"scheduler","policy_version":0,"run_id":null,"task_id":null,"when":"2024-03-01T00:00:00+00:00"}],"total_entries":3}"#;
@@ -83,19 +83,27 @@ fn is_served(alloc: Global, ledger: &Ledger, policy: &Policy, row: Row) -> bool 
 /// How many requests are told what their rows say, up to the first that is not.
 fn served(alloc: Global, ledger: &Ledger) -> Result<usize, Fail> {
     let policy = policy(alloc)?;
+    Ok(served_under(alloc, ledger, &policy))
+}
+
+fn served_under(alloc: Global, ledger: &Ledger, policy: &Policy) -> usize {
     for (place, row) in ROWS.iter().enumerate() {
-        if !is_served(alloc, ledger, &policy, *row) {
-            return Ok(place);
+        if !is_served(alloc, ledger, policy, *row) {
+            return place;
         }
     }
-    Ok(ROWS.len())
+    ROWS.len()
 }
 
 /// How many rows go as they should on a ledger of three entries, and how many of them are told.
+fn mixed_on(alloc: Global, ledger: &mut Ledger) -> Result<(usize, usize), Fail> {
+    let count = played(alloc, ledger, MIXED)?;
+    Ok((count, served(alloc, ledger)?))
+}
+
 fn mixed(alloc: Global) -> Result<(usize, usize), Fail> {
     let mut ledger = ledger(alloc, 1_000_000)?;
-    let count = played(alloc, &mut ledger, MIXED)?;
-    Ok((count, served(alloc, &ledger)?))
+    mixed_on(alloc, &mut ledger)
 }
 
 #[test]
@@ -108,23 +116,25 @@ fn event_logs_are_told_to_those_who_may_read_them(rt: HostRuntime) -> Result<(),
 fn pause(alloc: Global, ledger: &mut Ledger, policy: &Policy) -> Result<(), Fail> {
     let now = Instant::read(JANUARY)?;
     let op = op(alloc, Endpoint::PauseDag, PAUSED)?;
-    let _served = ledger.answer(alloc, policy, token("uma"), &op, now);
+    let _shown = shown_to(alloc, ledger, policy, "uma", &op, now);
     Ok(())
 }
 
-/// The ledger after two pauses.
-fn paused_twice(alloc: Global, policy: &Policy) -> Result<Ledger, Fail> {
-    let mut ledger = ledger(alloc, 1_000_000)?;
-    pause(alloc, &mut ledger, policy)?;
-    pause(alloc, &mut ledger, policy)?;
-    Ok(ledger)
+/// Whether adam is told one entry after uma paused b twice.
+fn is_one_told(alloc: Global, ledger: &mut Ledger, policy: &Policy) -> Result<bool, Fail> {
+    pause(alloc, ledger, policy)?;
+    pause(alloc, ledger, policy)?;
+    Ok(is_served(alloc, ledger, policy, ("adam", b"", Status::Ok, ONE)))
 }
 
-/// Whether adam is told one entry after uma paused b twice.
+fn is_one_told_under(alloc: Global, policy: &Policy) -> Result<bool, Fail> {
+    let mut ledger = ledger(alloc, 1_000_000)?;
+    is_one_told(alloc, &mut ledger, policy)
+}
+
 fn is_one_pause_told(alloc: Global) -> Result<bool, Fail> {
     let policy = policy(alloc)?;
-    let ledger = paused_twice(alloc, &policy)?;
-    Ok(is_served(alloc, &ledger, &policy, ("adam", b"", Status::Ok, ONE)))
+    is_one_told_under(alloc, &policy)
 }
 
 #[test]

@@ -6,23 +6,48 @@ use af_sched::{DagRow, State};
 use std::alloc::Global;
 use std::test::Fail;
 
-fn task(alloc: Global) -> Result<TaskSpec, Fail> {
+/// A task after these, with so many retries.
+fn task(alloc: Global, id: &str, upstream: Vec<TaskId>, retries: u32) -> Result<TaskSpec, Fail> {
     Ok(TaskSpec {
-        task_id: TaskId::parse(alloc, "t")?,
-        upstream: TaskIds::of(Vec::new(alloc)),
+        task_id: TaskId::parse(alloc, id)?,
+        upstream: TaskIds::of(upstream),
         pool: PoolName::parse(alloc, "default_pool")?,
         pool_slots: 1,
         priority_weight: 1,
-        retries: 0,
+        retries,
         retry_delay: 300,
         trigger_rule: Rule::AllSuccess,
     })
 }
 
-/// A DAG of one task.
-fn dag(alloc: Global, id: &str, schedule: Option<Schedule>) -> Result<DagRow, Fail> {
+/// The one task t.
+fn one_task(alloc: Global) -> Result<Vec<TaskSpec>, Fail> {
+    Ok(vec![in alloc; task(alloc, "t", Vec::new(alloc), 0)?]?)
+}
+
+/// The task t, and u and v after it, each of which may fail once.
+fn three_tasks(alloc: Global) -> Result<Vec<TaskSpec>, Fail> {
+    let mut tasks = vec![in alloc; task(alloc, "t", Vec::new(alloc), 1)?]?;
+    add_after(alloc, &mut tasks, "u")?;
+    add_after(alloc, &mut tasks, "v")?;
+    Ok(tasks)
+}
+
+/// Adds a task after t.
+fn add_after(alloc: Global, tasks: &mut Vec<TaskSpec>, id: &str) -> Result<(), Fail> {
+    let upstream = vec![in alloc; TaskId::parse(alloc, "t")?]?;
+    tasks.push(task(alloc, id, upstream, 1)?)?;
+    Ok(())
+}
+
+/// A DAG of these tasks.
+fn dag(
+    alloc: Global,
+    id: &str,
+    tasks: Vec<TaskSpec>,
+    schedule: Option<Schedule>,
+) -> Result<DagRow, Fail> {
     let dag_id = DagId::parse(alloc, id)?;
-    let tasks = vec![in alloc; task(alloc)?]?;
     let spec = DagSpec {
         dag_id,
         tasks: TaskSpecs::of(tasks),
@@ -44,14 +69,31 @@ fn monthly() -> Result<Schedule, Fail> {
 /// The DAG b, and one that is due each month.
 pub fn state(alloc: Global) -> Result<State, Fail> {
     let mut state = State::new(alloc)?;
-    add(alloc, &mut state, "b", None)?;
-    add(alloc, &mut state, "monthly", Some(monthly()?))?;
+    add_both(alloc, &mut state)?;
     Ok(state)
 }
 
+fn add_both(alloc: Global, state: &mut State) -> Result<(), Fail> {
+    add(alloc, state, "b", None)?;
+    add(alloc, state, "monthly", Some(monthly()?))
+}
+
+/// Adds a DAG of one task.
 fn add(alloc: Global, state: &mut State, id: &str, schedule: Option<Schedule>) -> Result<(), Fail> {
-    state.add_dag(dag(alloc, id, schedule)?)?;
+    state.add_dag(dag(alloc, id, one_task(alloc)?, schedule)?)?;
     Ok(())
+}
+
+/// The DAG wide, of three tasks, beside those two.
+fn wide_state(alloc: Global) -> Result<State, Fail> {
+    let mut state = state(alloc)?;
+    state.add_dag(dag(alloc, "wide", three_tasks(alloc)?, None)?)?;
+    Ok(state)
+}
+
+/// A ledger of the three DAGs with room for so many entries.
+pub fn wide_ledger(alloc: Global, limit: u32) -> Result<Ledger, Fail> {
+    Ok(Ledger::open(alloc, wide_state(alloc)?, limit)?)
 }
 
 /// A ledger with room for so many entries.
@@ -72,6 +114,15 @@ pub fn op(alloc: Global, endpoint: Endpoint, body: &str) -> Result<Op, Fail> {
 pub fn op_of_run(alloc: Global, endpoint: Endpoint, body: &str) -> Result<Op, Fail> {
     let dag = String::from_str(alloc, "b")?;
     let parts = vec![in alloc; dag, String::from_str(alloc, RUN)?]?;
+    read(alloc, endpoint, parts.as_slice(), body)
+}
+
+/// An operation of what these names of a path are.
+pub fn op_at(alloc: Global, endpoint: Endpoint, names: &[&str], body: &str) -> Result<Op, Fail> {
+    let mut parts = Vec::new(alloc);
+    for name in names {
+        parts.push(String::from_str(alloc, name)?)?;
+    }
     read(alloc, endpoint, parts.as_slice(), body)
 }
 

@@ -1,13 +1,14 @@
 use crate::tests::opening::{op, op_of_run, state};
+use crate::tests::same::is_same;
 use crate::tests::steps::{Row, Step, Told};
+use crate::tests::users::{policy, token};
 use af_audit::{AuditFault, Ledger, ReportRefusal, replay};
 use af_graph::TaskState;
-use af_names::{DagId, Instant, UserName};
-use af_ops::{Op, OpFault};
-use af_policy::Reader;
+use af_names::{DagId, Instant};
+use af_ops::{Op, Served, Shown, Status};
+use af_policy::{Policy, Reader};
 use af_runs::{Run, RunState};
-use af_sched::{Claim, Outcome, ReportFault, State};
-use af_vars::Variable;
+use af_sched::{Claim, Outcome, ReportFault};
 use std::alloc::Global;
 use std::test::Fail;
 
@@ -33,23 +34,77 @@ pub const EVERYBODY: Readers = Readers { all: true };
 
 pub const NOBODY: Readers = Readers { all: false };
 
-/// What comes of an operation of uma's.
-fn asked(alloc: Global, ledger: &mut Ledger, op: &Op, at: Instant) -> Result<Told, Fail> {
-    let uma = UserName::parse(alloc, "uma")?;
-    match ledger.operate(alloc, &uma, &EVERYBODY, op, at) {
-        Ok(_) => Ok(Told::Done),
-        Err(fault) => Ok(op_fault(fault)),
+/// What somebody is shown who asks for an operation.
+pub fn shown_to(
+    alloc: Global,
+    ledger: &mut Ledger,
+    policy: &Policy,
+    who: &str,
+    op: &Op,
+    at: Instant,
+) -> Option<Shown> {
+    match ledger.answer(alloc, policy, token(who), op, at) {
+        Served::Shown(shown) => Some(shown),
+        _ => None,
     }
 }
 
-fn op_fault(fault: OpFault) -> Told {
-    match fault {
-        OpFault::HistoryFull => Told::Full,
-        OpFault::BadBody => Told::BadBody,
-        OpFault::RunExists(_) => Told::RunExists,
-        OpFault::Exists => Told::Exists,
-        OpFault::NoSuchRun | OpFault::NoSuchPool | OpFault::NoSuchVariable => Told::Absent,
+/// What comes of an operation of adam's, who may do all.
+fn asked(alloc: Global, ledger: &mut Ledger, policy: &Policy, op: &Op, at: Instant) -> Told {
+    match shown_to(alloc, ledger, policy, "adam", op, at) {
+        Some(shown) => shown_as(&shown),
+        None => Told::Other,
+    }
+}
+
+/// What comes of one that is asked for of b, or of its run.
+fn asked_of(
+    alloc: Global,
+    ledger: &mut Ledger,
+    policy: &Policy,
+    step: Step,
+    at: Instant,
+) -> Result<Told, Fail> {
+    let op = op_of(alloc, step)?;
+    Ok(asked(alloc, ledger, policy, &op, at))
+}
+
+/// What is asked for.
+fn op_of(alloc: Global, step: Step) -> Result<Op, Fail> {
+    match step {
+        Step::Ask(endpoint, body) => op(alloc, endpoint, body),
+        Step::AskOfRun(endpoint, body) => op_of_run(alloc, endpoint, body),
+        _ => Err(Fail::new("nothing is asked for")),
+    }
+}
+
+fn shown_as(shown: &Shown) -> Told {
+    match shown.status {
+        Status::Ok | Status::NoContent => Told::Done,
+        Status::BadRequest => Told::BadBody,
+        Status::NotFound => Told::Absent,
+        Status::Conflict => conflict(shown),
+        Status::InsufficientStorage => Told::Full,
         _ => Told::Other,
+    }
+}
+
+/// Which conflict is told.
+fn conflict(shown: &Shown) -> Told {
+    if begins(shown, b"{\"detail\":\"run exists: ") {
+        return Told::RunExists;
+    }
+    if begins(shown, b"{\"detail\":\"exists: ") {
+        return Told::Exists;
+    }
+    Told::Other
+}
+
+/// Whether the body that is shown begins so.
+fn begins(shown: &Shown, front: &[u8]) -> bool {
+    match &shown.body {
+        Some(body) => body.as_bytes().starts_with(front),
+        None => false,
     }
 }
 
@@ -100,19 +155,13 @@ fn reported(
 fn taken(
     alloc: Global,
     ledger: &mut Ledger,
+    policy: &Policy,
     last: &mut Option<Claim>,
     step: Step,
     at: Instant,
 ) -> Result<Told, Fail> {
     match step {
-        Step::Ask(endpoint, body) => {
-            let op = op(alloc, endpoint, body)?;
-            asked(alloc, ledger, &op, at)
-        }
-        Step::AskOfRun(endpoint, body) => {
-            let op = op_of_run(alloc, endpoint, body)?;
-            asked(alloc, ledger, &op, at)
-        }
+        Step::Ask(_, _) | Step::AskOfRun(_, _) => asked_of(alloc, ledger, policy, step, at),
         Step::Tick => Ok(ticked(alloc, ledger, at)),
         Step::Claim => Ok(claimed(alloc, ledger, last, at)),
         Step::Report(outcome) => Ok(reported(alloc, ledger, last, outcome, at)),
@@ -123,19 +172,30 @@ fn taken(
 fn goes(
     alloc: Global,
     ledger: &mut Ledger,
+    policy: &Policy,
     last: &mut Option<Claim>,
     row: Row,
 ) -> Result<bool, Fail> {
     let at = Instant::read(row.1)?;
-    let told = taken(alloc, ledger, last, row.0, at)?;
+    let told = taken(alloc, ledger, policy, last, row.0, at)?;
     Ok(told == row.2 && ledger.audit().count() == row.3)
 }
 
 /// Takes the steps of these rows on a ledger: how many go as they should, up to the first that does not.
 pub fn played(alloc: Global, ledger: &mut Ledger, rows: &[Row]) -> Result<usize, Fail> {
+    let policy = policy(alloc)?;
+    played_under(alloc, ledger, &policy, rows)
+}
+
+fn played_under(
+    alloc: Global,
+    ledger: &mut Ledger,
+    policy: &Policy,
+    rows: &[Row],
+) -> Result<usize, Fail> {
     let mut last = None;
     for (place, row) in rows.iter().enumerate() {
-        if !goes(alloc, ledger, &mut last, *row)? {
+        if !goes(alloc, ledger, policy, &mut last, *row)? {
             return Ok(place);
         }
     }
@@ -146,66 +206,6 @@ pub fn played(alloc: Global, ledger: &mut Ledger, rows: &[Row]) -> Result<usize,
 pub fn is_replay(alloc: Global, ledger: &Ledger) -> Result<bool, Fail> {
     let again = replay(alloc, state(alloc)?, ledger.audit().entries())?;
     Ok(is_same(&again, ledger.state()))
-}
-
-fn is_same(one: &State, other: &State) -> bool {
-    have_same_dags(one, other)
-        && have_same_runs(one, other)
-        && have_same_pools(one, other)
-        && have_same_variables(one, other)
-}
-
-/// Whether two states have the same DAGs, paused or not and with the same cursors.
-fn have_same_dags(one: &State, other: &State) -> bool {
-    for (one, other) in one.dags().iter().zip(other.dags()) {
-        if one.is_paused != other.is_paused || one.cursor != other.cursor {
-            return false;
-        }
-    }
-    one.dags().len() == other.dags().len()
-}
-
-fn have_same_runs(one: &State, other: &State) -> bool {
-    for (one, other) in one.runs().iter().zip(other.runs()) {
-        if !is_same_run(one, other) {
-            return false;
-        }
-    }
-    one.runs().len() == other.runs().len()
-}
-
-fn have_same_pools(one: &State, other: &State) -> bool {
-    for (one, other) in one.pools().iter().zip(other.pools()) {
-        if one.name != other.name || one.slots != other.slots {
-            return false;
-        }
-    }
-    one.pools().len() == other.pools().len()
-}
-
-fn have_same_variables(one: &State, other: &State) -> bool {
-    for (one, other) in one.variables().iter().zip(other.variables()) {
-        if !is_same_variable(one, other) {
-            return false;
-        }
-    }
-    one.variables().len() == other.variables().len()
-}
-
-fn is_same_variable(one: &Variable, other: &Variable) -> bool {
-    one.key == other.key && one.value.as_str() == other.value.as_str()
-}
-
-fn is_same_run(one: &Run, other: &Run) -> bool {
-    one.number == other.number
-        && one.run_id == other.run_id
-        && one.state == other.state
-        && one.end_date == other.end_date
-        && have_same_instances(one, other)
-}
-
-fn have_same_instances(one: &Run, other: &Run) -> bool {
-    one.instances.as_slice() == other.instances.as_slice()
 }
 
 /// Whether a run failed, and each of its instances at the first try.

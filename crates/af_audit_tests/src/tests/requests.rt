@@ -1,11 +1,11 @@
 //! Requests of several users on a ledger: the status that each is told, and the number of entries.
 use crate::tests::opening::{ledger, op};
-use crate::tests::playing::is_replay;
+use crate::tests::playing::{is_replay, shown_to};
 use crate::tests::rows::{JANUARY, MARCH, PAUSED, RUNNING};
-use crate::tests::users::{policy, token};
+use crate::tests::users::policy;
 use af_audit::{Actor, AuditFault, Entry, Ledger};
 use af_names::Instant;
-use af_ops::{Endpoint, Served, Status};
+use af_ops::{Endpoint, Shown, Status};
 use af_policy::Policy;
 use std::alloc::Global;
 use std::test::Fail;
@@ -85,17 +85,30 @@ const THREE: &[Row] = &[
 fn is_served(alloc: Global, ledger: &mut Ledger, policy: &Policy, row: Row) -> Result<bool, Fail> {
     let now = Instant::read(JANUARY)?;
     let op = op(alloc, row.1, row.2)?;
-    match ledger.answer(alloc, policy, token(row.0), &op, now) {
-        Served::Shown(shown) => Ok(shown.status == row.3 && shown.seq == row.4),
-        _ => Ok(false),
+    Ok(is_shown(shown_to(alloc, ledger, policy, row.0, &op, now), row))
+}
+
+fn is_shown(shown: Option<Shown>, row: Row) -> bool {
+    match shown {
+        Some(shown) => shown.status == row.3 && shown.seq == row.4,
+        None => false,
     }
 }
 
 /// How many rows are served as they should be, up to the first that is not.
 fn served(alloc: Global, ledger: &mut Ledger, rows: &[Row]) -> Result<usize, Fail> {
     let policy = policy(alloc)?;
+    served_under(alloc, ledger, &policy, rows)
+}
+
+fn served_under(
+    alloc: Global,
+    ledger: &mut Ledger,
+    policy: &Policy,
+    rows: &[Row],
+) -> Result<usize, Fail> {
     for (place, row) in rows.iter().enumerate() {
-        if !is_served(alloc, ledger, &policy, *row)? {
+        if !is_served(alloc, ledger, policy, *row)? {
             return Ok(place);
         }
     }
@@ -122,11 +135,15 @@ fn are_umas(entries: &[Entry]) -> bool {
 
 /// How many rows are served as they should be; whether each entry is of something that uma did to b; and whether the entries make
 /// the state.
+fn entered_on(alloc: Global, ledger: &mut Ledger) -> Result<(usize, bool, bool), Fail> {
+    let count = served(alloc, ledger, REQUESTS)?;
+    let are_umas = are_umas(ledger.audit().entries());
+    Ok((count, are_umas, is_replay(alloc, ledger)?))
+}
+
 fn entered(alloc: Global) -> Result<(usize, bool, bool), Fail> {
     let mut ledger = ledger(alloc, 2)?;
-    let count = served(alloc, &mut ledger, REQUESTS)?;
-    let are_umas = are_umas(ledger.audit().entries());
-    Ok((count, are_umas, is_replay(alloc, &ledger)?))
+    entered_on(alloc, &mut ledger)
 }
 
 #[test]
@@ -144,10 +161,14 @@ fn is_b_paused(ledger: &Ledger) -> bool {
 }
 
 /// How many rows are served as they should be where three entries are the most; and whether b is paused then, as after the third.
+fn refused_on(alloc: Global, ledger: &mut Ledger) -> Result<(usize, bool), Fail> {
+    let count = served(alloc, ledger, THREE)?;
+    Ok((count, is_b_paused(ledger)))
+}
+
 fn refused_when_full(alloc: Global) -> Result<(usize, bool), Fail> {
     let mut ledger = ledger(alloc, 3)?;
-    let count = served(alloc, &mut ledger, THREE)?;
-    Ok((count, is_b_paused(&ledger)))
+    refused_on(alloc, &mut ledger)
 }
 
 #[test]
@@ -157,12 +178,16 @@ fn a_full_history_refuses_changes(rt: HostRuntime) -> Result<(), Fail> {
 }
 
 /// What a tick comes to that would change the state, after these three entries, and how many there are then.
-fn ticked_when_full(alloc: Global) -> Result<(Result<bool, AuditFault>, u32), Fail> {
+fn ticked_on(alloc: Global, ledger: &mut Ledger) -> Result<(Result<bool, AuditFault>, u32), Fail> {
     let march = Instant::read(MARCH)?;
-    let mut ledger = ledger(alloc, 3)?;
-    let _count = served(alloc, &mut ledger, THREE)?;
+    let _count = served(alloc, ledger, THREE)?;
     let told = ledger.tick(alloc, march);
     Ok((told, ledger.audit().count()))
+}
+
+fn ticked_when_full(alloc: Global) -> Result<(Result<bool, AuditFault>, u32), Fail> {
+    let mut ledger = ledger(alloc, 3)?;
+    ticked_on(alloc, &mut ledger)
 }
 
 #[test]

@@ -3,6 +3,7 @@ use crate::tests::asserts::story_holds;
 use crate::tests::opening::ledger;
 use crate::tests::playing::{is_failed, is_replay, played};
 use crate::tests::steps::{Row, Step, Told};
+use af_audit::Ledger;
 use af_ops::Endpoint;
 use af_sched::Outcome;
 use std::alloc::Global;
@@ -208,11 +209,15 @@ const STORIES: &[Story] = &[
     },
 ];
 
-/// How many rows of a story go as they should, and whether the entries then make the state.
+/// How many of these rows go as they should, and whether the entries then make the state.
+fn told_on(alloc: Global, ledger: &mut Ledger, rows: &[Row]) -> Result<(usize, bool), Fail> {
+    let count = played(alloc, ledger, rows)?;
+    Ok((count, is_replay(alloc, ledger)?))
+}
+
 fn told_of(alloc: Global, story: &Story) -> Result<(usize, bool), Fail> {
     let mut ledger = ledger(alloc, story.limit)?;
-    let count = played(alloc, &mut ledger, story.rows)?;
-    Ok((count, is_replay(alloc, &ledger)?))
+    told_on(alloc, &mut ledger, story.rows)
 }
 
 #[test]
@@ -225,13 +230,17 @@ fn acts_have_entries_and_these_make_the_state(rt: HostRuntime) -> Result<(), Fai
 }
 
 /// Whether the first run of a ledger failed, after these rows.
-fn fails(alloc: Global) -> Result<bool, Fail> {
-    let mut ledger = ledger(alloc, 1_000_000)?;
-    let _count = played(alloc, &mut ledger, FAILED)?;
+fn fails_on(alloc: Global, ledger: &mut Ledger) -> Result<bool, Fail> {
+    let _count = played(alloc, ledger, FAILED)?;
     Ok(match ledger.state().runs().first() {
         Some(run) => is_failed(run),
         None => false,
     })
+}
+
+fn fails(alloc: Global) -> Result<bool, Fail> {
+    let mut ledger = ledger(alloc, 1_000_000)?;
+    fails_on(alloc, &mut ledger)
 }
 
 #[test]

@@ -4,6 +4,7 @@ use crate::tests::opening::ledger;
 use crate::tests::playing::{is_replay, played};
 use crate::tests::rows::{DELETE_RUN, FAIL_RUN, JANUARY, MARCH};
 use crate::tests::steps::{Row, Step, Told};
+use af_audit::Ledger;
 use af_ops::Endpoint;
 use std::alloc::Global;
 use std::test::Fail;
@@ -79,24 +80,28 @@ const ASKED: &[Row] = &[
 
 /// The rows of event logs after that. An id that is not given is made of the date, else of the moment.
 const LOGS: &[&[u8]] = &[
-    br#"{"dag_id":"b","event":"trigger_dag_run","event_log_id":1,"owner":"uma","policy_version":0,"run_id":"manual__2024-01-01T00:00:00+00:00","task_id":null,"when":"2024-01-01T00:00:00+00:00"}"#,
-    br#"{"dag_id":"b","event":"trigger_dag_run","event_log_id":2,"owner":"uma","policy_version":0,"run_id":"x:1","task_id":null,"when":"2024-01-01T00:00:00+00:00"}"#,
-    br#"{"dag_id":"b","event":"trigger_dag_run","event_log_id":3,"owner":"uma","policy_version":0,"run_id":"manual__2024-01-03T00:00:00.000001+00:00","task_id":null,"when":"2024-01-01T00:00:00+00:00"}"#,
-    br#"{"dag_id":"b","event":"trigger_dag_run","event_log_id":4,"owner":"uma","policy_version":0,"run_id":"~~","task_id":null,"when":"2024-03-01T00:00:00+00:00"}"#,
-    br#"{"dag_id":"b","event":"trigger_dag_run","event_log_id":5,"owner":"uma","policy_version":0,"run_id":"manual__2024-01-04T00:00:00+00:00","task_id":null,"when":"2024-03-01T00:00:00+00:00"}"#,
-    br#"{"dag_id":"b","event":"patch_dag_run","event_log_id":6,"owner":"uma","policy_version":0,"run_id":"manual__2024-01-01T00:00:00+00:00","task_id":null,"when":"2024-03-01T00:00:00+00:00"}"#,
-    br#"{"dag_id":"b","event":"clear_task_instances","event_log_id":7,"owner":"uma","policy_version":0,"run_id":null,"task_id":null,"when":"2024-03-01T00:00:00+00:00"}"#,
-    br#"{"dag_id":"b","event":"patch_dag_run","event_log_id":8,"owner":"uma","policy_version":0,"run_id":"manual__2024-01-01T00:00:00+00:00","task_id":null,"when":"2024-03-01T00:00:00+00:00"}"#,
-    br#"{"dag_id":"b","event":"clear_task_instances","event_log_id":9,"owner":"uma","policy_version":0,"run_id":"manual__2024-01-01T00:00:00+00:00","task_id":null,"when":"2024-03-01T00:00:00+00:00"}"#,
-    br#"{"dag_id":"b","event":"delete_dag_run","event_log_id":10,"owner":"uma","policy_version":0,"run_id":"manual__2024-01-01T00:00:00+00:00","task_id":null,"when":"2024-03-01T00:00:00+00:00"}"#,
+    br#"{"dag_id":"b","event":"trigger_dag_run","event_log_id":1,"owner":"adam","policy_version":0,"run_id":"manual__2024-01-01T00:00:00+00:00","task_id":null,"when":"2024-01-01T00:00:00+00:00"}"#,
+    br#"{"dag_id":"b","event":"trigger_dag_run","event_log_id":2,"owner":"adam","policy_version":0,"run_id":"x:1","task_id":null,"when":"2024-01-01T00:00:00+00:00"}"#,
+    br#"{"dag_id":"b","event":"trigger_dag_run","event_log_id":3,"owner":"adam","policy_version":0,"run_id":"manual__2024-01-03T00:00:00.000001+00:00","task_id":null,"when":"2024-01-01T00:00:00+00:00"}"#,
+    br#"{"dag_id":"b","event":"trigger_dag_run","event_log_id":4,"owner":"adam","policy_version":0,"run_id":"~~","task_id":null,"when":"2024-03-01T00:00:00+00:00"}"#,
+    br#"{"dag_id":"b","event":"trigger_dag_run","event_log_id":5,"owner":"adam","policy_version":0,"run_id":"manual__2024-01-04T00:00:00+00:00","task_id":null,"when":"2024-03-01T00:00:00+00:00"}"#,
+    br#"{"dag_id":"b","event":"patch_dag_run","event_log_id":6,"owner":"adam","policy_version":0,"run_id":"manual__2024-01-01T00:00:00+00:00","task_id":null,"when":"2024-03-01T00:00:00+00:00"}"#,
+    br#"{"dag_id":"b","event":"clear_task_instances","event_log_id":7,"owner":"adam","policy_version":0,"run_id":null,"task_id":null,"when":"2024-03-01T00:00:00+00:00"}"#,
+    br#"{"dag_id":"b","event":"patch_dag_run","event_log_id":8,"owner":"adam","policy_version":0,"run_id":"manual__2024-01-01T00:00:00+00:00","task_id":null,"when":"2024-03-01T00:00:00+00:00"}"#,
+    br#"{"dag_id":"b","event":"clear_task_instances","event_log_id":9,"owner":"adam","policy_version":0,"run_id":"manual__2024-01-01T00:00:00+00:00","task_id":null,"when":"2024-03-01T00:00:00+00:00"}"#,
+    br#"{"dag_id":"b","event":"delete_dag_run","event_log_id":10,"owner":"adam","policy_version":0,"run_id":"manual__2024-01-01T00:00:00+00:00","task_id":null,"when":"2024-03-01T00:00:00+00:00"}"#,
 ];
 
 /// How many of these steps go as they should, how many of the entries are told as they should be, and whether these make the state.
+fn told_on(alloc: Global, ledger: &mut Ledger) -> Result<(usize, usize, bool), Fail> {
+    let count = played(alloc, ledger, ASKED)?;
+    let told = told_as(alloc, ledger.audit().entries(), LOGS)?;
+    Ok((count, told, is_replay(alloc, ledger)?))
+}
+
 fn told(alloc: Global) -> Result<(usize, usize, bool), Fail> {
     let mut ledger = ledger(alloc, 10)?;
-    let count = played(alloc, &mut ledger, ASKED)?;
-    let told = told_as(alloc, ledger.audit().entries(), LOGS)?;
-    Ok((count, told, is_replay(alloc, &ledger)?))
+    told_on(alloc, &mut ledger)
 }
 
 #[test]

@@ -1,7 +1,7 @@
 use af_ops::Endpoint;
 use af_sched::Outcome;
 
-/// What is done: uma asks for something of DAG b, or of its run, with this body; a tick, a claim, a report of the last claim.
+/// What is done: adam asks for something of DAG b, or of its run, with this body; a tick, a claim, a report of the last claim.
 #[derive(Clone, Copy)]
 pub enum Step {
     Ask(Endpoint, &'static str),

@@ -53,11 +53,16 @@ fn add_user(alloc: Global, draft: &mut PolicyDraft, name: &str, role: &str) -> R
 /// The policy of all users.
 pub fn policy(alloc: Global) -> Result<Policy, Fail> {
     let mut draft = PolicyDraft::new(alloc)?;
+    add_all(alloc, &mut draft)?;
+    Ok(draft.finish(alloc)?)
+}
+
+fn add_all(alloc: Global, draft: &mut PolicyDraft) -> Result<(), Fail> {
     draft.add_role(logs_of_b(alloc)?)?;
     for (name, role) in USERS {
-        add_user(alloc, &mut draft, name, role)?;
+        add_user(alloc, draft, name, role)?;
     }
-    Ok(draft.finish(alloc)?)
+    Ok(())
 }
 
 /// The token of a user, or none for nobody.

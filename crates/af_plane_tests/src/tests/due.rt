@@ -72,11 +72,21 @@ fn has_moved(player: &Player, made: Made) -> Result<bool, Fail> {
 }
 
 /// How many rows go as they should, and whether there is then just the run that should be.
+fn made_by(
+    alloc: Global,
+    player: &mut Player,
+    rows: &[Row],
+    made: Made,
+) -> Result<(usize, bool), Fail> {
+    let told = played(alloc, player, rows)?;
+    let there = has_made(player, made)?;
+    Ok((told, there && has_moved(player, made)?))
+}
+
+/// What that is of a player that is due so.
 fn made(alloc: Global, due: Due, rows: &[Row], made: Made) -> Result<(usize, bool), Fail> {
     let mut player = make_player(alloc, 1_000_000, due)?;
-    let told = played(alloc, &mut player, rows)?;
-    let there = has_made(&player, made)?;
-    Ok((told, there && has_moved(&player, made)?))
+    made_by(alloc, &mut player, rows, made)
 }
 
 #[test]

@@ -5,6 +5,7 @@ use crate::tests::playing::{Asked, Row, Step, make_player, played};
 use af_audit::{AuditFault, ReportRefusal};
 use af_ops::{Endpoint, Status};
 use af_sched::{Outcome, ReportFault};
+use std::alloc::Global;
 use std::test::Fail;
 
 const JANUARY: &str = "2024-01-01T00:00:00Z";
@@ -154,11 +155,16 @@ const STORIES: &[Story] = &[
     },
 ];
 
+/// How many rows of a story go as they should.
+fn told_of(alloc: Global, story: &Story) -> Result<usize, Fail> {
+    let mut player = make_player(alloc, story.limit, MONTHLY)?;
+    played(alloc, &mut player, story.rows)
+}
+
 #[test]
 fn a_plane_goes_as_its_stories_say(rt: HostRuntime) -> Result<(), Fail> {
     for story in STORIES {
-        let mut player = make_player(rt.alloc(), story.limit, MONTHLY)?;
-        let told = played(rt.alloc(), &mut player, story.rows)?;
+        let told = told_of(rt.alloc(), story)?;
         story_holds(&rt, told, story.rows.len(), story.name);
     }
     Ok(())

@@ -39,10 +39,10 @@ pub struct Player {
 
 /// A plane with room for so many entries, and one DAG that is due so.
 pub fn make_player(alloc: Global, limit: u32, due: Due) -> Result<Player, Fail> {
-    let plane = plane(alloc, limit, due)?;
+    let policy = policy(alloc)?;
     Ok(Player {
-        plane,
-        versions: Versions::open(alloc, policy(alloc)?, 9),
+        plane: plane(alloc, limit, due)?,
+        versions: Versions::open(alloc, policy, 9),
         claims: Vec::new(alloc),
     })
 }

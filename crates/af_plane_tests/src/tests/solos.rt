@@ -173,22 +173,36 @@ fn answered(alloc: Global, solo: &mut Solo, rows: &[Row]) -> Result<usize, Fail>
     Ok(rows.len())
 }
 
+/// How many calls are answered as their rows say; then the version that the plane looked at, and the latest there is.
+type After = (usize, u32, u32);
+
+fn after(alloc: Global, solo: &mut Solo, rows: &[Row]) -> Result<After, Fail> {
+    let told = answered(alloc, solo, rows)?;
+    Ok((
+        told,
+        solo.plane().ledger().version(),
+        solo.versions().current(),
+    ))
+}
+
+/// What comes of these calls to a server that opens.
+fn made(alloc: Global, rows: &[Row]) -> Result<After, Fail> {
+    let mut solo = solo(alloc)?;
+    after(alloc, &mut solo, rows)
+}
+
 #[test]
 fn calls_are_decided_under_the_latest_version(rt: HostRuntime) -> Result<(), Fail> {
-    let mut solo = solo(rt.alloc())?;
-    let told = answered(rt.alloc(), &mut solo, DEMOTED)?;
+    let (told, looked, _latest) = made(rt.alloc(), DEMOTED)?;
     story_holds(&rt, told, DEMOTED.len(), "a user is demoted");
-    let looked = solo.plane().ledger().version() == 1;
-    holds(&rt, looked, "the plane looked at version 1");
+    holds(&rt, looked == 1, "the plane looked at version 1");
     Ok(())
 }
 
 #[test]
 fn what_is_full_takes_no_change(rt: HostRuntime) -> Result<(), Fail> {
-    let mut solo = solo(rt.alloc())?;
-    let told = answered(rt.alloc(), &mut solo, FULL)?;
+    let (told, _looked, latest) = made(rt.alloc(), FULL)?;
     story_holds(&rt, told, FULL.len(), "entries and versions fill");
-    let last = solo.versions().current() == 2;
-    holds(&rt, last, "version 2 is the last");
+    holds(&rt, latest == 2, "version 2 is the last");
     Ok(())
 }

@@ -29,10 +29,15 @@ fn add_user(alloc: Global, draft: &mut PolicyDraft, name: &str, role: &str) -> R
 /// The policy of all users.
 pub fn policy(alloc: Global) -> Result<Policy, Fail> {
     let mut draft = PolicyDraft::new(alloc)?;
-    for (name, role) in USERS {
-        add_user(alloc, &mut draft, name, role)?;
-    }
+    add_all(alloc, &mut draft)?;
     Ok(draft.finish(alloc)?)
+}
+
+fn add_all(alloc: Global, draft: &mut PolicyDraft) -> Result<(), Fail> {
+    for (name, role) in USERS {
+        add_user(alloc, draft, name, role)?;
+    }
+    Ok(())
 }
 
 /// The token of a user, or none for nobody.

@@ -41,10 +41,14 @@ fn add(alloc: Global, state: &mut State, id: &str, is_paused: bool) -> Result<()
 /// The DAGs a, which is paused, b and c.
 fn state(alloc: Global) -> Result<State, Fail> {
     let mut state = State::new(alloc)?;
-    add(alloc, &mut state, "a", true)?;
-    add(alloc, &mut state, "b", false)?;
-    add(alloc, &mut state, "c", false)?;
+    add_three(alloc, &mut state)?;
     Ok(state)
+}
+
+fn add_three(alloc: Global, state: &mut State) -> Result<(), Fail> {
+    add(alloc, state, "a", true)?;
+    add(alloc, state, "b", false)?;
+    add(alloc, state, "c", false)
 }
 
 /// A world of two sessions, with room for so many versions after the first, and for so many entries.

@@ -53,7 +53,7 @@ fn report(alloc: Global, run: u64, number: u32, outcome: Outcome) -> Result<TryR
 }
 
 /// The step of a row.
-pub fn step(alloc: Global, does: Does) -> Result<Step, Fail> {
+fn step(alloc: Global, does: Does) -> Result<Step, Fail> {
     let now = moment()?;
     match does {
         Does::Look(session) => Ok(Step::Look(session)),
@@ -63,17 +63,26 @@ pub fn step(alloc: Global, does: Does) -> Result<Step, Fail> {
             Ok(Step::Report(report(alloc, run, number, outcome)?, now))
         }
         Does::Act(session, who, endpoint, texts, body) => {
-            let token = token(alloc, who)?;
             let call = call(alloc, endpoint, texts, body)?;
-            Ok(Step::Act(session, token, call, now))
+            act(alloc, session, who, call, now)
         }
         Does::Me(session, who, endpoint) => me(alloc, session, who, endpoint),
         Does::Publish(session, at, who, endpoint, texts, body) => {
-            let token = token(alloc, who)?;
             let asked = policy_op(alloc, endpoint, texts, body)?;
-            Ok(Step::Publish(session, at, token, asked))
+            publish(alloc, (session, at), who, asked)
         }
     }
+}
+
+fn act(alloc: Global, session: u32, who: &str, call: Call, now: Instant) -> Result<Step, Fail> {
+    let token = token(alloc, who)?;
+    Ok(Step::Act(session, token, call, now))
+}
+
+/// A change that a session hands in under a version.
+fn publish(alloc: Global, by: (u32, u32), who: &str, asked: PolicyOp) -> Result<Step, Fail> {
+    let token = token(alloc, who)?;
+    Ok(Step::Publish(by.0, by.1, token, asked))
 }
 
 fn me(alloc: Global, session: u32, who: &str, endpoint: Endpoint) -> Result<Step, Fail> {
@@ -120,9 +129,14 @@ fn shown(alloc: Global, says: Says) -> Result<Option<Shown>, Fail> {
 fn steps_of(alloc: Global, rows: &[Row]) -> Result<Vec<Step>, Fail> {
     let mut steps = Vec::new(alloc);
     for row in rows {
-        steps.push(step(alloc, row.0)?)?;
+        add_step(alloc, &mut steps, row.0)?;
     }
     Ok(steps)
+}
+
+pub fn add_step(alloc: Global, steps: &mut Vec<Step>, does: Does) -> Result<(), Fail> {
+    let step = step(alloc, does)?;
+    Ok(steps.push(step)?)
 }
 
 /// The answers of the rows, but at one place this one.
@@ -135,9 +149,14 @@ fn answers_of(
     let mut answers = Vec::new(alloc);
     for (at, row) in rows.iter().enumerate() {
         let says = if at == place { other } else { row.1 };
-        answers.push(shown(alloc, says)?)?;
+        add_answer(alloc, &mut answers, says)?;
     }
     Ok(answers)
+}
+
+fn add_answer(alloc: Global, answers: &mut Vec<Option<Shown>>, says: Says) -> Result<(), Fail> {
+    let answer = shown(alloc, says)?;
+    Ok(answers.push(answer)?)
 }
 
 /// Whether a world of so many versions and entries answers these steps so.

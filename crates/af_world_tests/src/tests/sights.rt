@@ -1,6 +1,6 @@
 //! What one session is told: its versions never fall.
 use crate::tests::opening::opening;
-use crate::tests::playing::step;
+use crate::tests::playing::add_step;
 use crate::tests::steps::Does;
 use af_ops::{Endpoint, Shown};
 use af_world::{Opening, Step, World};
@@ -71,15 +71,19 @@ fn told_by(alloc: Global, opening: &Opening, steps: &[Step]) -> Result<Vec<u32>,
 fn steps(alloc: Global) -> Result<Vec<Step>, Fail> {
     let mut steps = Vec::new(alloc);
     for does in STEPS {
-        steps.push(step(alloc, *does)?)?;
+        add_step(alloc, &mut steps, *does)?;
     }
     Ok(steps)
 }
 
+fn told_from(alloc: Global, steps: &[Step]) -> Result<Vec<u32>, Fail> {
+    let opening = opening(alloc, 100, 100)?;
+    told_by(alloc, &opening, steps)
+}
+
 fn told(alloc: Global) -> Result<Vec<u32>, Fail> {
     let steps = steps(alloc)?;
-    let opening = opening(alloc, 100, 100)?;
-    told_by(alloc, &opening, steps.as_slice())
+    told_from(alloc, steps.as_slice())
 }
 
 #[test]

@@ -54,11 +54,16 @@ fn add_user(
 /// The policy of all users.
 pub fn policy(alloc: Global) -> Result<Policy, Fail> {
     let mut draft = PolicyDraft::new(alloc)?;
+    add_all(alloc, &mut draft)?;
+    Ok(draft.finish(alloc)?)
+}
+
+fn add_all(alloc: Global, draft: &mut PolicyDraft) -> Result<(), Fail> {
     draft.add_role(only_b(alloc)?)?;
     for (name, token, role) in USERS {
-        add_user(alloc, &mut draft, name, token, role)?;
+        add_user(alloc, draft, name, token, role)?;
     }
-    Ok(draft.finish(alloc)?)
+    Ok(())
 }
 
 /// A token of this text, or none for no text.

@@ -2,7 +2,7 @@ use Rattle.std.proofs.Common.{◌≡◌, ◌∙◌, ap, length, map, List, Bool,
 use Rattle.af_listing.specs.Pages.{Told, cut, shows}
 use Rattle.af_audit.specs.declared.entry.Entry.{Entry}
 use Rattle.af_audit.specs.Logs.{act_dag, shown_entries}
-use Rattle.af_audit.proofs.LogLemmas.{lent_rows, told_rows}
+use Rattle.af_audit.proofs.LogLemmas.{borrowed_rows, told_rows}
 use Rattle.af_audit.proofs.event_logs.entries_text.Goals as goal
 
 pub returns : goal.returns
@@ -14,4 +14,4 @@ returns g c =
     (c.places.ensures ∙ ap (λ (page : Told). page.places) c.in_ok-page.ensures)
     (ap (map (λ entry. entry.now)) c.as_slice.ensures.value ∙ c.in_ok-told.ensures) in
     let total : c.total.result ≡ length shown = c.total.ensures ∙ ap (λ (page : Told). page.total) c.in_ok-page.ensures in
-    c.in_ok-text.ensures ∙ lent_rows (λ entry. entry.now) c.as_slice.result.now (cut c.args.window shown) c.total.result (length shown) told total
+    c.in_ok-text.ensures ∙ borrowed_rows (λ entry. entry.now) c.as_slice.result.now (cut c.args.window shown) c.total.result (length shown) told total

@@ -1,20 +1,15 @@
-use Rattle.std.proofs.Common.{◌≡◌, ap, subst, Bool}
-use Rattle.std.specs.Prelude.{Some}
-use Rattle.std.specs.Option.{option_copied}
-use Rattle.af_role.specs.Pairs.{PairRow}
-use Rattle.af_policy.specs.Grants.{grants}
-use Rattle.af_policy.specs.Identity.{bearer_of}
-use Rattle.af_policy.specs.Views.{held}
+use Rattle.std.proofs.Common.{subst}
+use Rattle.af_ops.specs.declared.answer.Under as under
+use Rattle.af_ops.specs.declared.op.Op.{Op}
+use Rattle.af_ops.specs.Decisions.{fault_verdict}
 use Rattle.af_ops.specs.Served.{IsServed}
-use Rattle.af_ops.specs.Verdicts.{Verdict}
 use Rattle.af_audit.specs.Answered.{standing_of}
-use Rattle.af_audit.specs.EventLogs.{entries_granted, entries_judged, nameless}
+use Rattle.af_audit.specs.EventLogs.{nameless}
+use Rattle.af_audit.proofs.JudgedLemmas.{served_fault}
 use Rattle.af_audit.proofs.ledger.Ledger.entries.Goals as goal
 
-pub returns-in-Some-clause-served : goal.returns-in-Some-clause-served
-returns-in-Some-clause-served c =
-    let same : held c.view-view.result ≡ grants c.args.policy.now c.in-Some.user.now = λ i. λ pair. c.view-view.ensures.held pair i in
-    let here : entries_judged c.args.policy.now c.args.self.now c.args.asked.now (Some c.in-Some.user.now) ≡ entries_judged c.args.policy.now c.args.self.now c.args.asked.now (bearer_of c.args.policy.now (option_copied c.args.token)) =
-    ap (entries_judged c.args.policy.now c.args.self.now c.args.asked.now) c.in-Some.ensures in
-    subst (λ (v : Verdict). IsServed nameless v (standing_of c.args.self.now) c.entries_for.result (standing_of c.args.self.now)) here
-    (subst (λ (granted : PairRow → Bool). IsServed nameless (entries_granted granted c.args.self.now c.args.asked.now) (standing_of c.args.self.now) c.entries_for.result (standing_of c.args.self.now)) same c.entries_for.ensures.served)
+pub returns-in-Err-clause-served : goal.returns-in-Err-clause-served
+returns-in-Err-clause-served c =
+    served_fault nameless _ (standing_of c.args.self.now) c.in-Err.fault c.refused.result c.in-Err.ensures.0
+    (subst (λ (u : under.Under). IsServed nameless (fault_verdict c.in-Err.fault) (record { under = u; state = c.args.self.now.state }) c.refused.result (record { under = u; state = c.args.self.now.state })) c.under.ensures
+    (subst (λ (asked : Op). IsServed asked (fault_verdict c.in-Err.fault) (record { under = c.under.result; state = c.args.self.now.state }) c.refused.result (record { under = c.under.result; state = c.args.self.now.state })) c.nameless.ensures (c.refused.ensures.served c.args.self.now.state)))

@@ -1,0 +1,16 @@
+use Rattle.std.proofs.Common.{◌≡◌, ap, subst, Bool}
+use Rattle.std.specs.Option.{option_copied}
+use Rattle.af_role.specs.Pairs.{PairRow}
+use Rattle.af_policy.specs.Grants.{grants}
+use Rattle.af_policy.specs.Views.{held}
+use Rattle.af_ops.specs.Verdicts.{Verdict, granted_verdict, judged}
+use Rattle.af_audit.specs.Answered.{IsPerformed, closed_verdict, standing_of}
+use Rattle.af_audit.proofs.ledger.Ledger.perform.Goals as goal
+
+pub returns-in-Some-clause-performed : goal.returns-in-Some-clause-performed
+returns-in-Some-clause-performed c =
+    let same : held c.view-view.result ≡ grants c.args.policy.now c.in-Some.user.now = λ i. λ pair. c.view-view.ensures.held pair i in
+    let users : granted_verdict c.args.self.now.audit.limit (grants c.args.policy.now c.in-Some.user.now) (standing_of c.args.self.now) c.args.op.now c.args.now ≡ closed_verdict c.args.policy.now c.args.self.now (option_copied c.args.token) c.args.op.now c.args.now =
+    ap (judged c.args.self.now.audit.limit c.args.policy.now (standing_of c.args.self.now) c.args.op.now c.args.now) c.in-Some.ensures in
+    subst (λ (v : Verdict). IsPerformed c.args.op.now v (standing_of c.args.self.now) c.judged.result (standing_of c.judged.new.self)) users
+    (subst (λ (granted : PairRow → Bool). IsPerformed c.args.op.now (granted_verdict c.args.self.now.audit.limit granted (standing_of c.args.self.now) c.args.op.now c.args.now) (standing_of c.args.self.now) c.judged.result (standing_of c.judged.new.self)) same c.judged.ensures.performed)
