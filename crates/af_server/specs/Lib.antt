@@ -8,9 +8,12 @@ pub mod VariableRows
 pub mod Tasks
 pub mod DagRows
 pub mod Configurations
+pub mod Openings
 pub mod Desks
+pub mod WorldRuns
 pub mod Files
 pub mod Once
+pub mod Laws
 pub mod Commands
 pub mod Tellings
 pub mod Worked

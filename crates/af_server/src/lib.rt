@@ -6,6 +6,7 @@ mod config;
 mod console;
 mod desk;
 mod files;
+pub mod laws;
 mod members;
 pub mod once;
 mod reason;

@@ -1,8 +1,6 @@
 ghost use Rattle.std.specs.Prelude.{◌≡◌, ◌<◌, length, Err};
-ghost use Rattle.af_http.specs.Connections.{Connects};
 ghost use Rattle.af_server.specs.Configurations.{longest};
-ghost use Rattle.af_server.specs.Desks.{Decides};
-ghost use Rattle.af_server.specs.Once.{IsOnce};
+ghost use Rattle.af_server.specs.Once.{Converses, IsOnce};
 
 use crate::config::Configuration;
 use crate::desk::Desk;
@@ -11,20 +9,21 @@ use af_http::{Ended, Sink, Source, serve};
 use af_names::Instant;
 use std::alloc::Global;
 
-/// Answers the requests that come from the reader, one after another, each by the verdict on the desk that the one before left.
+/// Answers the requests that come from the reader, one after another, each by the verdict on the desk that the one before left. They are
+/// one run of the world of one session: its steps are those of the requests, and its answers those that were told.
 pub fn converse<R: Source, W: Sink>(
     alloc: Global,
     desk: &mut Desk,
     reader: &mut R,
     writer: &mut W,
 ) -> Ended
-    ensures { Connects Decides (R.given reader.old) (R.given reader.new) (W.taken writer.old) (W.taken writer.new)
-        desk.old desk.new result }
+    ensures { Converses (R.given reader.old) (R.given reader.new) (W.taken writer.old) (W.taken writer.new) desk.old desk.new result }
 {
     serve(alloc, reader, writer, desk)
 }
 
-/// One connection under a configuration, at one moment. A configuration that is refused reads and writes nothing.
+/// One connection under a configuration, at one moment: a run of the world of one session, from what the configuration says on. A
+/// configuration that is refused reads and writes nothing.
 #[tactic(auto, using(crate::proofs::DeskLemmas::connects_kept))]
 pub fn once<R: Source, W: Sink>(
     alloc: Global,
@@ -38,6 +37,7 @@ pub fn once<R: Source, W: Sink>(
 {
     let configuration = Configuration::read(alloc, config)?;
     let mut desk = Desk::open(alloc, configuration, now)?;
+    desk.conditions();
     let ended = converse(alloc, &mut desk, reader, writer);
     desk.conditions();
     Ok(ended)

@@ -1,0 +1,156 @@
+-- What is told of a call, and what that leaves, is one function of the call, whether its body was read or not.
+use Rattle.std.proofs.Common.{◌≡◌, ◌∙◌, refl, ap, subst, ℕ, List, [], Bool, true, false}
+use Rattle.std.specs.Prelude.{Option, Some, None, option_map, Result, Ok, Err, codes, ◌++◌, map, if◌then◌else◌}
+use Rattle.af_role.specs.Needs.{need_text}
+use Rattle.af_role.specs.Pairs.{PairRow}
+use Rattle.af_role.specs.declared.need.Need.{Need}
+use Rattle.af_policy.specs.Grants.{first_unmet, grants, missing}
+use Rattle.af_policy.specs.Changes.{needs_of}
+use Rattle.af_policy.specs.Identity.{bearer_of}
+use Rattle.af_policy.specs.Rows.{PolicyRows}
+use Rattle.af_policy.specs.Versions.{VersionRows, asked_by, asked_kind, decided, unless_lacked, within}
+use Rattle.af_policy.specs.declared.ask.Ask.{Ask}
+use Rattle.af_policy.specs.declared.ask.Ask.TheVariants.{Made, Bad}
+use Rattle.af_policy.specs.declared.bad_input.BadInput.TheVariants as input
+use Rattle.af_policy.specs.declared.change.Change.TheVariants.{AddRole, SetRole, DropRole, AddUser, SetUser, DropUser, SyncDag}
+use Rattle.af_ops.specs.declared.answer.OpFault.{OpFault}
+use Rattle.af_ops.specs.declared.answer.OpFault.TheVariants.{OutOfMemory}
+use Rattle.af_ops.specs.declared.body_fault.BodyFault.TheVariants as body_fault
+use Rattle.af_ops.specs.declared.endpoint.Endpoint.{Endpoint}
+use Rattle.af_ops.specs.declared.op.Op.{Op}
+use Rattle.af_ops.specs.declared.op.Op.TheVariants as op
+use Rattle.af_ops.specs.declared.policy_op.PolicyOp.{PolicyOp}
+use Rattle.af_ops.specs.declared.policy_op.PolicyOp.TheVariants as asks
+use Rattle.af_ops.specs.declared.pool_op.PoolOp.TheVariants as pool_op
+use Rattle.af_ops.specs.declared.shown_answer.Shown.{Shown}
+use Rattle.af_ops.specs.declared.status.Status.TheVariants as status
+use Rattle.af_ops.specs.declared.variable_op.VariableOp.TheVariants as variable_op
+use Rattle.af_ops.specs.Effects.{Effect, effect_of}
+use Rattle.af_ops.specs.Endpoints.{dag_of, endpoint_of, unread}
+use Rattle.af_ops.specs.Faults.{fault_of}
+use Rattle.af_ops.specs.PolicyOps as policies
+use Rattle.af_ops.specs.PolicyServed.{told_of, versions_after}
+use Rattle.af_ops.specs.PolicyVerdicts.{PolicyVerdict, change_verdict, current, policy_verdict, unread_verdict}
+use Rattle.af_ops.specs.Required.{at_named}
+use Rattle.af_ops.specs.Served.{answer_of, problem_told}
+use Rattle.af_ops.specs.Table as table
+use Rattle.af_ops.specs.Table.{is_open}
+use Rattle.af_ops.specs.Verdicts.{Verdict, Lacks, dag_ids, done, judged, opened, permitted}
+use Rattle.af_audit.specs.Answered.{ledger_left, standing_of, verdict_on}
+use Rattle.af_audit.specs.Ledgers.{LedgerRows}
+
+-- an answer, with what it leaves
+abbrev pub with_left : {X : Type 0} → X → Shown → Shown × X
+with_left left shown = (shown, left)
+
+-- ---- operations on the state; kept: what is left where this ledger is
+module _ {X : Type 0} (kept : LedgerRows → X) (policy : PolicyRows) (ledger : LedgerRows) (token : Option (List ℕ)) (t : ℕ) where
+  -- what is told of a verdict on what is asked, with what is left
+  abbrev pub told_op : Op → Verdict → Option (Shown × X)
+  told_op asked it =
+      option_map (with_left (kept (ledger_left (bearer_of policy token) asked t ledger it))) (answer_of asked (standing_of ledger).under it)
+
+  -- One is as the other, but that its body was not read: where it is answered, the other is answered so.
+  module _ (whole half : Op) (dag : dag_of half ≡ dag_of whole) (place : endpoint_of half ≡ endpoint_of whole)
+      (want : (reads : List ℕ → Bool) → effect_of reads ledger.state half t ≡ Err OutOfMemory) (p : Shown × X) where
+    by_need : (granted : PairRow → Bool) (need : Option Need)
+        → told_op half (permitted ledger.audit.limit granted (standing_of ledger) half t need) ≡ Some p
+        → told_op whole (permitted ledger.audit.limit granted (standing_of ledger) whole t need) ≡ Some p
+    by_need granted (Some need) told =
+        subst (λ (d : Option (List ℕ)). option_map (with_left (kept ledger)) (option_map (problem_told (standing_of ledger).under) (fault_of status.Forbidden (codes "missing permission " ++ need_text need d))) ≡ Some p) dag told
+    by_need granted None told =
+        let none : told_op half (done ledger.audit.limit (standing_of ledger).under (Err OutOfMemory)) ≡ Some p =
+        subst (λ (e : Result Effect OpFault). told_op half (done ledger.audit.limit (standing_of ledger).under e) ≡ Some p) (want _) told in
+        absurd (cc none)
+
+    by_user : (user : Option (List ℕ))
+        → told_op half (judged ledger.audit.limit policy (standing_of ledger) half t user) ≡ Some p
+        → told_op whole (judged ledger.audit.limit policy (standing_of ledger) whole t user) ≡ Some p
+    by_user None told = told
+    by_user (Some user) told =
+        let granted : PairRow → Bool = grants policy user in
+        let need : Option (List ℕ) → Endpoint → Option Need = λ d e. first_unmet granted d (dag_ids ledger.state) (map (at_named d) (table.needs_of e)) in
+        let P : Option Need → Type 0 = λ n. told_op half (permitted ledger.audit.limit granted (standing_of ledger) half t n) ≡ Some p in
+        by_need granted (need (dag_of whole) (endpoint_of whole))
+        (subst P (ap (λ (d : Option (List ℕ)). need d (endpoint_of half)) dag ∙ ap (need (dag_of whole)) place) told)
+
+    by_open : (opens : Bool)
+        → told_op half (if opens then opened (effect_of (λ dag. false) ledger.state half t) else judged ledger.audit.limit policy (standing_of ledger) half t (bearer_of policy token)) ≡ Some p
+        → told_op whole (if opens then opened (effect_of (λ dag. false) ledger.state whole t) else judged ledger.audit.limit policy (standing_of ledger) whole t (bearer_of policy token)) ≡ Some p
+    by_open true told =
+        let none : told_op half (opened (Err OutOfMemory)) ≡ Some p =
+        subst (λ (e : Result Effect OpFault). told_op half (opened e) ≡ Some p) (want (λ dag. false)) told in
+        absurd (cc none)
+    by_open false told = by_user (bearer_of policy token) told
+
+    pub half_told : told_op half (verdict_on policy ledger token half t) ≡ Some p → told_op whole (verdict_on policy ledger token whole t) ≡ Some p
+    half_told told =
+        by_open (is_open (endpoint_of whole))
+        (subst (λ (e : Endpoint). told_op half (if is_open e then opened (effect_of (λ dag. false) ledger.state half t) else judged ledger.audit.limit policy (standing_of ledger) half t (bearer_of policy token)) ≡ Some p) place told)
+
+  pub unread_told : (asked : Op) (p : Shown × X)
+      → told_op (unread asked) (verdict_on policy ledger token (unread asked) t) ≡ Some p
+      → told_op asked (verdict_on policy ledger token asked t) ≡ Some p
+  unread_told op.Version p told = told
+  unread_told (op.ListDags asked) p told = told
+  unread_told (op.GetDag dag_id) p told = told
+  unread_told (op.PauseDag dag_id body) p told = half_told (op.PauseDag dag_id body) (op.PauseDag dag_id (Err body_fault.OutOfMemory)) refl refl (λ reads. refl) p told
+  unread_told (op.ListTasks dag_id) p told = told
+  unread_told (op.ListRuns dag asked) p told = told
+  unread_told (op.TriggerRun dag_id body) p told = half_told (op.TriggerRun dag_id body) (op.TriggerRun dag_id (Err body_fault.OutOfMemory)) refl refl (λ reads. refl) p told
+  unread_told (op.GetRun dag_id run_id) p told = told
+  unread_told (op.MarkRun dag_id run_id body) p told = half_told (op.MarkRun dag_id run_id body) (op.MarkRun dag_id run_id (Err body_fault.OutOfMemory)) refl refl (λ reads. refl) p told
+  unread_told (op.DeleteRun dag_id run_id) p told = told
+  unread_told (op.ClearRun dag_id run_id body) p told = half_told (op.ClearRun dag_id run_id body) (op.ClearRun dag_id run_id (Err body_fault.OutOfMemory)) refl refl (λ reads. refl) p told
+  unread_told (op.ListInstances dag_id run_id asked) p told = told
+  unread_told (op.GetInstance dag_id run_id task_id) p told = told
+  unread_told (op.ClearInstances dag_id body) p told = half_told (op.ClearInstances dag_id body) (op.ClearInstances dag_id (Err body_fault.OutOfMemory)) refl refl (λ reads. refl) p told
+  unread_told (op.Pool (pool_op.List asked)) p told = told
+  unread_told (op.Pool (pool_op.Add body)) p told = half_told (op.Pool (pool_op.Add body)) (op.Pool (pool_op.Add (Err body_fault.OutOfMemory))) refl refl (λ reads. refl) p told
+  unread_told (op.Pool (pool_op.Get name)) p told = told
+  unread_told (op.Pool (pool_op.Change name body)) p told = half_told (op.Pool (pool_op.Change name body)) (op.Pool (pool_op.Change name (Err body_fault.OutOfMemory))) refl refl (λ reads. refl) p told
+  unread_told (op.Pool (pool_op.Delete name)) p told = told
+  unread_told (op.Variable (variable_op.List asked)) p told = told
+  unread_told (op.Variable (variable_op.Add body)) p told = half_told (op.Variable (variable_op.Add body)) (op.Variable (variable_op.Add (Err body_fault.OutOfMemory))) refl refl (λ reads. refl) p told
+  unread_told (op.Variable (variable_op.Get key)) p told = told
+  unread_told (op.Variable (variable_op.Change key body)) p told = half_told (op.Variable (variable_op.Change key body)) (op.Variable (variable_op.Change key (Err body_fault.OutOfMemory))) refl refl (λ reads. refl) p told
+  unread_told (op.Variable (variable_op.Delete key)) p told = told
+
+-- ---- operations on the policy; kept: what is left where these versions are
+module _ {X : Type 0} (kept : VersionRows → X) (versions : VersionRows) where
+  abbrev pub told_policy : PolicyVerdict → Option (Shown × X)
+  told_policy it = option_map (with_left (kept (versions_after it versions))) (told_of (current versions) it)
+
+  module _ (token : Option (List ℕ)) (p : Shown × X) where
+    module _ (ask : Ask) where
+      change_by_need : (need : Option Need)
+          → told_policy (unread_verdict (unless_lacked versions.latest (Bad (asked_kind ask) input.Body) need)) ≡ Some p
+          → told_policy (change_verdict (current versions) ask (within versions (unless_lacked versions.latest ask need))) ≡ Some p
+      change_by_need (Some need) told = told
+      change_by_need None told = absurd (cc told)
+
+      change_by_user : (user : Option (List ℕ))
+          → told_policy (unread_verdict (asked_by versions.latest (Bad (asked_kind ask) input.Body) user)) ≡ Some p
+          → told_policy (change_verdict (current versions) ask (within versions (asked_by versions.latest ask user))) ≡ Some p
+      change_by_user None told = told
+      change_by_user (Some user) told = change_by_need (missing versions.latest user (needs_of (asked_kind ask)) None []) told
+
+      pub change_unread :
+          told_policy (unread_verdict (decided versions.latest token (Bad (asked_kind ask) input.Body))) ≡ Some p
+          → told_policy (change_verdict (current versions) ask (within versions (decided versions.latest token ask))) ≡ Some p
+      change_unread told = change_by_user (bearer_of versions.latest token) told
+
+    pub policy_unread : (asked : PolicyOp)
+        → told_policy (policy_verdict versions token (policies.unread asked)) ≡ Some p
+        → told_policy (policy_verdict versions token asked) ≡ Some p
+    policy_unread asks.Me told = told
+    policy_unread (asks.Read asked) told = told
+    policy_unread (asks.Change (Made (AddRole role))) told = change_unread (Made (AddRole role)) told
+    policy_unread (asks.Change (Made (SetRole role))) told = change_unread (Made (SetRole role)) told
+    policy_unread (asks.Change (Made (DropRole name))) told = told
+    policy_unread (asks.Change (Made (AddUser user))) told = change_unread (Made (AddUser user)) told
+    policy_unread (asks.Change (Made (SetUser patch))) told = change_unread (Made (SetUser patch)) told
+    policy_unread (asks.Change (Made (DropUser name))) told = told
+    policy_unread (asks.Change (Made (SyncDag access))) told = change_unread (Made (SyncDag access)) told
+    policy_unread (asks.Change (Bad kind body)) told = change_unread (Bad kind body) told
+    policy_unread (asks.Unread kind) told = told
