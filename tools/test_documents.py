@@ -1,0 +1,138 @@
+#!/usr/bin/env python3
+"""Tests of the documents: links and paths lead somewhere, definitions and laws stand where it is said, and what is said twice has the same words.
+
+    python3 tools/test_documents.py
+"""
+import json
+import pathlib
+import re
+import sys
+import unittest
+
+TOP = pathlib.Path(__file__).resolve().parents[1]
+CRATES = TOP / "crates"
+DOCUMENTS = [TOP / "README.md", *sorted((TOP / "docs").glob("*.md")), TOP / "bench/README.md", *sorted((TOP / "examples").rglob("README.md"))]
+MOST_CHARACTERS = 9000
+HEAD = "| Plain name | Where | Carried by |"
+
+
+def text_of(path):
+    return path.read_text(encoding="utf-8")
+
+
+def words_of(text):
+    """The text on one line, without the marks of a quotation."""
+    return " ".join(re.sub(r"(?m)^> ?", "", text).split())
+
+
+def quotations(text):
+    return [words_of(it) for it in re.findall(r"(?m)(?:^>.*\n)+", text)]
+
+
+def anchor_of(heading):
+    """The anchor that a reader of Markdown makes of a heading."""
+    return re.sub(r"[^\w\- ]", "", heading.strip().lower()).replace(" ", "-")
+
+
+def anchors_in(path):
+    return {anchor_of(it) for it in re.findall(r"(?m)^#+ (.*)$", text_of(path))}
+
+
+def definition_rows():
+    """Of each row of docs/DEFINITIONS.md the three cells."""
+    rows, within = [], False
+    for line in text_of(TOP / "docs/DEFINITIONS.md").split("\n"):
+        within = line == HEAD or within and line.startswith("|")
+        if within and line != HEAD and not line.startswith("|---"):
+            rows.append([it.strip() for it in line.strip("| ").split(" | ")])
+    return rows
+
+
+def files_of(cell):
+    """The files that a cell names: one without a folder stands beside the one before it."""
+    found, folder = [], None
+    for it in cell.split(", "):
+        path = CRATES / it if "/" in it else folder / it
+        folder = path.parent
+        found.append(path)
+    return found
+
+
+def names_in(cell):
+    """The names that stand in brackets, each in backquotes."""
+    return [name for bracket in re.findall(r"\((`[^()]*`)\)", cell) for name in re.findall(r"`([^`]+)`", bracket)]
+
+
+class Documents(unittest.TestCase):
+    def test_length_of_the_first_page(self):
+        self.assertLessEqual(len(text_of(TOP / "README.md")), MOST_CHARACTERS)
+
+    def test_the_promise_has_one_wording(self):
+        definitions = words_of(text_of(TOP / "docs/DEFINITIONS.md"))
+        promised = quotations(text_of(TOP / "README.md"))
+        self.assertEqual(len(promised), 2)
+        for it in promised:
+            self.assertEqual(definitions.count(it), 1, it)
+
+    def test_each_crate_has_a_row(self):
+        crates = [it.name for it in sorted(CRATES.iterdir()) if (it / "src").is_dir() and not it.name.endswith("_tests") and it.name != "afplane"]
+        rows = re.findall(r"(?m)^\| (af_\w+) \|", text_of(TOP / "README.md"))
+        self.assertEqual(sorted(rows), crates)
+        rows = re.findall(r"(?m)^\| `(af\w+)` \|", text_of(TOP / "docs/ARCHITECTURE.md"))
+        self.assertEqual(sorted(rows), sorted([*crates, "afplane"]))
+        rows = re.findall(r"(?m)^\*\*(af_\w+)\. Proved", text_of(TOP / "docs/PROOFS.md"))
+        self.assertEqual(sorted(rows), crates)
+
+    def test_links_lead_somewhere(self):
+        for page in DOCUMENTS:
+            for target in re.findall(r"\]\(([^)\s]+)\)", text_of(page)):
+                path, _, anchor = target.partition("#")
+                if "://" in path:
+                    continue
+                there = (page.parent / path).resolve() if path else page
+                self.assertTrue(there.exists(), f"{page.name}: {target}")
+                if anchor:
+                    self.assertIn(anchor, anchors_in(there), f"{page.name}: {target}")
+
+    def test_definitions_stand_where_it_is_said(self):
+        rows = definition_rows()
+        self.assertGreater(len(rows), 100)
+        for row in rows:
+            self.assertEqual(len(row), 3, row)
+            plain, where, _ = row
+            if where == "std":
+                continue
+            with self.subTest(row=plain):
+                text = "\n".join(map(text_of, files_of(where)))
+                for name in names_in(plain):
+                    self.assertRegex(text, rf"(?m)^\s*(?:[a-z]+ )*{re.escape(name)}(?!\w)")
+
+    def test_code_blocks_of_json_are_json(self):
+        for page in DOCUMENTS:
+            for block in re.findall(r"(?ms)^```json\n(.*?)^```", text_of(page)):
+                json.loads(block)
+
+
+class Calls(unittest.TestCase):
+    """The functions, clauses and types that documents name are those of the sources."""
+
+    @classmethod
+    def setUpClass(cls):
+        sources = [text_of(it) for folder in ("src", "specs") for it in CRATES.glob(f"*/{folder}/**/*") if it.suffix in (".rt", ".antt")]
+        cls.words = set(re.findall(r"\w+", " ".join(sources))) | {it.stem for it in CRATES.glob("*/proofs/**/*.antt")}
+
+    def test_names_are_there(self):
+        for page in (TOP / "README.md", *(TOP / "docs" / f"{it}.md" for it in ("ARCHITECTURE", "DECISIONS", "DEFINITIONS", "PROOFS"))):
+            text = re.sub(r"(?ms)^```.*?^```", "", text_of(page))
+            for name in re.findall(r"`([A-Za-z_][\w:]*)`", text):
+                for part in name.split("::"):
+                    with self.subTest(page=page.name, name=name):
+                        self.assertTrue(part in self.words or part in FOREIGN or (CRATES / part).is_dir())
+
+
+# What documents name that is in no source: the end of the names of test crates, and what was looked at and not taken.
+FOREIGN = {"_tests", "Tape"}
+
+
+if __name__ == "__main__":
+    sys.exit(unittest.main())
