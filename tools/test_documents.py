@@ -10,6 +10,10 @@ import sys
 import unittest
 
 TOP = pathlib.Path(__file__).resolve().parents[1]
+sys.dont_write_bytecode = True
+sys.path.insert(0, str(TOP / "bench"))
+import oracle  # noqa: E402
+
 CRATES = TOP / "crates"
 DOCUMENTS = [TOP / "README.md", *sorted((TOP / "docs").glob("*.md")), TOP / "bench/README.md", *sorted((TOP / "examples").rglob("README.md"))]
 MOST_CHARACTERS = 9000
@@ -113,6 +117,39 @@ class Documents(unittest.TestCase):
                 json.loads(block)
 
 
+class Configuration(unittest.TestCase):
+    """The examples of docs/CONFIGURATION.md are members that a configuration may have."""
+
+    def test_examples(self):
+        page = text_of(TOP / "docs/CONFIGURATION.md")
+        whole = re.search(r"(?ms)^```json\n(.*?)^```", page)[1]
+        rows = re.findall(r"(?m)^\| (.*) \| `(\".*)` \| .* \|$", page)
+        self.assertEqual(len(rows), 30)
+        for first, example in rows:
+            named = first.split(" | ")[0].strip("`")
+            config = json.loads(whole)
+            with self.subTest(member=named):
+                (name, value), = json.loads("{%s}" % example).items()
+                row, wanted = row_of(config, named)
+                self.assertEqual(name, wanted)
+                row[name] = value
+                oracle.Plane(json.dumps(config).encode())
+
+
+def row_of(config, named):
+    """The row of a configuration in which a member stands, and the member's name."""
+    pair, dag = config["roles"][0]["actions"][0], config["dags"][0]
+    if named in ("A", "R"):
+        return pair["action" if named == "A" else "resource"], "name"
+    if "[]" in named:
+        listed, _, name = named.partition("[].")
+        return config[listed][-1], name
+    if named.endswith("_limit"):
+        return config, named
+    of_task = ("task_id", "upstream", "pool", "pool_slots", "priority_weight", "retries", "retry_delay", "trigger_rule", "script")
+    return dag["tasks"][1] if named in of_task else dag, named
+
+
 class Calls(unittest.TestCase):
     """The functions, clauses and types that documents name are those of the sources."""
 
@@ -130,8 +167,8 @@ class Calls(unittest.TestCase):
                         self.assertTrue(part in self.words or part in FOREIGN or (CRATES / part).is_dir())
 
 
-# What documents name that is in no source: the end of the names of test crates, and what was looked at and not taken.
-FOREIGN = {"_tests", "Tape"}
+# What documents name that is in no source: the end of the names of test crates, what was looked at and not taken, a state of Airflow.
+FOREIGN = {"_tests", "Tape", "restarting"}
 
 
 if __name__ == "__main__":
