@@ -90,7 +90,7 @@ def fixed_cases(it, folder, write):
 
 class Random:
     """The random cases, one after another: a quarter each configurations with faults, hostile requests, operations on few names, and long connections
-    in which users and roles come and go (where the program has changes of the policy; else operations again)."""
+    in which users and roles come and go, of which every other one is replayed (where the program has what these want; else operations again)."""
 
     def __init__(self, rng, it, write, seed):
         self.rng, self.it, self.write, self.seed, self.has = rng, it, write, seed, it.has
@@ -99,7 +99,8 @@ class Random:
         if n % 20 == 0:
             made, self.tokens = config_cases.good(self.rng)
             self.good = config_cases.written(self.rng, made)
-        kinds = [self.hostile, self.operations, self.mixed if "set_user" in self.has else self.operations, self.configuration]
+        long = self.operations if "set_user" not in self.has else self.replayed if n % 8 == 6 and {"list_entries", "pages"} <= self.has else self.mixed
+        kinds = [self.hostile, self.operations, long, self.configuration]
         if n % 8 == 1:
             self.state, self.users = state_cases.config(self.rng, self.has)
             self.wide = config_cases.written(self.rng, self.state)
@@ -116,8 +117,19 @@ class Random:
         data = state_cases.Asker(self.rng, self.state, self.users, self.has).connection()
         self.it.case(name, [*self.write(self.wide)[:2], self.rng.choice(state_cases.NOWS)], data)
 
-    def mixed(self, name):
+    def mixer(self):
+        """Who makes a long connection, and the words of the program that is to answer it."""
         made, tokens = state_cases.config(self.rng, self.has)
         now = self.rng.choice(state_cases.NOWS)
-        data = mixed_cases.Mixer(self.rng, made, tokens, oracle_names.instant_of(now), self.has).connection()
-        self.it.case(name, [*self.write(config_cases.written(self.rng, made))[:2], now], data)
+        mixer = mixed_cases.Mixer(self.rng, made, tokens, oracle_names.instant_of(now), self.has)
+        return mixer, [*self.write(config_cases.written(self.rng, made))[:2], now]
+
+    def mixed(self, name):
+        mixer, words = self.mixer()
+        self.it.case(name, words, mixer.connection())
+
+    def replayed(self, name):
+        """A connection that ends in looks at all that stands, which the replay of its event logs is to give, too."""
+        mixer, words = self.mixer()
+        data, looks = mixer.with_looks()
+        self.it.case(name, words, data, looks)

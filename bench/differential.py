@@ -33,6 +33,7 @@ import oracle
 import oracle_bodies
 import oracle_config
 import oracle_names
+import replay
 from all_cases import NOW, ROOT, Random, fixed_cases
 from oracle_table import GROUPS, having
 
@@ -122,7 +123,7 @@ class Files:
         self.folder, self.has, self.passed, self.failed, self.answers, self.configs = folder, has, 0, 0, collections.Counter(), {}
         os.makedirs(os.path.join(folder, "cases"))
 
-    def case(self, name, words, data):
+    def case(self, name, words, data, looks=0):
         if len(words) != 3 or not os.path.isfile(words[1]) or not words[2].isprintable():
             return
         with open(words[1], "rb") as file:
@@ -148,18 +149,19 @@ class Files:
 class Comparison:
     def __init__(self, program, has, described):
         self.program, self.has, self.passed, self.failed, self.answers = program, has, 0, 0, collections.Counter()
-        self.described = described
+        self.described, self.replayed = described, 0
 
-    def case(self, name, words, data):
-        """Runs one case; `words` name the configuration's file."""
+    def case(self, name, words, data, looks=0):
+        """Runs one case; `words` name the configuration's file; where its last requests are looks at all that stands, how many these are."""
         wanted, got = oracle.run(words, data, self.has), ran(self.program, words, data)
         self.answers.update(statuses(wanted[1]))
         if wanted == got:
             fault = self.described and self.described.fault(data, got[1])
+            fault = f"an answer that docs/openapi.json does not have: {fault}" if fault else looks and self.replay_fault(words, data, got[1], looks)
             self.passed += not fault
             self.failed += bool(fault)
             if fault and self.failed == 1:
-                print(f"The first answer that docs/openapi.json does not have ({name}): {fault}")
+                print(f"The first fault ({name}): {fault}")
             return
         self.failed += 1
         if self.failed > 1:
@@ -186,6 +188,12 @@ class Comparison:
             else:
                 print(f"  {part}: wanted {len(a)} bytes, got {len(b)}, with {b.count(b'HTTP/1.1 ')} answers for {a.count(b'HTTP/1.1 ')}")
                 print(f"    {first_difference(a, b)}")
+
+    def replay_fault(self, words, data, out, looks):
+        """Why what the program told last is not what its event logs make of the opening state; or nothing."""
+        self.replayed += 1
+        with open(words[1], "rb") as file:
+            return replay.fault(file.read(), oracle_names.instant_of(words[2]), replay.exchanges(data, out), looks, self.has)
 
     def smaller(self, words, data):
         """The same input without requests that the difference does not need."""
@@ -258,6 +266,8 @@ def main():
     print(f"{sum(it.answers.values())} answers: {told}", file=sys.stderr)
     if described:
         print(f"{described.answers} answers held against docs/openapi.json", file=sys.stderr)
+    if not args.write:
+        print(f"{it.replayed} connections replayed", file=sys.stderr)
     if args.write:
         print(it.command())
         sys.exit()

@@ -7,9 +7,11 @@ import hashlib
 import json
 
 import oracle
+import replay
 import state_cases
 from body_cases import BAD_BODIES, OTHERS, part
 from config_cases import RESOURCES, role_row
+from oracle import MOST_REQUESTS
 from oracle_policy import DEFAULT_ROLES
 from oracle_table import OPERATIONS
 from oracle_verdict import decide, permitted
@@ -48,7 +50,7 @@ class Mixer:
         self.bodies.update({"add_role": self.new_role, "set_role": self.role, "add_user": self.new_user, "set_user": self.user, "sync": self.access})
         self.operations = [it for it in OPERATIONS if it.name in has]
         self.weights = [WEIGHTS.get(it.name, 1) for it in self.operations]
-        self.wild = rng.choice([0, 0.02, 0.05, 0.1, 0.3])
+        self.wild, self.asked = rng.choice([0, 0.02, 0.05, 0.1, 0.3]), 0
 
     def policy(self):
         return self.plane.versions[-1]
@@ -200,6 +202,7 @@ class Mixer:
     def ask(self, method, target, token, body):
         """The bytes of a request, which the plane beside is asked too."""
         decide(self.plane, method, target, token, body or b"")
+        self.asked += 1
         first = method + b" " + target + b" HTTP/1.1"
         if token is None:
             length = b"" if body is None else b"Content-Length: %d" % len(body)
@@ -228,6 +231,20 @@ class Mixer:
         shown = {"sync": b"/api/v1/roles", "clear_run": path.rpartition(b"/")[0], "clear_instances": path.rpartition(b"/")[0] + b"/dagRuns"}.get(operation.name, path)
         target = rng.choice([shown, shown, shown, last, b"/own/me", b"/api/v1/dags", b"/api/v1/roles", b"/api/v1/users"])
         return self.ask(b"GET", target, rng.choice(self.known("Admin") * 2 + self.known() or [b"nope"]), None)
+
+    def with_looks(self):
+        """A connection of many changes of the state, which ends in looks at all that stands, and how many looks these are; without any where no
+        token of an Admin is known then."""
+        rng = self.rng
+        self.weights = [it * (6 if of.event else 1) for it, of in zip(self.weights, self.operations)]
+        self.wild, few = rng.choice([0, 0, 0.02, 0.1]), self.bodies["trigger_run"]
+        self.bodies["trigger_run"] = lambda: {"logical_date": f"2024-03-01T00:00:00.{self.asked:06}Z"} if self.chance(0.6) else few()
+        data = b"".join(self.request() for _ in range(rng.choice([20, 100, 250, 400])))
+        state, tokens = self.plane.state, self.known("Admin")
+        targets = replay.looks(state, len(self.plane.entries), rng.sample(state.runs, min(len(state.runs), 60)))[: MOST_REQUESTS - self.asked]
+        if not tokens:
+            return data, 0
+        return data + b"".join(self.ask(b"GET", it.encode(), rng.choice(tokens), None) for it in targets), len(targets)
 
     def connection(self):
         rng = self.rng
