@@ -111,6 +111,18 @@ class Documents(unittest.TestCase):
                 for name in names_in(plain):
                     self.assertRegex(text, rf"(?m)^\s*(?:[a-z]+ )*{re.escape(name)}(?!\w)")
 
+    def test_rules_of_questions_stand_where_it_is_said(self):
+        rows = [it.split(" | ") for it in re.findall(r"(?m)^\| (.*\?.*) \|$", text_of(TOP / "docs/QUESTIONS.md"))]
+        self.assertGreater(len(rows), 10)
+        for row in rows:
+            with self.subTest(question=row[0]):
+                self.assertEqual(len(row), 3)
+                found = re.findall(r"((?:`\w+`(?:, )?)+) in (af_\w+/specs/\w+\.antt)", row[2])
+                self.assertEqual(len(found), row[2].count("; ") + 1)
+                for names, path in found:
+                    for name in re.findall(r"\w+", names):
+                        self.assertRegex(text_of(CRATES / path), rf"(?m)^\s*(?:[a-z]+ )*{name}(?!\w)")
+
     def test_code_blocks_of_json_are_json(self):
         for page in DOCUMENTS:
             for block in re.findall(r"(?ms)^```json\n(.*?)^```", text_of(page)):
