@@ -7,11 +7,10 @@
   python3 bench/refusals.py --tests                   each test of the crates below af_http whose tests `rt test` has built
 
 A run is refused its first allocation, the next its second, and so on, until a run meets none to refuse. Each is to end in
-one of four ways: as the run with all its memory does, which is as the oracle says; with some of its answers, whole and in
-order, and then the fixed 503, status 1; the same with the fixed 500, where the next answer is that of a change of the state, which makes an entry; or with the
-configuration refused for want of memory, status 3, and nothing on standard output. The reply to a change of the policy is made before the change is,
-so it is never lost: no 500 stands in its place. Where each request names a path or a
-method that is not there, the 503 comes at the opening alone. A test is to pass, or to end in the fault for want of memory and in no other. The last line is `N runs as they must be, M not`, and the
+one of three ways: as the run with all its memory does, which is as the oracle says; with some of its answers, whole and in
+order, and then the fixed 503, status 1; or with the configuration refused for lack of memory, status 3, and nothing on standard output. A change is made once
+its reply stands, so no reply of one is lost: nowhere is there a 500. Where each request names a path or a
+method that is not there, the 503 comes at the opening alone. A test is to pass, or to end in the fault that says out of memory and in no other. The last line is `N runs as they must be, M not`, and the
 status 0 only where M is 0. It wants a C compiler (`cc`).
 """
 import argparse
@@ -31,10 +30,6 @@ NOW = "2024-01-01T00:00:00Z"
 BODY = b'{"detail":"out of memory","status":503,"title":"Service Unavailable","type":"about:blank"}'
 NO_MEMORY = (
     b"HTTP/1.1 503 Service Unavailable\r\nContent-Type: application/problem+json\r\nContent-Length: 90\r\nConnection: close\r\n\r\n" + BODY
-)
-LOST_BODY = b'{"detail":"done, reply lost","status":500,"title":"Internal Server Error","type":"about:blank"}'
-REPLY_LOST = (
-    b"HTTP/1.1 500 Internal Server Error\r\nContent-Type: application/problem+json\r\nContent-Length: 95\r\nConnection: close\r\n\r\n" + LOST_BODY
 )
 REFUSED = b"afplane: configuration refused: memory\n"
 MOST = 100_000
@@ -83,7 +78,7 @@ def run_test(program, name, library, number):
 
 # Those that compare whole answers, where the fixed 503 is no fault of a test: the program itself is refused its memory.
 WHOLE = {"af_http_tests_tests", "af_server_tests_tests"}
-WANT_OF_MEMORY = re.compile(rb"([Ee]rror: (\w+\()*(OutOfMemory|AllocError|AllocFailed|Memory)\b|left: \S*(OutOfMemory|Memory|AllocError))")
+OUT_OF_MEMORY = re.compile(rb"([Ee]rror: (\w+\()*(OutOfMemory|AllocError|AllocFailed|Memory)\b|left: \S*(OutOfMemory|Memory|AllocError))")
 
 
 def refuse_each_of_test(program, name, library):
@@ -93,7 +88,7 @@ def refuse_each_of_test(program, name, library):
         status, text, met = run_test(program, name, library, number)
         if not met:
             break
-        if (status == 0 and b"test result: ok" in text) or (status in (101, -6) and WANT_OF_MEMORY.search(text)):
+        if (status == 0 and b"test result: ok" in text) or (status in (101, -6) and OUT_OF_MEMORY.search(text)):
             right += 1
         else:
             wrong += 1
@@ -127,30 +122,15 @@ def refuse_program(program, library, has):
     return right, wrong
 
 
-def entries_in(answer):
-    """The number of entries that an answer names, or none."""
-    found = re.search(rb"\r\nX-Plane-Seq: (\d+)\r\n", answer.split(b"\r\n\r\n")[0] + b"\r\n")
-    return found and int(found[1])
-
-
 def fronts_of(text):
-    """Fronts of the output that end with an answer, and those after which a change of the state is answered: there is one entry more."""
-    ends = answers_in(text)
-    fronts, changed, last = [text[:end] for end in ends], [], 0
-    for start, end in zip(ends, ends[1:]):
-        now = entries_in(text[start:end])
-        if now is not None and now != last:
-            changed.append(text[:start])
-            last = now
-    return fronts, changed
+    """Fronts of the output that end with an answer."""
+    return [text[:end] for end in answers_in(text)]
 
 
-def is_right(whole, fronts, changed, status, out, err):
+def is_right(whole, fronts, status, out, err):
     if (status, out, err) == whole or (status, out, err) == (3, b"", REFUSED):
         return True
-    if status != 1 or err != b"":
-        return False
-    return out.endswith(NO_MEMORY) and out[: -len(NO_MEMORY)] in fronts or out.endswith(REPLY_LOST) and out[: -len(REPLY_LOST)] in changed
+    return status == 1 and err == b"" and out.endswith(NO_MEMORY) and out[: -len(NO_MEMORY)] in fronts
 
 
 def refuse_each(program, library, has, name, config, data):
@@ -160,7 +140,7 @@ def refuse_each(program, library, has, name, config, data):
     whole = tuple(whole)
     if whole != oracle.run(words, data, has):
         sys.exit(f"refusals: {name}, with all its memory, is not answered as the oracle says: status {whole[0]}, {whole[1][:600]!r}, {whole[2]!r}")
-    fronts, changed = fronts_of(whole[1])
+    fronts = fronts_of(whole[1])
     if name == "nowhere":
         fronts = fronts[:1]
     right, wrong, kinds = 0, 0, {}
@@ -168,9 +148,9 @@ def refuse_each(program, library, has, name, config, data):
         status, out, err, met = run(program, words, data, library, number)
         if not met:
             break
-        if is_right(whole, fronts, changed, status, out, err):
+        if is_right(whole, fronts, status, out, err):
             right += 1
-            kind = "503" if out.endswith(NO_MEMORY) else "500" if out.endswith(REPLY_LOST) else f"status {status}"
+            kind = "503" if out.endswith(NO_MEMORY) else f"status {status}"
             kinds[kind] = kinds.get(kind, 0) + 1
         else:
             wrong += 1

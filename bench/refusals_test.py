@@ -1,4 +1,4 @@
-"""What refusals.py takes for right: the fixed 503 after any answer, the fixed 500 in place of the answer to a change of the state alone.
+"""What refusals.py takes for right: the fixed 503 after any answer, and no other end.
 
   python3 bench/refusals_test.py
 """
@@ -8,7 +8,7 @@ import unittest
 import oracle
 from oracle_table import OPERATIONS, having, route
 from refusal_cases import CHANGES, EXAMPLES, FAULTS, READINGS, request
-from refusals import NOW, NO_MEMORY, REFUSED, REPLY_LOST, fronts_of, is_right
+from refusals import NOW, NO_MEMORY, REFUSED, fronts_of, is_right
 
 BASE = os.path.join(EXAMPLES, "base.json")
 
@@ -17,10 +17,10 @@ class Right(unittest.TestCase):
     def ends(self, *requests):
         """A test of how a run on these requests may end: with so many answers, and then these bytes."""
         whole = oracle.run(["once", BASE, NOW], b"".join(requests))
-        fronts, changed = fronts_of(whole[1])
+        fronts = fronts_of(whole[1])
         self.assertEqual(fronts[-1], whole[1])
         self.assertEqual(len(fronts), len(requests) + 1)
-        return lambda count, rest, status=1, err=b"": is_right(whole, fronts, changed, status, fronts[count] + rest, err)
+        return lambda count, rest, status=1, err=b"": is_right(whole, fronts, status, fronts[count] + rest, err)
 
     def test_changes(self):
         pause, role = request("PATCH /dags/b", '{"is_paused":true}'), request("POST /roles", '{"name":"X","actions":[]}')
@@ -30,7 +30,8 @@ class Right(unittest.TestCase):
         self.assertFalse(ends(5, b""))
         self.assertFalse(ends(4, b"", 0))
         self.assertEqual([ends(n, NO_MEMORY) for n in range(5)], [True] * 5)
-        self.assertEqual([ends(n, REPLY_LOST) for n in range(5)], [True, False, False, False, False])
+        lost = NO_MEMORY.replace(b"503 Service Unavailable", b"500 Internal Server Error").replace(b"out of memory", b"done, reply lost")
+        self.assertEqual([ends(n, lost) for n in range(5)], [False] * 5)
         self.assertFalse(ends(1, NO_MEMORY, 0))
         self.assertFalse(ends(1, NO_MEMORY, 1, b"x"))
         self.assertFalse(ends(1, NO_MEMORY[:-1]))

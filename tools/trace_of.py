@@ -144,7 +144,7 @@ class Answer:
         return {"status": self.status, "version": self.version, "seq": self.seq, "body": self.body}
 
     def says(self, detail):
-        """Whether it is the fixed answer for want of memory that says so."""
+        """Whether it is the fixed answer that says so, where memory was refused."""
         return self.status in (500, 503) and self.version is None and f'"detail":"{detail}"' in self.body
 
 
