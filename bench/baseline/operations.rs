@@ -215,10 +215,11 @@ fn trigger(plane: &mut Plane, dag: &str, body: &[u8], author: &Author<'_>, out: 
     dag.by_id.insert(id.clone(), number);
     dag.by_date.insert(date, number);
     let instances = dag.tasks.iter().map(|it| Instance::waiting(0, it)).collect();
+    let named = Some(id.clone());
     let run = Run { dag: place, id, run_type: "manual", logical_date: date, interval: (date, date), start: None, end: None, state: "queued", instances };
     put_run(out, &run, dag);
     plane.runs.push(Some(run));
     plane.count += 1;
-    plane.audit.add(author, "trigger_dag_run", Some(place), None);
+    plane.audit.add(author, "trigger_dag_run", Some(place), named);
     Ok(())
 }
