@@ -39,7 +39,7 @@ def fail(text):
 
 
 class Load:
-    """An opening (DAGs, tasks of each, ended runs of each), what each round does, and how many operations are measured in it.
+    """An opening (DAGs, tasks of each, ended runs of each, DAGs of heavier tasks), what each round does, and how many operations are measured in it.
 
     A round is a function of its number to lines; those that begin with a star are measured. What is played before all rounds are lines, too."""
 
@@ -49,22 +49,23 @@ class Load:
 
 def loads():
     for runs in (0, 100, 1_000):
-        yield Load(f"an idle tick, {runs:,} ended runs each", (1_024, 1, runs), 50, lambda turn: [f"*tick {NOON} 50"], unit="us")
+        yield Load(f"an idle tick, {runs:,} ended runs each", (1_024, 1, runs, 0), 50, lambda turn: [f"*tick {NOON} 50"], unit="us")
     # A tick's new runs are listed by DAG when memory is next reserved, which the loads with "listed" do before they tick again.
     ticks = lambda turn, *more: [*more, f"*tick {START + (turn + 1) * DAY} 1", "digest", "end"]
     for runs in (0, 977):
         name = f"a tick, 1,024 DAGs due, {1_024 * runs:,} ended"
-        yield Load(name, (1_024, 1, runs), 1, ticks, unit="us")
-        yield Load(f"{name}, listed", (1_024, 1, runs), 1, lambda turn: ticks(turn, "*list"), unit="us")
+        yield Load(name, (1_024, 1, runs, 0), 1, ticks, unit="us")
+        yield Load(f"{name}, listed", (1_024, 1, runs, 0), 1, lambda turn: ticks(turn, "*list"), unit="us")
     # sixteen DAGs of 64,536 runs, each of which gets a thousand more
-    many = (16, 1, 64_536)
+    many = (16, 1, 64_536, 0)
     yield Load("trigger a run", many, 100, lambda turn: [f"names {64_536 + turn // 16 * 100} 1 1000000000 100", f"*trigger {turn % 16} {64_536 + turn // 16 * 100}"], 160)
     yield Load("look a run up", many, 1_000, lambda turn: [f"names {turn * 131 % 64_536} 7919 64536 1000", f"*find {turn % 16}"])
     yield Load("a page of 100 runs of a DAG", many, 100, lambda turn: [f"*pages {turn % 16} {turn * 6_151} 7919 100"])
     queued = lambda turn, line: [f"tick {START + (turn + 1) * DAY} 1", f"*{line}", "digest", "end"]
-    yield Load("a claim, 10,000 queued", (1_000, 10, 0), 100, lambda turn: queued(turn, f"claim {NOON} 100"), unit="us")
-    yield Load("1,024 claims and reports", (1_024, 1, 100), 1, lambda turn: queued(turn, f"work {NOON} 1024"), unit="us")
-    behind = (1_024, 1, 100)
+    for heavier, name in ((0, "a claim, 10,000 queued"), (1, "a claim, 10,000 lighter ones queued")):
+        yield Load(name, (1_000, 10, 0, heavier), 100, lambda turn: queued(turn, f"claim {NOON} 100"), unit="us")
+    yield Load("1,024 claims and reports", (1_024, 1, 100, 0), 1, lambda turn: queued(turn, f"work {NOON} 1024"), unit="us")
+    behind = (1_024, 1, 100, 0)
     yield Load("a tick, 16 points due of 1,024 DAGs", behind, 1, lambda turn: [f"*tick {FAR} 1", "digest", "end"], 100, unit="us")
     yield Load("a tick, 16 points due of 1,024 DAGs, listed", behind, 1, lambda turn: ["*list", f"*tick {FAR} 1", "digest", "end"], 100, unit="us")
     yield Load("the next such tick, listed", behind, 1, lambda turn: ["list", f"tick {FAR} 1", "*list", f"*tick {FAR} 1", "digest", "end"], 50, unit="us")
