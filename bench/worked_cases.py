@@ -1,7 +1,7 @@
 """Connections over examples/base.json whose answers were worked out by hand, for oracle_test.py and differential.py: operations on the state.
 
 A connection is its title, what the program has to have, the moment, members that the configuration has in place of its own, and the steps
-(worked_rows.exchanges). Those of event logs, roles and users stand in worked_policies.py.
+(worked_rows.exchanges). Those of event logs stand in worked_logs.py, those of roles and users in worked_policies.py and worked_faults.py.
 """
 from worked_rows import ENDED, MIDNIGHT, NOW, T1, dag_row, instance_row, listed, pool_row, run_row, variable_row
 

@@ -1,4 +1,5 @@
 """Texts for the connections that were worked out by hand: requests, rows as they are told, and whole answers."""
+import hashlib
 import json
 
 TOKENS = {"adam": "admin", "zoe": "password", "vera": "test", "bob": "foo", "pat": "bar", "edna": "hello", "uma": "abc", "ron": "secret"}
@@ -127,3 +128,23 @@ OP = USER + (
     ",Audit Logs.can_read"
 )
 ADMIN = OP + ",Roles.can_create,Roles.can_read,Roles.can_edit,Roles.can_delete,Users.can_create,Users.can_read,Users.can_edit,Users.can_delete"
+
+
+def digest(name):
+    return hashlib.sha256(TOKENS[name].encode()).hexdigest()
+
+
+def new_role(name, permissions):
+    return f'{{"name":"{name}","actions":{pairs_text(permissions)}}}'
+
+
+def new_user(name, roles, token):
+    return f'{{"username":"{name}","roles":{names_text(*roles)},"token_sha256":"{digest(token)}"}}'
+
+
+def roles_alone(*roles):
+    return f'{{"roles":{names_text(*roles)}}}'
+
+
+def synced(version, dag="b"):
+    return f'{{"dag_id":"{dag}","policy_version":{version}}}'
