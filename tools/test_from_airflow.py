@@ -1,91 +1,28 @@
 #!/usr/bin/env python3
-"""Tests of from_airflow.py on samples in Airflow's own formats (examples/airflow/), and on bad ones.
+"""Tests of from_airflow.py on samples in Airflow's own formats (examples/airflow/).
 
     python3 tools/test_from_airflow.py
 
 The last tests hand what is written to the program; they need it built, in crates/afplane/out/afplane or where the
-variable AFPLANE_PROGRAM says, and are skipped where it is not.
+variable AFPLANE_PROGRAM says, and are skipped where it is not. Bad samples are test_airflow_refusals.py's.
 """
-import contextlib
 import hashlib
-import io
 import json
-import os
-import pathlib
-import stat
 import subprocess
 import sys
-import tempfile
 import unittest
 
 sys.dont_write_bytecode = True
-import from_airflow  # noqa: E402
-
-TOOL = pathlib.Path(__file__).resolve().with_name("from_airflow.py")
-TOP = TOOL.parents[1]
-SAMPLES = TOP / "examples" / "airflow"
-README = (SAMPLES / "README.md").read_text(encoding="utf-8")
-PROGRAM = pathlib.Path(os.environ.get("AFPLANE_PROGRAM", TOP / "crates/afplane/out/afplane"))
-ADMIN = {"username": "root", "roles": ["Admin"]}
-
-
-def flat(name, resource, action):
-    return {"name": name, "resource": resource, "action": action}
-
-
-def granted(config, name):
-    """The permissions of a role of a configuration, as texts, in their order."""
-    (role,) = (it for it in config["roles"] if it["name"] == name)
-    return [f"{it['resource']['name']}.{it['action']['name']}" for it in role["actions"]]
-
-
-class Case(unittest.TestCase):
-    def setUp(self):
-        kept = tempfile.TemporaryDirectory()
-        self.addCleanup(kept.cleanup)
-        self.folder = pathlib.Path(kept.name)
-        self.config = self.folder / "afplane.json"
-
-    def file(self, name, value):
-        """A file of this text, of these bytes, or of this value as JSON."""
-        path = self.folder / name
-        text = value if isinstance(value, (str, bytes)) else json.dumps(value)
-        path.write_bytes(text if isinstance(text, bytes) else text.encode())
-        return str(path)
-
-    def call(self, *words):
-        """The status, and what standard output and standard error have."""
-        out, err = io.StringIO(), io.StringIO()
-        with contextlib.redirect_stdout(out), contextlib.redirect_stderr(err):
-            try:
-                status = from_airflow.main([str(it) for it in words])
-            except SystemExit as ended:
-                status = ended.code
-        return status, out.getvalue(), err.getvalue()
-
-    def convert(self, *words, **files):
-        """The configuration from these files, the tokens by name, and what is told."""
-        given = [it for name, value in files.items() for it in (f"--{name}", self.file(name, value))]
-        status, out, err = self.call(*given, *words, self.config)
-        self.assertEqual(status, 0, err)
-        tokens = dict(line.split("\t") for line in out.splitlines())
-        return json.loads(self.config.read_text()), tokens, err
-
-    def refused(self, *words, **files):
-        """What is told where nothing is written."""
-        given = [it for name, value in files.items() for it in (f"--{name}", self.file(name, value))]
-        status, out, err = self.call(*given, *words, self.config)
-        self.assertEqual((status, out), (1, ""), err)
-        self.assertEqual([it.name for it in self.folder.iterdir() if it.name.startswith("afplane")], [])
-        return err
+import airflow_places  # noqa: E402
+from airflow_case import ADMIN, PROGRAM, README, SAMPLES, Case, flat, granted  # noqa: E402
 
 
 class Samples(Case):
     def read(self, *words, **names):
         return self.convert(*words, **{kind: (SAMPLES / name).read_bytes() for kind, name in names.items()})
 
-    def test_all_three(self):
-        config, tokens, err = self.read(roles="roles.json", users="users.json", dags="dags.json")
+    def test_roles(self):
+        config, _, _ = self.read(roles="roles.json", users="users.json", dags="dags.json")
         self.assertEqual([it["name"] for it in config["roles"]], ["Auditor", "Data Engineer", "Newcomer", "Sales Analyst"])
         self.assertEqual(granted(config, "Auditor"), ["Audit Logs.can_read"])
         self.assertEqual(granted(config, "Newcomer"), [])
@@ -97,6 +34,9 @@ class Samples(Case):
             ],
         )
         self.assertIn("DAGs.can_edit", granted(config, "Data Engineer"))
+
+    def test_users_and_dags(self):
+        config, tokens, _ = self.read(roles="roles.json", users="users.json", dags="dags.json")
         users = {it["username"]: [role["name"] for role in it["roles"]] for it in config["users"]}
         self.assertEqual(
             users,
@@ -116,6 +56,9 @@ class Samples(Case):
         digests = {it["username"]: it["token_sha256"] for it in config["users"]}
         self.assertEqual(digests, {name: hashlib.sha256(it.encode()).hexdigest() for name, it in tokens.items()})
         self.assertTrue(all(len(it) >= 43 for it in tokens.values()))
+
+    def test_what_is_told(self):
+        _, _, err = self.read(roles="roles.json", users="users.json", dags="dags.json")
         for line in (
             "role 'Data Engineer': no place for DAGs.menu_access, Browse.menu_access, Website.can_read: there are no web pages",
             "role 'Retired Role' of user 'audrey': left out: no such role is written",
@@ -184,10 +127,10 @@ class Formats(Case):
                 self.assertIn(f"role 'R': no place for {resource}.{action}: {reason}", err)
 
     def test_each_permission_with_a_place(self):
-        roles = [flat("R", it, ",".join(from_airflow.ACTIONS)) for it in reversed(from_airflow.RESOURCES)]
+        roles = [flat("R", it, ",".join(airflow_places.ACTIONS)) for it in reversed(airflow_places.RESOURCES)]
         roles += [flat("R", "DAG:b", "can_delete, can_edit,can_read"), flat("R", "DAG:a", "can_read")]
         config, _, err = self.convert(roles=roles, users=[ADMIN])
-        wanted = [f"{it}.{action}" for it in from_airflow.RESOURCES for action in from_airflow.ACTIONS]
+        wanted = [f"{it}.{action}" for it in airflow_places.RESOURCES for action in airflow_places.ACTIONS]
         wanted += ["DAG:a.can_read", "DAG:b.can_read", "DAG:b.can_edit", "DAG:b.can_delete"]
         self.assertEqual(granted(config, "R"), wanted)
         self.assertNotIn("no place", err)
@@ -233,122 +176,6 @@ class Formats(Case):
     def test_what_is_told_can_be_printed(self):
         _, _, err = self.convert(roles=[flat("R\x1b[2J", "X\n\x07", "can_read"), flat("S", "X\n\x07", "can_read")], users=[ADMIN])
         self.assertTrue(all(it.isprintable() for it in err.splitlines()), err)
-
-
-class Refusals(Case):
-    def test_what_is_no_export(self):
-        rows = [
-            ("roles", b"", "is no JSON"),
-            ("roles", "name  | resource\n======\n", "ask Airflow for JSON"),
-            ("users", "[" * 100_000, "nested too deep"),
-            ("users", b'[{"username": "\xff"}]', "is no UTF-8 at byte 15"),
-            ("roles", {"name": "R"}, "is no list of roles"),
-            ("roles", [5], "row 1 has no text 'name'"),
-            ("roles", [flat("R", "DAGs", "can_read"), {"name": "R", "resource": "DAGs"}], "row 2 has no text 'action'"),
-            ("roles", [{"name": "R", "actions": ["can_read"]}], "row 1 has no text 'name'"),
-            ("roles", [{"name": "R", "actions": 5}], "row 1 has no text 'resource'"),
-            ("users", [{"roles": []}], "row 1 has no text 'username'"),
-            ("users", [{"username": "a", "roles": "Admin"}], "row 1 has no list 'roles'"),
-            ("users", [{"username": "a", "roles": [5]}], "row 1 has no text 'name'"),
-            ("users", [ADMIN, ADMIN], "row 2: the user 'root' is there twice"),
-            ("dags", [{"paused": "True"}], "row 1 has no text 'dag_id'"),
-            ("dags", [{"dag_id": "a", "paused": "maybe"}], "neither paused nor not"),
-            ("dags", [{"dag_id": "a", "paused": 1}], "neither paused nor not"),
-            ("dags", [{"dag_id": "a"}, {"dag_id": "a"}], "row 2: the DAG 'a' is there twice"),
-        ]
-        for kind, value, reason in rows:
-            with self.subTest(kind=kind, reason=reason):
-                self.assertIn(reason, self.refused("--admin", "new", **{kind: value}))
-
-    def test_no_administrator(self):
-        self.assertIn("--admin NAME gives it", self.refused(users=[{"username": "u", "roles": ["Viewer"]}]))
-        self.assertIn("--admin NAME gives it", self.refused(users=[{"username": "ü", "roles": ["Admin"]}]))
-        self.assertIn("--admin NAME gives it", self.refused(dags=[]))
-
-    def test_numbers_of_rows(self):
-        roles = [flat(f"r{n}", "DAGs", "can_read") for n in range(4092)]
-        users = [{"username": f"u{n}", "roles": ["Admin"]} for n in range(65537)]
-        dags = [{"dag_id": f"d{n}", "paused": "True"} for n in range(1025)]
-        self.assertIn("4092 roles are too many: at most 4091", self.refused(roles=roles, users=[ADMIN]))
-        self.assertIn("65537 users are too many", self.refused(users=users))
-        self.assertIn("1025 DAGs are too many", self.refused(users=[ADMIN], dags=dags))
-        config, _, _ = self.convert(roles=roles[1:], users=users[1:], dags=dags[1:])
-        self.assertEqual([len(config[it]) for it in ("roles", "users", "dags")], [4091, 65536, 1024])
-
-    def test_length(self):
-        roles = [flat(f"r{n}", f"DAG:{pair:0250}", "can_read") for n in range(60) for pair in range(1000)]
-        self.assertIn("bytes, and at most 16777216 are read", self.refused(roles=roles, users=[ADMIN]))
-
-    def test_strict(self):
-        self.assertIn("1 left out", self.refused("--strict", users=[ADMIN, {"username": "ü", "roles": []}]))
-        config, _, _ = self.convert("--strict", users=[ADMIN], roles=[flat("R", "Website", "can_read")])
-        self.assertEqual(config["roles"], [{"name": "R", "actions": []}])
-
-    def test_files(self):
-        status, _, err = self.call("--users", self.folder / "nosuch", self.config)
-        self.assertEqual(status, 1)
-        self.assertIn("nosuch: can not be read: No such file", err)
-        self.config.write_text("kept")
-        status, out, err = self.call("--users", self.file("users", [ADMIN]), self.config)
-        self.assertEqual((status, out, self.config.read_text()), (1, "", "kept"))
-        self.assertIn("is there already; --force replaces it", err)
-        status, out, err = self.call("--users", self.file("users", [ADMIN]), self.folder / "nosuch" / "afplane.json")
-        self.assertEqual((status, out), (1, ""))
-        self.assertIn("can not be written", err)
-
-    def test_usage(self):
-        users = self.file("users", [ADMIN])
-        rows = [
-            [],
-            [self.config],
-            ["--users", users],
-            ["--nosuch", self.config],
-            ["--users", "-", "--roles", "-", self.config],
-            ["--users", users, "--admin", "ü", self.config],
-            ["--users", users, "--tokens", self.config, self.config],
-        ]
-        for words in rows:
-            with self.subTest(words=words):
-                status, out, err = self.call(*words)
-                self.assertEqual((status, out), (2, ""))
-                self.assertTrue(err.startswith("usage: from_airflow.py"), err)
-        status, out, err = self.call("--help")
-        self.assertEqual((status, err), (0, ""))
-        self.assertIn("airflow roles export roles.json", out)
-
-
-class Tokens(Case):
-    def test_a_file_for_its_owner_alone(self):
-        tokens = self.folder / "tokens"
-        with contextlib.ExitStack() as kept:
-            kept.callback(os.umask, os.umask(0))
-            _, out, err = self.convert("--tokens", tokens, users=[ADMIN])
-        self.assertEqual(out, {})
-        self.assertEqual(stat.S_IMODE(tokens.stat().st_mode), 0o600)
-        (name, token), = (line.split("\t") for line in tokens.read_text().splitlines())
-        self.assertEqual(name, "root")
-        self.assertNotIn(token, self.config.read_text() + err)
-        status, _, err = self.call("--users", self.file("users", [ADMIN]), "--tokens", tokens, self.folder / "other")
-        self.assertEqual(status, 1)
-        self.assertIn("tokens: is there already", err)
-        os.chmod(tokens, 0o644)
-        self.convert("--force", "--tokens", tokens, users=[ADMIN])
-        self.assertEqual(stat.S_IMODE(tokens.stat().st_mode), 0o600)
-
-    def test_a_closed_output_leaves_no_configuration(self):
-        for ending in (">/dev/full", ">&-"):
-            with self.subTest(ending=ending):
-                words = ["--users", self.file("users", [ADMIN]), str(self.config)]
-                ran = subprocess.run(["sh", "-c", f'"$@" {ending}', "sh", sys.executable, str(TOOL), *words], capture_output=True)
-                self.assertEqual(ran.returncode, 1, ran.stderr)
-                self.assertEqual([*self.folder.glob("afplane*")], [])
-                self.assertNotIn(b"Traceback", ran.stderr)
-
-    def test_standard_input(self):
-        words = [sys.executable, str(TOOL), "--users", "-", str(self.config)]
-        ran = subprocess.run(words, input=json.dumps([ADMIN]).encode(), capture_output=True)
-        self.assertEqual(ran.returncode, 0, ran.stderr)
-        self.assertEqual(json.loads(self.config.read_text())["users"][0]["username"], "root")
 
 
 @unittest.skipUnless(PROGRAM.exists(), f"{PROGRAM} is not built")
