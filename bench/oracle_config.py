@@ -4,7 +4,8 @@ import re
 from oracle_json import read_json
 from oracle_names import PRESETS, instant_of, is_dag_id, is_label, is_pool_name, is_task_id, is_variable_key, point_from
 from oracle_policy import ACTIONS, DEFAULT_ROLES, MOST_ROLES, MOST_USERS, Fault, Policy, User, is_allowed, sync_dag
-from oracle_state import MOST_POOLS, MOST_VARIABLES, Dag, State, Task
+from oracle_rows import MOST_POOLS, MOST_VARIABLES
+from oracle_state import Dag, State, Task
 
 MOST_DAGS, MOST_RUNS = 1024, 1000
 MOST_SLOTS, MOST_TASKS, MOST_SECONDS, MOST_RETRIES = 1_000_000, 512, 31_536_000, 1000

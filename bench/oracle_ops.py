@@ -6,6 +6,7 @@ the policy after it, or none where it only reads, and to its answer under a vers
 from dataclasses import dataclass
 
 import oracle_policy as policies
+import oracle_rows
 import oracle_state as states
 from oracle_names import isoformat
 
@@ -109,47 +110,47 @@ def clear_instances(call):
 
 
 def list_pools(call):
-    return call.state, call.page("pools", sorted(call.state.pools), lambda it: states.show_pool(call.state, it))
+    return call.state, call.page("pools", sorted(call.state.pools), lambda it: oracle_rows.show_pool(call.state, it))
 
 
 def add_pool(call):
-    state = states.add_pool(call.state, *call.input)
-    return state, states.show_pool(state, call.input[0])
+    state = oracle_rows.add_pool(call.state, *call.input)
+    return state, oracle_rows.show_pool(state, call.input[0])
 
 
 def show_pool(call):
-    return call.state, states.show_pool(call.state, *call.names)
+    return call.state, oracle_rows.show_pool(call.state, *call.names)
 
 
 def set_pool(call):
-    state = states.set_pool(call.state, *call.names, call.input)
-    return state, states.show_pool(state, *call.names)
+    state = oracle_rows.set_pool(call.state, *call.names, call.input)
+    return state, oracle_rows.show_pool(state, *call.names)
 
 
 def delete_pool(call):
-    return states.delete_pool(call.state, *call.names), None
+    return oracle_rows.delete_pool(call.state, *call.names), None
 
 
 def list_variables(call):
-    return call.state, call.page("variables", sorted(call.state.variables), lambda it: states.show_variable(call.state, it))
+    return call.state, call.page("variables", sorted(call.state.variables), lambda it: oracle_rows.show_variable(call.state, it))
 
 
 def add_variable(call):
-    state = states.add_variable(call.state, *call.input)
-    return state, states.show_variable(state, call.input[0])
+    state = oracle_rows.add_variable(call.state, *call.input)
+    return state, oracle_rows.show_variable(state, call.input[0])
 
 
 def show_variable(call):
-    return call.state, states.show_variable(call.state, *call.names)
+    return call.state, oracle_rows.show_variable(call.state, *call.names)
 
 
 def set_variable(call):
-    state = states.set_variable(call.state, *call.names, call.input)
-    return state, states.show_variable(state, *call.names)
+    state = oracle_rows.set_variable(call.state, *call.names, call.input)
+    return state, oracle_rows.show_variable(state, *call.names)
 
 
 def delete_variable(call):
-    return states.delete_variable(call.state, *call.names), None
+    return oracle_rows.delete_variable(call.state, *call.names), None
 
 
 def list_entries(call):

@@ -3,7 +3,8 @@ from dataclasses import replace
 
 from oracle_names import LAST, MICROS, isoformat, point_after
 from oracle_policy import Fault
-from oracle_state import FINISHED, MOST_RUNS, new_run, runs_of, slots_in, with_dag, with_run
+from oracle_rows import slots_in
+from oracle_state import FINISHED, MOST_RUNS, new_run, runs_of, with_dag, with_run
 
 MOST_AT_ONCE, MOST_TRIES = 16, 2**32 - 1
 

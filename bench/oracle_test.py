@@ -9,6 +9,7 @@ import unittest
 
 import oracle
 import oracle_names as names
+import oracle_rows
 import oracle_state
 import worked_cases
 import worked_policies
@@ -216,8 +217,8 @@ class Ticks(unittest.TestCase):
         state, _ = oracle_state.trigger(state, "d", "r", now)
         state = tick(state, now)
         self.assertEqual([it.state for it in state.runs[0].instances], ["scheduled", "queued", "queued", "scheduled"])
-        state = oracle_state.set_pool(state, "p", 1)
-        shown = oracle_state.show_pool(state, "p")
+        state = oracle_rows.set_pool(state, "p", 1)
+        shown = oracle_rows.show_pool(state, "p")
         self.assertEqual((shown["occupied_slots"], shown["open_slots"]), (2, 0))
         for name, then in (("y", ["scheduled", "success", "queued", "scheduled"]), ("z", ["scheduled", "success", "success", "queued"])):
             state, claimed = claim(state, now)

@@ -10,6 +10,7 @@ import os
 import sys
 
 import oracle_bodies as bodies
+import oracle_rows
 import oracle_sched
 import oracle_state as states
 from oracle_config import read_config
@@ -172,9 +173,9 @@ def rows_of(state, path):
     if path == "/api/v1/dags/~/dagRuns":
         return [states.show_run(it) for it in state.runs]
     if path == "/api/v1/pools":
-        return [states.show_pool(state, it) for it in sorted(state.pools)]
+        return [oracle_rows.show_pool(state, it) for it in sorted(state.pools)]
     if path == "/api/v1/variables":
-        return [states.show_variable(state, it) for it in sorted(state.variables)]
+        return [oracle_rows.show_variable(state, it) for it in sorted(state.variables)]
     run = next((it for it in state.runs if instances_target(it) == path), None)
     if run is None:
         raise Differs(f"{path}: the replay has no such run")
