@@ -242,12 +242,24 @@ def fixed_configs():
     """Configurations at the limits, tried once each: all are read with the token `test`."""
     users = [user_row("root", b"test", "Admin")]
     base = {"users": users, "dags": [{"dag_id": "a", "tasks": [{"task_id": "t"}]}]}
+    yield from fixed_texts(base)
+    yield from fixed_lists(base, users)
+    yield from fixed_dags(base)
+
+
+def fixed_texts(base):
+    """JSON at its limits."""
     yield from (b"", b" ", b"null", b"[]", b"3", b"{}", b'{"users":[]}', b"{", b"\xef\xbb\xbf{}")
     text = json.dumps(base)
     values = ["[" * n + "]" * n for n in (126, 127, 128, 5000)]
     values += ['"\\ud800"', '"\\udc00\\ud800"', '"\\ud83d\\ude00"', '"\\u12g4"', '"\\x"', '"\t"', '"\x7f"', '"\u2028"', "NaN", "-Infinity", "nul"]
     values += ["1e308", "1e309", "-1e309", "9" * 308, "9" * 309, "9" * 400, "01", "1.", ".5", "-", "+1", "1e", "0x1", "-0", "'a'", '{"\\udfff":1}', "[1,]", '{"a":1,}', "{a:1}"]
     yield from (text.replace("{", '{"other":' + it + ",", 1).encode("utf-8", "surrogatepass") for it in values)
+
+
+def fixed_lists(base, users):
+    """Numbers and lists at their limits, and faults that meet."""
+    text = json.dumps(base)
     runs = ["1", "1000", "0", "1001", "-1", "1.0", "1e2", "-0", "18446744073709551615", "18446744073709551616", "9223372036854775808", "true", '"1"', "null"]
     yield from (text.replace('"a"', f'"a","max_active_runs":{it}').encode() for it in runs)
     yield from (json.dumps({**base, "dags": [{"dag_id": f"d{i}", "tasks": [{"task_id": "t"}]} for i in range(n)]}).encode() for n in (99, 100, 101, 1024, 1025))
@@ -269,6 +281,10 @@ def fixed_configs():
             yield json.dumps({one: faults[one], other: faults[other], "users": users, **({} if "dags" in (one, other) else {"dags": base["dags"]})}).encode()
     numbers = ["0", "1", "-1", "1.0", "1e2", "-0", "4294967294", "4294967295", "4294967296", "9223372036854775808", "18446744073709551615", "18446744073709551616", "true", '"1"', "[]", "null"]
     yield from (text.replace("{", f'{{"{name}":{it},', 1).encode() for name in ("history_limit", "version_limit") for it in numbers)
+
+
+def fixed_dags(base):
+    """Schedules and graphs."""
     for start in STARTS:
         yield from (json.dumps({**base, "dags": [{**base["dags"][0], "schedule": it, "start_date": start}]}).encode() for it in SCHEDULES)
     cycle = [{"task_id": "x", "upstream": ["y"]}, {"task_id": "y", "upstream": ["x"]}]

@@ -222,7 +222,7 @@ def answer_as_baseline():
     oracle.USAGE = "usage: baseline once CONFIG NOW"
 
 
-def main():
+def arguments():
     options = argparse.ArgumentParser(description=__doc__, formatter_class=argparse.RawDescriptionHelpFormatter)
     options.add_argument("--program", default=None, metavar="COMMAND", help="in place of the built program")
     options.add_argument("--cases", type=int, default=2000, help="random cases (0 to 10,000,000)")
@@ -233,20 +233,26 @@ def main():
     options.add_argument("--random-only", action="store_true", help="without the examples and the limits")
     args = options.parse_args()
     args.has = args.has or having("baseline" if args.baseline else "landed")
-    program = shlex.split(args.program) if args.program else [PROGRAM]
-    if args.baseline:
-        bench.build_baseline()
-        answer_as_baseline()
-        program = [bench.BASELINE]
-    elif not args.program and not args.write and not os.path.exists(PROGRAM):
-        sys.exit("differential.py: the program isn't built: run ./afplane once, or name one by --program")
     if args.write and os.path.exists(args.write):
         sys.exit(f"differential.py: {args.write} is there already; --write makes a new folder")
     if not 0 <= args.cases <= 10_000_000:
         sys.exit("differential.py: --cases is 0 to 10,000,000")
-    module = None if args.baseline or args.write else openapi()
-    described = Described(module) if module else None
-    rng, it = random.Random(args.seed), Files(os.path.abspath(args.write), args.has) if args.write else Comparison(program, args.has, described)
+    return args
+
+
+def program_of(args):
+    """The words by which the program is called that is compared."""
+    if args.baseline:
+        bench.build_baseline()
+        answer_as_baseline()
+        return [bench.BASELINE]
+    if not args.program and not os.path.exists(PROGRAM):
+        sys.exit("differential.py: the program isn't built: run ./afplane once, or name one by --program")
+    return shlex.split(args.program) if args.program else [PROGRAM]
+
+
+def play(args, it):
+    """All cases, one after another."""
     with tempfile.TemporaryDirectory(prefix="afplane-cases-") as folder:
         config = os.path.join(folder, "config.json")
 
@@ -259,18 +265,27 @@ def main():
             fixed_cases(it, folder, write)
         before = it.passed + it.failed
         print(f"{before} fixed cases, {it.failed} failed", file=sys.stderr)
-        cases = Random(rng, it, write, args.seed)
+        cases = Random(random.Random(args.seed), it, write, args.seed)
         for n in range(args.cases):
             cases.case(n)
+
+
+def main():
+    args = arguments()
+    if args.write:
+        it = Files(os.path.abspath(args.write), args.has)
+    else:
+        program, module = program_of(args), None if args.baseline else openapi()
+        it = Comparison(program, args.has, Described(module) if module else None)
+    play(args, it)
     told = ", ".join(f"{count} of {status.decode()}" for status, count in sorted(it.answers.items()))
     print(f"{sum(it.answers.values())} answers: {told}", file=sys.stderr)
-    if described:
-        print(f"{described.answers} answers held against docs/openapi.json", file=sys.stderr)
-    if not args.write:
-        print(f"{it.replayed} connections replayed", file=sys.stderr)
     if args.write:
         print(it.command())
         sys.exit()
+    if it.described:
+        print(f"{it.described.answers} answers held against docs/openapi.json", file=sys.stderr)
+    print(f"{it.replayed} connections replayed", file=sys.stderr)
     print(f"{it.passed} passed, {it.failed} failed")
     sys.exit(1 if it.failed else 0)
 

@@ -38,32 +38,34 @@ class Operation:
     on_policy: bool = False  # whether it is of the policy, and not of the state
 
 
+def row(name, request, needs, act, body=None, event=None, **more):
+    method, path = request.split(" ")
+    return Operation(name, method, path.split("/")[1:], needs, act, body, event, **more)
+
+
+def rows_of(one, many, path, part, resource, body, new_body):
+    """The five operations on rows of one kind, which the state holds."""
+    of, one_path = getattr, f"{path}/{part}"
+    yield row(f"list_{many}", f"GET {path}", [(READ, resource)], of(ops, f"list_{many}"), is_listing=True)
+    yield row(f"add_{one}", f"POST {path}", [(CREATE, resource)], of(ops, f"add_{one}"), new_body, f"post_{one}")
+    yield row(f"show_{one}", f"GET {one_path}", [(READ, resource)], of(ops, f"show_{one}"))
+    yield row(f"set_{one}", f"PATCH {one_path}", [(EDIT, resource)], of(ops, f"set_{one}"), body, f"patch_{one}")
+    yield row(f"delete_{one}", f"DELETE {one_path}", [(DELETE, resource)], of(ops, f"delete_{one}"), None, f"delete_{one}")
+
+
+def policy_rows(one, many, path, part, resource, body, new_body):
+    """The five operations on rows of one kind, which the policy holds."""
+    of, one_path = getattr, f"{path}/{part}"
+    yield row(f"list_{many}", f"GET {path}", [(READ, resource)], of(ops, f"list_{many}"), is_listing=True, on_policy=True)
+    yield row(f"add_{one}", f"POST {path}", [(CREATE, resource)], of(ops, f"add_{one}"), new_body, on_policy=True)
+    yield row(f"show_{one}", f"GET {one_path}", [(READ, resource)], of(ops, f"show_{one}"), on_policy=True)
+    yield row(f"set_{one}", f"PATCH {one_path}", [(EDIT, resource)], of(ops, f"set_{one}"), body, on_policy=True)
+    yield row(f"drop_{one}", f"DELETE {one_path}", [(DELETE, resource)], of(ops, f"drop_{one}"), on_policy=True)
+
+
 def table():
     dag, runs = "/api/v1/dags/{dag_id}", "/api/v1/dags/{dag_id}/dagRuns"
     run = runs + "/{dag_run_id}"
-
-    def row(name, request, needs, act, body=None, event=None, **more):
-        method, path = request.split(" ")
-        return Operation(name, method, path.split("/")[1:], needs, act, body, event, **more)
-
-    def rows_of(one, many, path, part, resource, body, new_body):
-        """The five operations on rows of one kind, which the state holds."""
-        of, one_path = getattr, f"{path}/{part}"
-        yield row(f"list_{many}", f"GET {path}", [(READ, resource)], of(ops, f"list_{many}"), is_listing=True)
-        yield row(f"add_{one}", f"POST {path}", [(CREATE, resource)], of(ops, f"add_{one}"), new_body, f"post_{one}")
-        yield row(f"show_{one}", f"GET {one_path}", [(READ, resource)], of(ops, f"show_{one}"))
-        yield row(f"set_{one}", f"PATCH {one_path}", [(EDIT, resource)], of(ops, f"set_{one}"), body, f"patch_{one}")
-        yield row(f"delete_{one}", f"DELETE {one_path}", [(DELETE, resource)], of(ops, f"delete_{one}"), None, f"delete_{one}")
-
-    def policy_rows(one, many, path, part, resource, body, new_body):
-        """The five operations on rows of one kind, which the policy holds."""
-        of, one_path = getattr, f"{path}/{part}"
-        yield row(f"list_{many}", f"GET {path}", [(READ, resource)], of(ops, f"list_{many}"), is_listing=True, on_policy=True)
-        yield row(f"add_{one}", f"POST {path}", [(CREATE, resource)], of(ops, f"add_{one}"), new_body, on_policy=True)
-        yield row(f"show_{one}", f"GET {one_path}", [(READ, resource)], of(ops, f"show_{one}"), on_policy=True)
-        yield row(f"set_{one}", f"PATCH {one_path}", [(EDIT, resource)], of(ops, f"set_{one}"), body, on_policy=True)
-        yield row(f"drop_{one}", f"DELETE {one_path}", [(DELETE, resource)], of(ops, f"drop_{one}"), on_policy=True)
-
     return [
         row("list_dags", "GET /api/v1/dags", [READ_DAG], ops.list_dags, is_listing=True),
         row("show_dag", f"GET {dag}", [READ_DAG], ops.show_dag),

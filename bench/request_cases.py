@@ -129,7 +129,13 @@ def sized(size, ends=b"\r\n"):
 
 def fixed_inputs(token):
     """Inputs at the limits, tried once each."""
-    listing = list_request(token)
+    yield from fixed_lengths(list_request(token))
+    yield from fixed_heads(token, list_request(token))
+    yield from fixed_bodies(token, list_request(token))
+
+
+def fixed_lengths(listing):
+    """Input that is cut, many requests, long heads."""
     yield from (PLAIN[:n] for n in range(len(PLAIN) + 1))
     yield PLAIN + PLAIN
     yield from (listing * n + b"rest" for n in (999, 1000, 1001))
@@ -142,6 +148,10 @@ def fixed_inputs(token):
         yield head(b"GET /api/v1/version HTTP/1.1", [b"Host: h", *lines]) + PLAIN
         yield head(b"GET /api/v1/version HTTP/1.1", [b"Host: h", *lines])[:-2]
         yield head(b"HEAD /api/v1/version HTTP/1.1", lines) + PLAIN
+
+
+def fixed_heads(token, listing):
+    """Field lines, targets, methods and versions, one after another."""
     for line in [*BAD_LINES, *BODY_LINES, *EXTRAS]:
         yield list_request(token, [line]) + PLAIN
         yield listing.replace(b"GET", b"HEAD", 1).replace(b"\r\n\r\n", b"\r\n" + line + b"\r\n\r\n") + PLAIN
@@ -156,6 +166,10 @@ def fixed_inputs(token):
         yield list_request(token, [b"Connection: " + value]) + PLAIN
         yield list_request(token, [b"Connection: a", b"connection: " + value]) + PLAIN
     yield b"".join(listing.replace(b"Bearer ", it) for it in SCHEMES)
+
+
+def fixed_bodies(token, listing):
+    """A change and a look at what stands, with bodies of all kinds and lengths."""
     pause = with_body(b"PATCH /api/v1/dags/b HTTP/1.1", b"abc", BODIES[0])
     shown = head(b"GET /api/v1/dags/b HTTP/1.1", [b"Host: h", b"Authorization: Bearer abc"])
     yield from ((pause + shown)[:n] for n in range(len(pause + shown) + 1))
