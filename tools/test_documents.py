@@ -79,7 +79,7 @@ class Documents(unittest.TestCase):
             self.assertEqual(definitions.count(it), 1, it)
 
     def test_each_crate_has_a_row(self):
-        crates = [it.name for it in sorted(CRATES.iterdir()) if (it / "src").is_dir() and not it.name.endswith("_tests") and it.name != "afplane"]
+        crates = [it.name for it in sorted(CRATES.iterdir()) if (it / "src").is_dir() and not it.name.endswith(("_tests", "_bench")) and it.name != "afplane"]
         rows = re.findall(r"(?m)^\| (af_\w+) \|", text_of(TOP / "README.md"))
         self.assertEqual(sorted(rows), crates)
         rows = re.findall(r"(?m)^\| `(af\w+)` \|", text_of(TOP / "docs/ARCHITECTURE.md"))

@@ -30,14 +30,7 @@ pub fn decide(plane: &mut Plane, bearer: &Bearer<'_>, asked: &Asked<'_>, out: &m
     match op {
         // It needs no user, and is answered before.
         Op::Version => {}
-        Op::Dags => {
-            let window = window(query)?;
-            if bearer.reads_all() {
-                put_listing(out, "dags", window.of(&plane.dags), plane.dags.len(), put_dag);
-            } else {
-                put_shown(out, "dags", plane.dags.iter(), window, |it| bearer.reads(&it.id), put_dag);
-            }
-        }
+        Op::Dags => list_dags(plane, bearer, window(query)?, out),
         Op::Dag(dag) => put_dag(out, find_dag(plane, dag)?),
         Op::PauseDag(dag) => pause(plane, dag, body, author, out)?,
         Op::Tasks(dag) => {
@@ -45,11 +38,7 @@ pub fn decide(plane: &mut Plane, bearer: &Bearer<'_>, asked: &Asked<'_>, out: &m
             put_listing(out, "tasks", 0..dag.tasks.len(), dag.tasks.len(), |out, it| put_task(out, dag, it));
         }
         Op::AllRuns => list_all_runs(plane, bearer, window(query)?, out),
-        Op::Runs(dag) => {
-            let window = window(query)?;
-            let dag = find_dag(plane, dag)?;
-            put_listing(out, "dag_runs", window.of(&dag.runs), dag.runs.len(), |out, &it| put_run(out, plane.run(it), dag));
-        }
+        Op::Runs(dag) => list_runs(plane, dag, window(query)?, out)?,
         Op::Trigger(dag) => trigger(plane, dag, body, author, out)?,
         Op::Run(dag, run) => {
             let (dag, run) = find_run(plane, dag, run)?;
@@ -59,18 +48,8 @@ pub fn decide(plane: &mut Plane, bearer: &Bearer<'_>, asked: &Asked<'_>, out: &m
         Op::DeleteRun(dag, run) => changes::delete(plane, dag, run, author)?,
         Op::ClearRun(dag, run) => changes::clear_run(plane, dag, run, body, author, out)?,
         Op::ClearInstances(dag) => changes::clear_instances(plane, dag, body, author, out)?,
-        Op::Instances(dag, run) => {
-            let window = window(query)?;
-            let (dag, run) = find_run(plane, dag, run)?;
-            let page = window.of(&run.instances).iter().zip(window.of(&dag.tasks));
-            put_listing(out, "task_instances", page, dag.tasks.len(), |out, (it, task)| put_instance(out, it, task, run, dag));
-        }
-        Op::Instance(dag, run, task) => {
-            let (dag, run) = find_run(plane, dag, run)?;
-            let place = dag.tasks.iter().position(|it| *it.id == **task);
-            let place = place.ok_or_else(|| fault(404, format!("no such task: {task}")))?;
-            put_instance(out, &run.instances[place], &dag.tasks[place], run, dag);
-        }
+        Op::Instances(dag, run) => list_instances(plane, dag, run, window(query)?, out)?,
+        Op::Instance(dag, run, task) => show_instance(plane, dag, run, task, out)?,
         Op::Pools => pools::list_pools(plane, window(query)?, out),
         Op::AddPool => pools::add_pool(plane, body, author, out)?,
         Op::Pool(name) => pools::show_pool(plane, name, out)?,
@@ -107,6 +86,35 @@ fn put_shown<T>(
         total += 1;
     }
     close_listing(out, total);
+}
+
+fn list_dags(plane: &Plane, bearer: &Bearer<'_>, window: Window, out: &mut Vec<u8>) {
+    if bearer.reads_all() {
+        put_listing(out, "dags", window.of(&plane.dags), plane.dags.len(), put_dag);
+    } else {
+        put_shown(out, "dags", plane.dags.iter(), window, |it| bearer.reads(&it.id), put_dag);
+    }
+}
+
+fn list_runs(plane: &Plane, dag: &str, window: Window, out: &mut Vec<u8>) -> Result<(), Fault> {
+    let dag = find_dag(plane, dag)?;
+    put_listing(out, "dag_runs", window.of(&dag.runs), dag.runs.len(), |out, &it| put_run(out, plane.run(it), dag));
+    Ok(())
+}
+
+fn list_instances(plane: &Plane, dag: &str, run: &str, window: Window, out: &mut Vec<u8>) -> Result<(), Fault> {
+    let (dag, run) = find_run(plane, dag, run)?;
+    let page = window.of(&run.instances).iter().zip(window.of(&dag.tasks));
+    put_listing(out, "task_instances", page, dag.tasks.len(), |out, (it, task)| put_instance(out, it, task, run, dag));
+    Ok(())
+}
+
+fn show_instance(plane: &Plane, dag: &str, run: &str, task: &str, out: &mut Vec<u8>) -> Result<(), Fault> {
+    let (dag, run) = find_run(plane, dag, run)?;
+    let place = dag.tasks.iter().position(|it| *it.id == *task);
+    let place = place.ok_or_else(|| fault(404, format!("no such task: {task}")))?;
+    put_instance(out, &run.instances[place], &dag.tasks[place], run, dag);
+    Ok(())
 }
 
 fn list_all_runs(plane: &Plane, bearer: &Bearer<'_>, window: Window, out: &mut Vec<u8>) {

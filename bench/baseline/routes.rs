@@ -106,47 +106,7 @@ pub fn route<'a>(method: &[u8], path: &'a [u8]) -> Result<Op<'a>, Unrouted> {
         ([b"dags"], b"GET") => Ok(Op::Dags),
         ([b"eventLogs"], b"GET") => Ok(Op::EventLogs),
         ([b"version" | b"dags" | b"eventLogs"], _) => Err(BadMethod("GET")),
-        ([b"dags", dag], _) => {
-            let dag = named(dag, is_id)?;
-            match method {
-                b"GET" => Ok(Op::Dag(dag)),
-                b"PATCH" => Ok(Op::PauseDag(dag)),
-                _ => Err(BadMethod("GET, PATCH")),
-            }
-        }
-        ([b"dags", dag, b"tasks"], _) => {
-            let dag = named(dag, is_id)?;
-            if method == b"GET" { Ok(Op::Tasks(dag)) } else { Err(BadMethod("GET")) }
-        }
-        ([b"dags", dag, b"dagRuns"], _) => {
-            let dag = decoded(dag)?;
-            match method {
-                b"GET" if dag == "~" => Ok(Op::AllRuns),
-                _ if !is_id(&dag) => Err(NoPath),
-                b"GET" => Ok(Op::Runs(dag)),
-                b"POST" => Ok(Op::Trigger(dag)),
-                _ => Err(BadMethod("GET, POST")),
-            }
-        }
-        ([b"dags", dag, b"dagRuns", run, rest @ ..], _) => {
-            let (dag, run) = (named(dag, is_id)?, named(run, is_run_id)?);
-            let op = match (rest, method) {
-                ([], b"GET") => return Ok(Op::Run(dag, run)),
-                ([], b"PATCH") => return Ok(Op::MarkRun(dag, run)),
-                ([], b"DELETE") => return Ok(Op::DeleteRun(dag, run)),
-                ([], _) => return Err(BadMethod("GET, PATCH, DELETE")),
-                ([b"clear"], b"POST") => return Ok(Op::ClearRun(dag, run)),
-                ([b"clear"], _) => return Err(BadMethod("POST")),
-                ([b"taskInstances"], _) => Op::Instances(dag, run),
-                ([b"taskInstances", task], _) => Op::Instance(dag, run, named(task, is_id)?),
-                _ => return Err(NoPath),
-            };
-            if method == b"GET" { Ok(op) } else { Err(BadMethod("GET")) }
-        }
-        ([b"dags", dag, b"clearTaskInstances"], _) => {
-            let dag = named(dag, is_id)?;
-            if method == b"POST" { Ok(Op::ClearInstances(dag)) } else { Err(BadMethod("POST")) }
-        }
+        ([b"dags", dag, rest @ ..], _) => route_dag(method, dag, rest),
         ([b"pools"], b"GET") => Ok(Op::Pools),
         ([b"pools"], b"POST") => Ok(Op::AddPool),
         ([b"variables"], b"GET") => Ok(Op::Variables),
@@ -161,15 +121,66 @@ pub fn route<'a>(method: &[u8], path: &'a [u8]) -> Result<Op<'a>, Unrouted> {
                 _ => Err(BadMethod("GET, PATCH, DELETE")),
             }
         }
-        ([b"variables", key], _) => {
-            let key = named(key, is_variable_key)?;
+        ([b"variables", key], _) => route_variable(method, named(key, is_variable_key)?),
+        _ => Err(NoPath),
+    }
+}
+
+fn route_variable<'a>(method: &[u8], key: Text<'a>) -> Result<Op<'a>, Unrouted> {
+    match method {
+        b"GET" => Ok(Op::Variable(key)),
+        b"PATCH" => Ok(Op::SetVariable(key)),
+        b"DELETE" => Ok(Op::DeleteVariable(key)),
+        _ => Err(BadMethod("GET, PATCH, DELETE")),
+    }
+}
+
+/// What stands behind `/dags/{dag_id}`.
+fn route_dag<'a>(method: &[u8], dag: &'a [u8], rest: &[&'a [u8]]) -> Result<Op<'a>, Unrouted> {
+    match rest {
+        [] => {
+            let dag = named(dag, is_id)?;
             match method {
-                b"GET" => Ok(Op::Variable(key)),
-                b"PATCH" => Ok(Op::SetVariable(key)),
-                b"DELETE" => Ok(Op::DeleteVariable(key)),
-                _ => Err(BadMethod("GET, PATCH, DELETE")),
+                b"GET" => Ok(Op::Dag(dag)),
+                b"PATCH" => Ok(Op::PauseDag(dag)),
+                _ => Err(BadMethod("GET, PATCH")),
             }
+        }
+        [b"tasks"] => {
+            let dag = named(dag, is_id)?;
+            if method == b"GET" { Ok(Op::Tasks(dag)) } else { Err(BadMethod("GET")) }
+        }
+        [b"dagRuns"] => {
+            let dag = decoded(dag)?;
+            match method {
+                b"GET" if dag == "~" => Ok(Op::AllRuns),
+                _ if !is_id(&dag) => Err(NoPath),
+                b"GET" => Ok(Op::Runs(dag)),
+                b"POST" => Ok(Op::Trigger(dag)),
+                _ => Err(BadMethod("GET, POST")),
+            }
+        }
+        [b"dagRuns", run, rest @ ..] => route_run(method, named(dag, is_id)?, named(run, is_run_id)?, rest),
+        [b"clearTaskInstances"] => {
+            let dag = named(dag, is_id)?;
+            if method == b"POST" { Ok(Op::ClearInstances(dag)) } else { Err(BadMethod("POST")) }
         }
         _ => Err(NoPath),
     }
+}
+
+/// What stands behind `/dagRuns/{dag_run_id}`.
+fn route_run<'a>(method: &[u8], dag: Text<'a>, run: Text<'a>, rest: &[&'a [u8]]) -> Result<Op<'a>, Unrouted> {
+    let op = match (rest, method) {
+        ([], b"GET") => return Ok(Op::Run(dag, run)),
+        ([], b"PATCH") => return Ok(Op::MarkRun(dag, run)),
+        ([], b"DELETE") => return Ok(Op::DeleteRun(dag, run)),
+        ([], _) => return Err(BadMethod("GET, PATCH, DELETE")),
+        ([b"clear"], b"POST") => return Ok(Op::ClearRun(dag, run)),
+        ([b"clear"], _) => return Err(BadMethod("POST")),
+        ([b"taskInstances"], _) => Op::Instances(dag, run),
+        ([b"taskInstances", task], _) => Op::Instance(dag, run, named(task, is_id)?),
+        _ => return Err(NoPath),
+    };
+    if method == b"GET" { Ok(op) } else { Err(BadMethod("GET")) }
 }
