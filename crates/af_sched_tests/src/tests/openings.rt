@@ -142,10 +142,7 @@ pub fn tried(state: TaskState, try_number: u32) -> Instance {
 }
 
 pub fn instances(alloc: Global, states: &[TaskState]) -> Result<Instances, Fail> {
-    let mut items = Vec::new(alloc);
-    for state in states {
-        items.push(tried(*state, 0))?;
-    }
+    let items = states.iter().map(|state| tried(*state, 0)).collect(alloc)?;
     Ok(Instances::of(items))
 }
 
