@@ -1,5 +1,5 @@
 use crate::tests::asserts::row_holds;
-use crate::tests::rows::{page_of, reader_of};
+use crate::tests::rows::{page_of, page_of_all, reader_of};
 use af_listing::{Page, Window, page};
 use af_names::DagId;
 use std::alloc::Global;
@@ -68,5 +68,35 @@ fn a_page_has_a_hundred_rows_at_most(rt: HostRuntime) -> Result<(), Fail> {
     assert!(rt; told.places().len() == 100, "how many places");
     assert!(rt; told.places().last() == Some(&198), "the last place");
     assert!(rt; told.total() == 150, "the total");
+    Ok(())
+}
+
+/// A query, and the places of the five rows that who reads all DAGs is shown.
+const WHOLE_PAGES: [(&[u8], &[usize]); 9] = [
+    (b"", &[0, 1, 2, 3, 4]),
+    (b"limit=2&offset=1", &[1, 2]),
+    (b"limit=2&offset=4", &[4]),
+    (b"offset=5", &[]),
+    (b"offset=6", &[]),
+    (b"limit=0", &[]),
+    (b"limit=1000&offset=3", &[3, 4]),
+    (b"limit=5", &[0, 1, 2, 3, 4]),
+    (b"offset=999999999999999999999999999999", &[]),
+];
+
+/// Whether who reads all DAGs is shown these places of five, whether each row is looked at or none.
+fn is_shown_these(alloc: Global, query: &[u8], places: &[usize]) -> Result<bool, Fail> {
+    let cut = page_of_all(alloc, &["a", "-", "b", "a", "c"], query, true)?;
+    let seen = page_of_all(alloc, &["a", "-", "b", "a", "c"], query, false)?;
+    let same = cut.places() == places && seen.places() == places;
+    Ok(same && cut.total() == 5 && seen.total() == 5)
+}
+
+#[test]
+fn who_reads_all_is_shown_the_list_itself(rt: HostRuntime) -> Result<(), Fail> {
+    for (row, (query, places)) in WHOLE_PAGES.iter().enumerate() {
+        let holds = is_shown_these(rt.alloc(), query, places)?;
+        row_holds(&rt, holds, "the page", row);
+    }
     Ok(())
 }

@@ -46,6 +46,38 @@ pub fn reader_of(alloc: Global, dag: &str) -> Result<ReaderOf, Fail> {
     })
 }
 
+/// Who reads all DAGs, and says so or not.
+#[derive(Clone, Copy)]
+pub struct Everybody {
+    pub says_so: bool,
+}
+
+impl Reader for Everybody {
+    ghost use Rattle.std.specs.Prelude.{true};
+
+    ghost reads = { λ reader dag. true };
+
+    fn readable(&self, _dag: &DagId) -> bool {
+        true
+    }
+
+    fn reads_all(&self) -> bool {
+        self.says_so
+    }
+}
+
+/// The page that a query asks for, for who reads all DAGs.
+pub fn page_of_all(
+    alloc: Global,
+    letters: &[&str],
+    query: &[u8],
+    says_so: bool,
+) -> Result<Page, Fail> {
+    let window = window_of(query)?;
+    let rows = rows_of(alloc, letters)?;
+    Ok(page(alloc, rows.as_slice(), &Everybody { says_so }, window)?)
+}
+
 /// The DAG that a letter names; `-` names none.
 fn dag_of(alloc: Global, letter: &str) -> Result<Option<DagId>, Fail> {
     if letter == "-" {
