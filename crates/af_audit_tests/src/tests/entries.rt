@@ -155,9 +155,14 @@ fn pages_show_entries_that_are_read(rt: HostRuntime) -> Result<(), Fail> {
 fn is_under_the_version(alloc: Global) -> Result<bool, Fail> {
     let at = Instant::read(MARCH)?;
     let mut ledger = ledger(alloc, 9)?;
-    look(&mut ledger, 7);
+    Ok(ticks_under(alloc, &mut ledger, at))
+}
+
+/// Whether a tick at this moment is entered under version 7, once that was looked at.
+fn ticks_under(alloc: Global, ledger: &mut Ledger, at: Instant) -> bool {
+    look(ledger, 7);
     let _changed = ledger.tick(alloc, at);
-    Ok(ledger.version() == 7 && is_of(ledger.audit().entries().first(), 7, at))
+    ledger.version() == 7 && is_of(ledger.audit().entries().first(), 7, at)
 }
 
 /// Looks at a version, if it is no earlier one.

@@ -87,8 +87,14 @@ fn add(alloc: Global, state: &mut State, id: &str, schedule: Option<Schedule>) -
 /// The DAG wide, of three tasks, beside those two.
 fn wide_state(alloc: Global) -> Result<State, Fail> {
     let mut state = state(alloc)?;
-    state.add_dag(dag(alloc, "wide", three_tasks(alloc)?, None)?)?;
+    add_wide(alloc, &mut state)?;
     Ok(state)
+}
+
+fn add_wide(alloc: Global, state: &mut State) -> Result<(), Fail> {
+    let tasks = three_tasks(alloc)?;
+    state.add_dag(dag(alloc, "wide", tasks, None)?)?;
+    Ok(())
 }
 
 /// A ledger of the three DAGs with room for so many entries.
