@@ -118,8 +118,7 @@ kept_from configuration now exchanges left answered is =
 pub connects_kept : (configuration : ConfigurationRows) (now : ℕ) (before after : Given) (start finish : Taken) (desk left : DeskRows) (ended : Ended) → desk ≡ opened configuration now → IsSolo desk.solo → Converses before after start finish desk left ended → IsSolo left.solo → Serves configuration now before after start finish left ended × IsKept configuration left
 connects_kept configuration now before after start finish desk left ended is solo converses kept =
     let here : Connects Decides before after start finish (opened configuration now) left ended = subst (λ (d : DeskRows). Connects Decides before after start finish d left ended) is converses.0 in
-    let state : IsState configuration.state = subst (λ (d : DeskRows). IsState d.solo.ledger.state) is solo.state in
-    (
+    let state : IsState configuration.state = subst (λ (d : DeskRows). IsState d.solo.ledger.state) is solo.state in (
       (here, run_from configuration now here.run.exchanges left state here.run.answered),
       kept_from configuration now here.run.exchanges left here.run.answered kept,
     )
