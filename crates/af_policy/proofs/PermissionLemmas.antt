@@ -1,22 +1,18 @@
 -- What a sync leaves elsewhere, and what a user is shown of the user's own permissions.
 use Rattle.std.proofs.Common.{◌≡◌, ℕ, List, [], ◌∷◌, Bool, true, false, not, ◌&&◌, ◌||◌, cond, map, Option, Some, None, Result, Ok, Err, refl, sym, ap, subst, ◌∙◌}
-use Rattle.std.specs.List.{AllByRecursion, cons_option, filter, flat_map, list_any}
+use Rattle.std.specs.List.{cons_option, filter, flat_map, list_any}
 use Rattle.std.specs.List.Sorted.{IsStrictlySortedBy}
 use Rattle.std.specs.Option.{option_map, option_map_or}
-use Rattle.std.specs.Ordering.{match_ordering, ordering_reverse}
-use Rattle.std.specs.declared.cmp.Ordering.{Ordering}
-use Rattle.std.specs.declared.cmp.Ordering.TheVariants.{Less, Equal, Greater}
 use Rattle.std.specs.Cmp.Lexicographic.{bytes_decides}
 use Rattle.std.proofs.lemmas.List.Folds.{list_any-append}
 use Rattle.af_role.specs.declared.action.Action.{Action}
 use Rattle.af_role.specs.declared.resource.Resource.TheVariants.{Dag}
 use Rattle.af_role.specs.declared.access.AccessRow.{AccessRow}
 use Rattle.af_role.specs.Resources.{action_of, same_resource}
-use Rattle.af_role.specs.Pairs.{PairRow, carries, pair_cmp, same_pair, with_pair, with_pairs}
+use Rattle.af_role.specs.Pairs.{PairRow, carries, pair_cmp, same_pair}
 use Rattle.af_role.specs.Roles.{RoleRow, contains_pair, lists}
 use Rattle.af_role.specs.Access.{bad_action, is_about, is_admin_name, kept_pairs, listed_pairs, on_that_dag, pairs_at, row_pairs, synced_role}
 use Rattle.af_role.proofs.PairLemmas.{same_pair-decides, same_resource-decides}
-use Rattle.af_role.proofs.AccessLemmas.{pair_total}
 use Rattle.af_policy.specs.Rows.{IsPolicy, NamesAscend, PolicyRows, UserRow, found_user, has_role, role_names, same_name}
 use Rattle.af_policy.specs.Grants.{grants, role_lists, some_role_lists}
 use Rattle.af_policy.specs.Identity.{bearer_of}
@@ -29,6 +25,7 @@ use Rattle.af_policy.specs.declared.me_fault.MeFault.{MeFault}
 use Rattle.af_policy.specs.Laws.{MeShowsGrants, SyncAddsNothingElsewhere, SyncIsExact}
 use Rattle.af_policy.proofs.LawLemmas.{contains-with_pairs, or-none, sync-lists_exactly}
 use Rattle.af_policy.proofs.NameLemmas.{list_any-map}
+use Rattle.af_policy.proofs.RemovalLemmas.{find-passes}
 use Rattle.af_policy.proofs.RoleLemmas.{sorted-with_pairs}
 use Rattle.af_policy.proofs.ViewLemmas.{held_by-grants, role_lists-pairs_of}
 
@@ -164,11 +161,12 @@ contains-permissions_of roles names pair ascend =
     ∙ contains-listed roles names pair ascend
 
 module _ (policy : PolicyRows) (me : Me) (is : IsPolicy policy) where
-  shown : (name : List ℕ) (found : Option UserRow) → found_user policy.users name ≡ found → me_shown policy found ≡ Ok me → ((pair : PairRow) → contains_pair me.permissions pair ≡ grants policy name pair) × IsStrictlySortedBy pair_cmp me.permissions
+  shown : (name : List ℕ) (found : Option UserRow) → found_user policy.users name ≡ found → me_shown policy found ≡ Ok me → (me.user.name ≡ name) × ((pair : PairRow) → contains_pair me.permissions pair ≡ grants policy name pair) × IsStrictlySortedBy pair_cmp me.permissions
   shown name None finds e = cc
   shown name (Some user) finds e =
       let told : permissions_of policy.roles user.roles ≡ me.permissions = own e
       in (
+        sym (named e) ∙ sym ((bytes_decides name user.name).0 (find-passes (λ (u : UserRow). same_name name u.name) policy.users user finds)),
         λ pair. ap (λ pairs. contains_pair pairs pair) (sym told)
             ∙ contains-permissions_of policy.roles user.roles pair is.role_names_ascend
             ∙ ap (λ found. held_by policy.roles (option_map (λ (u : UserRow). u.roles) found) pair) (sym finds)
@@ -183,11 +181,18 @@ module _ (policy : PolicyRows) (me : Me) (is : IsPolicy policy) where
       own : me_shown policy (Some user) ≡ Ok me → permissions_of policy.roles user.roles ≡ me.permissions
       own e = ap permissions e
 
-  by_bearer : (bearer : Option (List ℕ)) → me_by policy bearer ≡ Ok me → (name : List ℕ) × (bearer ≡ Some name) × ((pair : PairRow) → contains_pair me.permissions pair ≡ grants policy name pair) × IsStrictlySortedBy pair_cmp me.permissions
+      user_name : Result Me MeFault → List ℕ
+      user_name (Ok m) = m.user.name
+      user_name (Err fault) = []
+
+      named : me_shown policy (Some user) ≡ Ok me → user.name ≡ me.user.name
+      named e = ap user_name e
+
+  by_bearer : (bearer : Option (List ℕ)) → me_by policy bearer ≡ Ok me → (name : List ℕ) × (bearer ≡ Some name) × (me.user.name ≡ name) × ((pair : PairRow) → contains_pair me.permissions pair ≡ grants policy name pair) × IsStrictlySortedBy pair_cmp me.permissions
   by_bearer None e = cc
   by_bearer (Some name) e =
-      let both = shown name (found_user policy.users name) refl e
-      in (name, refl, both.0, both.1)
+      let all = shown name (found_user policy.users name) refl e
+      in (name, refl, all.0, all.1, all.2)
 
 pub me-shows_grants : MeShowsGrants
 me-shows_grants policy token me is e = by_bearer policy me is (bearer_of policy token) e

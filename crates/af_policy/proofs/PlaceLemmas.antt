@@ -1,6 +1,6 @@
 -- A row in the place of the row of its key, and how many rows there are then.
 use Rattle.std.proofs.Common.{◌≡◌, ◌≤◌, ◌<◌, ◌+◌, ◌⊎◌, ⊎_elim, ℕ, suc, List, [], ◌∷◌, length, map, Bool, true, false, not, cond, Some, is_some, refl, sym, ap, subst, ◌∙◌, arith}
-use Rattle.std.specs.List.{AllByRecursion, filter, find}
+use Rattle.std.specs.List.{AllByRecursion, filter}
 use Rattle.std.specs.Ordering.{match_ordering, nat_cmp}
 use Rattle.std.specs.declared.cmp.Ordering.{Ordering}
 use Rattle.std.specs.declared.cmp.Ordering.TheVariants.{Less, Equal, Greater}
@@ -9,10 +9,9 @@ use Rattle.std.proofs.lemmas.List.{length-map}
 use Rattle.std.proofs.lemmas.Map.Lookups.{exact_bytes}
 use Rattle.af_role.specs.declared.access.AccessRow.{AccessRow}
 use Rattle.af_role.specs.Access.{synced_role}
-use Rattle.af_role.specs.DefaultRoles.{default_rows}
 use Rattle.af_role.specs.Roles.{RoleRow}
 use Rattle.af_policy.specs.Changes.{replaced}
-use Rattle.af_policy.specs.Rows.{IsWithinLimits, NamesAscend, UserRow, found_user, has_digest, has_role, has_user, most_roles, most_users, role_names, same_name, user_names, with_role, with_user, without_role, without_user}
+use Rattle.af_policy.specs.Rows.{IsWithinLimits, NamesAscend, UserRow, found_user, has_digest, has_role, most_roles, most_users, role_names, same_name, user_names, with_role, with_user, without_role, without_user}
 use Rattle.af_policy.specs.SharedRows.{Ascend, found, with_row, without}
 use Rattle.af_policy.specs.Tables.{IsUserTable}
 use Rattle.af_policy.proofs.NameLemmas.{is_some-find}

@@ -1,5 +1,5 @@
 -- Rows as they are shown: names put in byte order, and lists that are filled up.
-use Rattle.std.proofs.Common.{◌≡◌, ◌≤◌, ◌<◌, ℕ, zero, suc, List, [], ◌∷◌, ◌++◌, ◌+◌, ◌-◌, get_or, take, drop, length, Bor, Option, Some, None, Global, refl, sym, ap, ◌∙◌, append_assoc, arith}
+use Rattle.std.proofs.Common.{◌≡◌, ◌≤◌, ◌<◌, ℕ, zero, suc, List, [], ◌∷◌, ◌++◌, ◌+◌, ◌-◌, get_or, take, drop, length, Bor, Option, Some, None, Global, sym, ap, ◌∙◌, append_assoc, arith}
 use Rattle.std.specs.List.{insert}
 use Rattle.af_role.proofs.AccessLemmas.{take_more}
 use Rattle.std.proofs.Math.Seq.{take-nil}

@@ -1,6 +1,7 @@
 -- What stands at the name that a change names.
-use Rattle.std.proofs.Common.{◌≡◌, ℕ, List, true, false, not, ◌||◌, nat_le, cond, length, Option, Some, None, Result, Ok, Err, refl, sym, ap, ◌∙◌, is_some, option_map}
+use Rattle.std.proofs.Common.{◌≡◌, ℕ, List, true, false, not, ◌||◌, nat_le, cond, length, Option, Some, None, Result, Ok, Err, refl, sym, ap, ◌∙◌, is_some, option_map, unwrap_or}
 use Rattle.std.specs.Cmp.Lexicographic.{bytes_decides}
+use Rattle.sha2.specs.Sha256.{sha256}
 use Rattle.af_role.specs.Pairs.{PairRow}
 use Rattle.af_role.specs.Roles.{RoleRow}
 use Rattle.af_role.specs.PairTexts.{pairs_read}
@@ -9,15 +10,17 @@ use Rattle.af_policy.specs.declared.change.UserPatch.{UserPatch}
 use Rattle.af_policy.specs.declared.change_fault.ChangeFault.{ChangeFault}
 use Rattle.af_policy.specs.declared.change_fault.ChangeFault.TheVariants.{NoSuchRole, DefaultRole, Exists, RoleInUse, LastAdmin, TooMany}
 use Rattle.af_policy.specs.declared.change_reply.ChangeReply.TheVariants.{Role, User}
-use Rattle.af_policy.specs.Rows.{PolicyRows, UserRow, found_user, has_admin, has_digest, has_role, has_user, most_users, role_in_use, with_role, with_user, without_role, without_user}
+use Rattle.af_policy.specs.Rows.{PolicyRows, UserRow, found_user, has_admin, has_digest, has_role, has_user, most_users, role_in_use, same_digest, with_role, with_user, without_role, without_user}
 use Rattle.af_policy.specs.Changes.{is_anothers, is_default, new_user, patched, replaced, role_dropped, unknown_given, unknown_role, unless_unknown, user_gone, user_patched}
 use Rattle.af_policy.specs.Shown.{shown_user}
 use Rattle.af_policy.specs.Tables.{found_role}
-use Rattle.af_policy.specs.Laws.{ChangesAreTold, NamedRowStands, NothingIsDoubled}
+use Rattle.af_policy.specs.Identity.{digest_user}
+use Rattle.af_policy.specs.Laws.{ChangedTokenOpens, ChangesAreTold, NamedRowStands, NothingIsDoubled}
 use Rattle.af_policy.proofs.FoundLemmas.{found_with, found_without}
 use Rattle.af_policy.proofs.LawLemmas.{okay, unless}
+use Rattle.af_policy.proofs.RemovalLemmas.{digest_user-without_user, has_user-without_user}
 use Rattle.af_policy.proofs.TouchLemmas.{added, added_of, is_set, new_one, set_of}
-use Rattle.af_policy.proofs.UserLemmas.{or-false_left, or-false_right}
+use Rattle.af_policy.proofs.UserLemmas.{digest_user-with_user, or-false_left, or-false_right}
 
 module _ (policy later : PolicyRows) where
   -- ---- roles
@@ -110,6 +113,28 @@ nothing-doubled = (
       no_other policy.users patch.name digest patch.digest is
       (by_patch policy later patch (unknown_given policy.roles patch.roles) (found_user policy.users patch.name) e).2,
 )
+
+-- ---- whom a token opens after another is given
+
+patch_made : (policy later : PolicyRows) (patch : UserPatch) (unknown : Option (List ℕ)) (user : UserRow) → unless_unknown unknown (user_patched policy patch (Some user)) ≡ Ok later → (is_anothers policy.users patch.name patch.digest ≡ false) × (later.users ≡ replaced policy.users (patched patch user))
+patch_made policy later patch (Some name) user e = cc
+patch_made policy later patch None user e =
+    let own = unless (is_anothers policy.users patch.name patch.digest) Exists (cond (not (has_admin (replaced policy.users (patched patch user)))) (Err LastAdmin) (Ok (record { users = replaced policy.users (patched patch user); roles = policy.roles }))) later e
+    in let some = unless (not (has_admin (replaced policy.users (patched patch user)))) LastAdmin (Ok (record { users = replaced policy.users (patched patch user); roles = policy.roles })) later own.1
+    in let is : record { users = replaced policy.users (patched patch user); roles = policy.roles } ≡ later = (let made = some.1 in cc)
+    in (own.0, ap (λ (p : PolicyRows). p.users) (sym is))
+
+pub changed_token-opens : ChangedTokenOpens
+changed_token-opens policy later patch user digest token is found given e =
+    let made = patch_made policy later patch (unknown_given policy.roles patch.roles) user (sym (ap (λ row. unless_unknown (unknown_given policy.roles patch.roles) (user_patched policy patch row)) found) ∙ e)
+    in let row : UserRow = record { name = patch.name; digest = digest; roles = unwrap_or patch.roles user.roles }
+    in let is_row : patched patch user ≡ row = ap (λ d. own (unwrap_or d user.digest)) given
+    in ap (λ (users : List UserRow). digest_user users (sha256 token)) (made.1 ∙ ap (replaced policy.users) is_row)
+    ∙ digest_user-with_user row (sha256 token) (without_user policy.users patch.name) (has_user-without_user patch.name policy.users) (no_other policy.users patch.name digest patch.digest given made.0)
+    ∙ ap (cond (same_digest (sha256 token) digest) (Some patch.name)) (digest_user-without_user patch.name user (sha256 token) policy.users is.user_names_ascend is.digests_differ found)
+  where
+    own : List ℕ → UserRow
+    own d = record { name = patch.name; digest = d; roles = unwrap_or patch.roles user.roles }
 
 -- ---- what is told
 

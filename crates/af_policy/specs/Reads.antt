@@ -1,6 +1,6 @@
 -- What a user is shown of a policy: who the user is and what the user has, and roles and users (Airflow 2, "Stable REST
 -- API", roles and users; who am I, and the order in which answers are decided, are this product's own rule).
-use Rattle.std.specs.Prelude.{◌≡◌, ◌⊎◌, ℕ, List, [], length, map, IsOk, Option, Some, None, Result, Ok, Err}
+use Rattle.std.specs.Prelude.{◌≡◌, ◌⊎◌, ℕ, Bool, true, false, List, [], length, map, IsOk, Option, Some, None, Result, Ok, Err}
 use Rattle.af_role.specs.declared.action.Action.TheVariants.{Read}
 use Rattle.af_role.specs.declared.resource.ResourceKind.TheVariants as resource
 use Rattle.af_role.specs.declared.need.Need.{Need}
@@ -66,6 +66,14 @@ role_told (Some role) = Ok (reply.Role role)
 abbrev pub user_told : Option UserRow → Result PolicyReply ReadFault
 user_told None = Err NoSuchUser
 user_told (Some user) = Ok (reply.User (shown_user user))
+
+-- where want of memory may be told: the rows of a page are listed, or a user's roles are put in order
+abbrev pub reading_wants : PolicyRead → Bool
+reading_wants (Roles span) = true
+reading_wants (Role name) = false
+reading_wants (Users span) = true
+reading_wants (User name) = true
+reading_wants (Bad kind input) = false
 
 -- what is read is told, or why it is not there
 abbrev pub rows_told : PolicyRows → PolicyRead → Result PolicyReply ReadFault

@@ -1,6 +1,6 @@
 -- What is told of a change that was made (Airflow 2, "Stable REST API": POST and PATCH answer the row as it then stands, DELETE
 -- answers that there is no content; a sync is this product's own).
-use Rattle.std.specs.Prelude.{ℕ, List, Option, Some, option_map}
+use Rattle.std.specs.Prelude.{ℕ, Bool, true, false, List, Option, Some, option_map}
 use Rattle.af_policy.specs.Rows.{PolicyRows, found_user}
 use Rattle.af_policy.specs.Tables.{found_role}
 use Rattle.af_policy.specs.Shown.{shown_user}
@@ -24,3 +24,13 @@ change_told later (AddUser user) = user_reply later user.name
 change_told later (SetUser patch) = user_reply later patch.name
 change_told later (DropUser name) = Some Gone
 change_told later (SyncDag access) = Some Synced
+
+-- where want of memory may be told: a user's roles are put in order
+abbrev pub telling_wants : Change → Bool
+telling_wants (AddRole input) = false
+telling_wants (SetRole input) = false
+telling_wants (DropRole name) = false
+telling_wants (AddUser user) = true
+telling_wants (SetUser patch) = true
+telling_wants (DropUser name) = false
+telling_wants (SyncDag access) = false

@@ -1,6 +1,6 @@
-ghost use Rattle.std.specs.Prelude.{◌≡◌, ◌≢◌, Err, Some};
+ghost use Rattle.std.specs.Prelude.{◌≡◌, ◌≢◌, true, Err, Some};
 ghost use Rattle.std.specs.Option.{option_copied};
-ghost use Rattle.af_policy.specs.Reads.{MemoryLast, me_by, me_of, me_shown, read_by, read_of, rows_told};
+ghost use Rattle.af_policy.specs.Reads.{MemoryLast, me_by, me_of, me_shown, read_by, read_of, reading_wants, rows_told};
 
 use crate::{
     Me, MeFault, Policy, PolicyRead, PolicyReply, ReadFault, RoleShown, Span, User, UserShown,
@@ -40,14 +40,15 @@ impl Policy {
     }
 
     /// What is told of this policy to the bearer of a token. The faults are told in the order of `ReadFault`, want of memory
-    /// only where no other applies.
+    /// only where no other applies, and never of one role.
     pub fn read(
         &self,
         alloc: Global,
         token: Option<&[u8]>,
         read: &PolicyRead,
     ) -> Result<PolicyReply<'_>, ReadFault>
-        ensures { MemoryLast ReadFault.OutOfMemory (read_of self.now (option_copied token.entry) read.now) result }
+        ensures told { MemoryLast ReadFault.OutOfMemory (read_of self.now (option_copied token.entry) read.now) result }
+        ensures memory { result ≡ Err ReadFault.OutOfMemory → reading_wants read.now ≡ true }
     {
         match self.bearer(token) {
             Some(user) => self.read_for(alloc, user, read),
@@ -62,7 +63,8 @@ impl Policy {
         user: &UserName,
         read: &PolicyRead,
     ) -> Result<PolicyReply<'_>, ReadFault>
-        ensures { MemoryLast ReadFault.OutOfMemory (read_by self.now read.now (Some user.now)) result }
+        ensures told { MemoryLast ReadFault.OutOfMemory (read_by self.now read.now (Some user.now)) result }
+        ensures memory { result ≡ Err ReadFault.OutOfMemory → reading_wants read.now ≡ true }
     {
         let dags: &[DagId] = &[];
         match self.missing(user, read.kind().needs(), None, dags) {
@@ -73,7 +75,8 @@ impl Policy {
 
     /// What is told to whoever lacks nothing.
     fn rows_of(&self, alloc: Global, read: &PolicyRead) -> Result<PolicyReply<'_>, ReadFault>
-        ensures { MemoryLast ReadFault.OutOfMemory (rows_told self.now read.now) result }
+        ensures told { MemoryLast ReadFault.OutOfMemory (rows_told self.now read.now) result }
+        ensures memory { result ≡ Err ReadFault.OutOfMemory → reading_wants read.now ≡ true }
     {
         match read {
             PolicyRead::Roles(span) => self.roles_of(alloc, *span),

@@ -1,5 +1,5 @@
-ghost use Rattle.std.specs.Prelude.{◌≡◌, IfOk};
-ghost use Rattle.af_policy.specs.Replies.{change_told, role_reply, user_reply};
+ghost use Rattle.std.specs.Prelude.{◌≡◌, true, IfOk, OnErr};
+ghost use Rattle.af_policy.specs.Replies.{change_told, role_reply, telling_wants, user_reply};
 
 use crate::{Change, ChangeReply, Policy, RoleShown, UserShown};
 use af_names::{RoleName, UserName};
@@ -7,13 +7,15 @@ use std::alloc::{AllocError, Global};
 
 impl Policy {
     /// What is told of a change under the policy that it left, which is this one. None where the row that the change names
-    /// is not there; under the policy that it left it is (`changes_are_told`).
+    /// is not there; under the policy that it left it is (`changes_are_told`). `AllocError` only where a user is told and a growth
+    /// was refused.
     pub fn reply(
         &self,
         alloc: Global,
         change: &Change,
     ) -> Result<Option<ChangeReply<'_>>, AllocError>
-        ensures { IfOk result (λ reply. reply ≡ change_told self.now change.now) }
+        ensures told { IfOk result (λ reply. reply ≡ change_told self.now change.now) }
+        ensures memory { OnErr result (telling_wants change.now ≡ true) }
     {
         match change {
             Change::AddRole(input) => Ok(self.role_reply(&input.name)),

@@ -1,7 +1,7 @@
 ghost use Rattle.std.specs.Prelude.{◌≡◌, ◌⊎◌, ◌<◌, ◌≤◌, [], length, true, nat_le, slice_get, None, Some, Ok, Err, IfOk, OnOk, OnErr};
 ghost use Rattle.std.specs.Option.{option_copied};
 ghost use Rattle.af_policy.specs.Versions.{Follows, IsHistory, all_versions, asked_by, asked_wants, decided, decided_wants, permitted, permitted_wants, submitted, told_as, with_version};
-ghost use Rattle.af_policy.specs.Reads.{MemoryLast, me_of, read_of};
+ghost use Rattle.af_policy.specs.Reads.{MemoryLast, me_of, read_of, reading_wants};
 ghost use Rattle.af_policy.specs.Changes.{changed};
 ghost use Rattle.af_policy.specs.declared.change.Change.{Change};
 ghost use Rattle.af_policy.specs.declared.ask.Ask.TheVariants.{Made};
@@ -112,6 +112,7 @@ impl Versions {
         ensures version { result.version ≡ length self.now.earlier }
         ensures under { slice_get (all_versions self.now) result.version ≡ Some self.now.latest }
         ensures told { MemoryLast ReadFault.OutOfMemory (read_of self.now.latest (option_copied token.entry) read.now) result.answer }
+        ensures memory { result.answer ≡ Err ReadFault.OutOfMemory → reading_wants read.now ≡ true }
     {
         Told {
             version: self.current(),

@@ -155,6 +155,31 @@ fn a_reader_of_one_dag_reads_it_alone(rt: HostRuntime) -> Result<(), Fail> {
     Ok(())
 }
 
+/// A user, and whether that user reads all DAGs by a permission on all of them.
+const READ_ALL_DAGS: &[(&str, bool)] = &[
+    (ADAM, true),
+    (VERA, true),
+    (BOB, false),
+    (PAT, false),
+    (EVE, false),
+];
+
+/// Whether a user reads all DAGs.
+fn reads_all(alloc: Global, policy: &Policy, name: &str) -> Result<bool, Fail> {
+    let user = UserName::parse(alloc, name)?;
+    Ok(policy.view(&user).reads_all())
+}
+
+#[test]
+fn a_permission_on_all_dags_reads_them_all(rt: HostRuntime) -> Result<(), Fail> {
+    let policy = policy(rt.alloc())?;
+    for (name, all) in READ_ALL_DAGS {
+        let found = reads_all(rt.alloc(), &policy, name)?;
+        holds(&rt, found == *all, name);
+    }
+    Ok(())
+}
+
 /// A user, a token, a role, and why the user is not added.
 type Row = (&'static str, &'static str, &'static str, Option<RowFault>);
 

@@ -1,6 +1,6 @@
-use Rattle.std.proofs.Common.{◌≡◌, Some, sym, ap, subst, ◌∙◌}
+use Rattle.std.proofs.Common.{◌≡◌, sym, ap, subst, ◌∙◌}
 use Rattle.af_policy.specs.Rows.{NamesAscend, PolicyRows, digests_differ, found_user, has_admin, has_digest, has_roles, roles_exist, user_names, without_user}
-use Rattle.af_policy.specs.Changes.{patched, replaced}
+use Rattle.af_policy.specs.Changes.{replaced}
 use Rattle.af_policy.proofs.ChangeLemmas.{has_digest-patched, has_roles-patched}
 use Rattle.af_policy.proofs.policy.Policy.with_patched.Goals as goal
 

@@ -1,4 +1,4 @@
-use Rattle.std.proofs.Common.{◌≡◌, ◌+◌, ◌-◌, true, false, Some, sym, ap, ◌∙◌, arith}
+use Rattle.std.proofs.Common.{◌≡◌, ◌+◌, ◌-◌, true, Some, ap, ◌∙◌, arith}
 use Rattle.af_policy.specs.Changes.{replaced}
 use Rattle.af_policy.specs.Rows.{PolicyRows, found_user, has_roles, without_user}
 use Rattle.af_policy.specs.Uses.{count_at, mentions, uses_in}

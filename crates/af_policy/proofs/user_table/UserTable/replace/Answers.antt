@@ -1,4 +1,4 @@
-use Rattle.std.proofs.Common.{◌≡◌, Some, ◌∙◌, ap}
+use Rattle.std.proofs.Common.{◌≡◌, ◌∙◌, ap}
 use Rattle.af_policy.specs.Changes.{replaced}
 use Rattle.af_policy.specs.Rows.{UserRow, found_user, has_digest, without_user}
 use Rattle.af_policy.specs.SharedRows.{with_row, without}
