@@ -1,4 +1,4 @@
-//! Default roles, requirements and resources, as rows worked by hand.
+//! Default roles, requirements, permissions, resources and syncs, as rows worked by hand.
 #![tactic(auto)]
 
 #[cfg(test)]

@@ -1,9 +1,11 @@
-//! Rows worked by hand: the default roles with all their permissions, requirements as they are written, and which texts
-//! are resources.
+//! Rows worked by hand: the default roles with all their permissions, requirements as they are written, which texts are
+//! permissions and which are resources, and what a sync of a DAG leaves.
 mod asserts;
 mod defaults;
 mod needs;
+mod pairs;
 mod permissions;
+mod syncs;
 
 use af_role::Permissions;
 use std::alloc::{AllocError, Global};

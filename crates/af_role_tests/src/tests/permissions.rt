@@ -30,7 +30,10 @@ fn pair_of(alloc: Global, action: &str, resource: &str) -> Result<Option<Pair>, 
 }
 
 /// The pairs of these texts.
-fn permissions_of(alloc: Global, texts: &[(&str, &str)]) -> Result<Permissions, AllocError> {
+pub(super) fn permissions_of(
+    alloc: Global,
+    texts: &[(&str, &str)],
+) -> Result<Permissions, AllocError> {
     let mut permissions = Permissions::new(alloc);
     for (action, resource) in texts {
         if let Some(pair) = pair_of(alloc, action, resource)? {

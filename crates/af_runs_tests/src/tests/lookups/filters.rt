@@ -44,22 +44,35 @@ fn are_holders(runs: &Runs, plain: &[Plain]) -> bool {
     holders.next().is_none()
 }
 
-/// Whether the look-ups of a run of a DAG answer what a filter over the plain list answers.
+/// Whether a run of a DAG is told by its id, and under another id by its date, exactly where it is there.
+fn are_faults(
+    runs: &Runs,
+    dag_id: &DagId,
+    is_there: bool,
+    ids: (&RunId, &RunId),
+    date: Instant,
+) -> bool {
+    let (by_id, by_date) = if is_there {
+        (Some(RunFault::RunExists), Some(RunFault::DateTaken))
+    } else {
+        (None, None)
+    };
+    runs.add_fault(dag_id, ids.0, date) == by_id && runs.add_fault(dag_id, ids.1, date) == by_date
+}
+
+/// Whether the look-ups of a run of a DAG answer what a filter over the plain list answers. No run has the second id.
 pub fn agrees_of_dag(
     runs: &Runs,
     plain: &[Plain],
     dag: (usize, &DagId),
     key: u64,
-    id: (&RunId, Instant),
+    ids: (&RunId, &RunId),
+    date: Instant,
 ) -> bool {
     let there = of_key(plain, dag.0, key);
-    let fault = match there {
-        Some(_) => Some(RunFault::RunExists),
-        None => None,
-    };
     let place = (key % 400) as usize;
-    is_it(runs.find(dag.1, id.0), there)
-        && runs.add_fault(dag.1, id.0, id.1) == fault
+    is_it(runs.find(dag.1, ids.0), there)
+        && are_faults(runs, dag.1, there.is_some(), ids, date)
         && runs.count_of(dag.1) == count_of(plain, dag.0)
         && is_it(runs.nth_of(dag.1, place), nth_of(plain, dag.0, place))
         && is_page(runs, plain, dag.0, dag.1, (key % 300) as usize)

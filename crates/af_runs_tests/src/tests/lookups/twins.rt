@@ -31,14 +31,20 @@ impl Twins {
         })
     }
 
-    /// Whether each look-up for a key answers what a filter over the plain list answers.
+    /// The number that the next run gets.
+    pub fn next(&self) -> u64 {
+        self.runs.next_number().unwrap_or(0)
+    }
+
+    /// Whether each look-up for a key, which is below 500, answers what a filter over the plain list answers.
     pub fn agrees(&self, key: u64) -> Result<bool, Fail> {
         let id = run_id(self.alloc, key)?;
+        let other = run_id(self.alloc, key.saturating_add(500))?;
         let date = moment(key)?;
         let plain = self.plain.as_slice();
         let mut same = agrees_at(&self.runs, plain, key);
         for dag in self.dags.iter().enumerate() {
-            same = same && agrees_of_dag(&self.runs, plain, dag, key, (&id, date));
+            same = same && agrees_of_dag(&self.runs, plain, dag, key, (&id, &other), date);
         }
         Ok(same)
     }
