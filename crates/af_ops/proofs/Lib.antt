@@ -24,4 +24,5 @@ mod TableLemmas
 mod TaskLemmas
 mod TellingLemmas
 mod TextLemmas
+pub mod UnreadLemmas
 mod VariableLemmas

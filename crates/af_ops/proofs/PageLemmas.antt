@@ -41,6 +41,11 @@ pub all_now : {X Y : Type 0} (name : List ℕ) (now : X → Y) (f : Y → List F
 all_now name now f xs ys total count is counts =
     ap₂ (λ (rows : List Data) (n : ℕ). compact_text (listing_of name rows n)) (map_now now (λ y. object_of (f y)) xs ∙ ap (map (λ y. object_of (f y))) is) counts
 
+-- a listing of rows that are those
+pub all_same : {Y : Type 0} (name : List ℕ) (f : Y → List Field) (xs ys : List Y) (total count : ℕ) → xs ≡ ys → total ≡ count
+    → compact_text (listing_of name (map (λ y. object_of (f y)) xs) total) ≡ compact_text (listing_of name (map (λ y. object_of (f y)) ys) count)
+all_same {Y} name f xs ys total count is counts = ap₂ (λ (rows : List Y) (n : ℕ). compact_text (listing_of name (map (λ y. object_of (f y)) rows) n)) is counts
+
 -- a list that is told whole of some borrowed rows
 pub list_now : {X Y : Type 0} (name : List ℕ) (now : X → Y) (f : Y → List Field) (xs : List X) (ys : List Y) → map now xs ≡ ys
     → compact_text (list_of name (map (λ x. object_of (f (now x))) xs)) ≡ compact_text (list_of name (map (λ y. object_of (f y)) ys))

@@ -38,7 +38,7 @@ matched (Part m ∷ ones) (Part n ∷ others) (text ∷ path) one other = matche
 
 -- whether some request may be of both rows
 clash : Endpoint → Endpoint → Bool
-clash one other = same_method (route_of one).method (route_of other).method && overlap (segments_of (route_of one).place) (segments_of (route_of other).place)
+clash one other = same_method (route_of one).method (route_of other).method && overlap (segments_of (route_of one).template) (segments_of (route_of other).template)
 
 -- no element clashes with a later one, nor a later one with it
 all_apart : {X : Type 0} → (X → X → Bool) → List X → Bool
@@ -200,7 +200,7 @@ pub one_row : OneRowAtMost
 unfolding clash
 one_row path one other method at_one at_other =
     let same : same_method (route_of one).method (route_of other).method ≡ true = subst (λ (m : Method). same_method (route_of one).method m ≡ true) method (same-refl (route_of one).method) in
-    let both : clash one other ≡ true = and_from (same_method (route_of one).method (route_of other).method) (overlap (segments_of (route_of one).place) (segments_of (route_of other).place)) same (matched (segments_of (route_of one).place) (segments_of (route_of other).place) path at_one at_other) in
+    let both : clash one other ≡ true = and_from (same_method (route_of one).method (route_of other).method) (overlap (segments_of (route_of one).template) (segments_of (route_of other).template)) same (matched (segments_of (route_of one).template) (segments_of (route_of other).template) path at_one at_other) in
     let at : rank one ≡ rank other = apart_at clash endpoints (rank one) (rank other) one table_apart (inside one) (inside other) (rw (stands one one, stands other one) both) in
     sym (stands one one) ∙ ap (λ n. get_or endpoints n one) at ∙ stands other one
 

@@ -11,8 +11,8 @@ use Rattle.af_ops.specs.declared.method.Method.{Method}
 use Rattle.af_ops.specs.declared.method.Method.TheVariants.{Get, Post, Patch, Delete}
 use Rattle.af_ops.specs.declared.op.Op.{Op}
 use Rattle.af_ops.specs.declared.op.Op.TheVariants as op
-use Rattle.af_ops.specs.declared.place.Place.{Place}
-use Rattle.af_ops.specs.declared.place.Place.TheVariants as place
+use Rattle.af_ops.specs.declared.path_template.PathTemplate.{PathTemplate}
+use Rattle.af_ops.specs.declared.path_template.PathTemplate.TheVariants as template
 use Rattle.af_ops.specs.declared.trigger.Trigger.{Trigger}
 use Rattle.af_ops.specs.PoolOps as pools
 use Rattle.af_ops.specs.VariableOps as variables
@@ -190,28 +190,28 @@ is_get (Some Delete) = false
 
 -- whether the parts of a path of this form, decoded, are names of their kinds, where it is asked for by this method, or by one that
 -- the API has not; `~` stands for all DAGs in the listing of runs alone
-abbrev pub are_names : Option Method → Place → List (List ℕ) → Bool
-are_names method place.Version parts = true
-are_names method place.Dags parts = true
-are_names method place.Dag parts = is_some (dag_id_in parts)
-are_names method place.Tasks parts = is_some (dag_id_in parts)
-are_names method place.Runs parts = is_some (dag_id_in parts) || (is_get method && is_all parts)
-are_names method place.Run parts = is_some (dag_id_in parts) && is_some (run_id_in parts)
-are_names method place.RunClear parts = is_some (dag_id_in parts) && is_some (run_id_in parts)
-are_names method place.Instances parts = is_some (dag_id_in parts) && is_some (run_id_in parts)
-are_names method place.Instance parts = is_some (dag_id_in parts) && (is_some (run_id_in parts) && is_some (task_id_in parts))
-are_names method place.Clear parts = is_some (dag_id_in parts)
-are_names method place.Pools parts = true
-are_names method place.Pool parts = is_some (row_name_in parts)
-are_names method place.Variables parts = true
-are_names method place.Variable parts = is_some (row_name_in parts)
-are_names method place.Entries parts = true
-are_names method place.Roles parts = true
-are_names method place.Role parts = is_some (account_name_in parts)
-are_names method place.Users parts = true
-are_names method place.User parts = is_some (account_name_in parts)
-are_names method place.Me parts = true
-are_names method place.Sync parts = is_some (dag_id_in parts)
+abbrev pub are_names : Option Method → PathTemplate → List (List ℕ) → Bool
+are_names method template.Version parts = true
+are_names method template.Dags parts = true
+are_names method template.Dag parts = is_some (dag_id_in parts)
+are_names method template.Tasks parts = is_some (dag_id_in parts)
+are_names method template.Runs parts = is_some (dag_id_in parts) || (is_get method && is_all parts)
+are_names method template.Run parts = is_some (dag_id_in parts) && is_some (run_id_in parts)
+are_names method template.RunClear parts = is_some (dag_id_in parts) && is_some (run_id_in parts)
+are_names method template.Instances parts = is_some (dag_id_in parts) && is_some (run_id_in parts)
+are_names method template.Instance parts = is_some (dag_id_in parts) && (is_some (run_id_in parts) && is_some (task_id_in parts))
+are_names method template.Clear parts = is_some (dag_id_in parts)
+are_names method template.Pools parts = true
+are_names method template.Pool parts = is_some (row_name_in parts)
+are_names method template.Variables parts = true
+are_names method template.Variable parts = is_some (row_name_in parts)
+are_names method template.Entries parts = true
+are_names method template.Roles parts = true
+are_names method template.Role parts = is_some (account_name_in parts)
+are_names method template.Users parts = true
+are_names method template.User parts = is_some (account_name_in parts)
+are_names method template.Me parts = true
+are_names method template.Sync parts = is_some (dag_id_in parts)
 
 -- the same operation, whose body was not read for want of memory
 abbrev pub unread : Op → Op

@@ -24,7 +24,7 @@ use Rattle.af_ops.specs.declared.endpoint.Endpoint.{Endpoint}
 use Rattle.af_ops.specs.declared.method.Method.TheVariants.{Get}
 use Rattle.af_ops.specs.declared.op.Op.{Op}
 use Rattle.af_ops.specs.declared.op.Op.TheVariants as op
-use Rattle.af_ops.specs.declared.place.Place.{Place}
+use Rattle.af_ops.specs.declared.path_template.PathTemplate.{PathTemplate}
 use Rattle.af_ops.specs.declared.policy_op.PolicyOp.{PolicyOp}
 use Rattle.af_ops.specs.declared.policy_op.PolicyOp.TheVariants as policy_op
 use Rattle.af_ops.specs.declared.trigger.Trigger.{Trigger}
@@ -152,11 +152,11 @@ Matches (Part name ∷ pattern) (text ∷ path) = (text ≢ []) × Matches patte
 abbrev pub OneRowAtMost : Type 0
 OneRowAtMost =
     (path : List (List ℕ)) (one other : Endpoint) → (route_of one).method ≡ (route_of other).method
-    → Matches (segments_of (route_of one).place) path → Matches (segments_of (route_of other).place) path → one ≡ other
+    → Matches (segments_of (route_of one).template) path → Matches (segments_of (route_of other).template) path → one ≡ other
 
 -- each operation is found by its method and its path
 abbrev pub EachIsFound : Type 0
-EachIsFound = (it : Endpoint) → endpoint_at (route_of it).method (route_of it).place ≡ Some it
+EachIsFound = (it : Endpoint) → endpoint_at (route_of it).method (route_of it).template ≡ Some it
 
 -- whether a path has a part for a DAG's id
 abbrev pub names_dag : List Segment → Bool
@@ -179,11 +179,11 @@ IsAt (Entries asked) dag = None ≡ dag
 IsAt (Policy it) dag = IsSyncAt it dag
 
 -- the id of a DAG that is the first part, where the path has one
-abbrev pub dag_at : Place → List (List ℕ) → Option (List ℕ)
-dag_at place parts = if names_dag (segments_of place) then dag_id_in parts else None
+abbrev pub dag_at : PathTemplate → List (List ℕ) → Option (List ℕ)
+dag_at template parts = if names_dag (segments_of template) then dag_id_in parts else None
 
 -- what is read of a row of the table is of that row, and it names the DAG of the path's part, where the path has one
 abbrev pub OperationsAreOfTheirRow : Type 0
 OperationsAreOfTheirRow =
     (it : Endpoint) (parts : List (List ℕ)) (query body : List ℕ) (asked : Call) → call_of_row it parts query body ≡ Some asked
-    → (calls.endpoint_of asked ≡ it) × IsAt asked (dag_at (route_of it).place parts)
+    → (calls.endpoint_of asked ≡ it) × IsAt asked (dag_at (route_of it).template parts)

@@ -7,6 +7,7 @@ pub mod Edits
 pub mod EffectParts
 pub mod Effects
 pub mod Endpoints
+pub mod Events
 pub mod Faults
 pub mod Fields
 pub mod Laws

@@ -58,6 +58,7 @@ fn put_dag(alloc: Global, out: &mut Text, row: &DagRow, is_paused: bool) -> Resu
 }
 
 /// A preset's text, a number of seconds, or null for no schedule.
+#[inline(always)]
 fn put_schedule(
     alloc: Global,
     out: &mut Text,

@@ -229,12 +229,21 @@ fn put_text(alloc: Global, out: &mut Text, value: &str) -> Result<(), AllocError
     ensures text { OnOk result (out.new.items ≡ out.old.items ++ compact_text (string value.now)) }
     ensures room { OnOk result (4 ≤ out.new.ready) }
 {
-    if !is_plain_text(value.as_bytes()) {
-        let text = escaped_text(alloc, value)?;
-        out.reserve(text.len() + 8)?;
-        out.push(text.as_slice());
-        return Ok(());
+    if is_plain_text(value.as_bytes()) {
+        return put_plain(out, value);
     }
+    let text = escaped_text(alloc, value)?;
+    out.reserve(text.len() + 8)?;
+    out.push(text.as_slice());
+    Ok(())
+}
+
+/// Appends a text no byte of which wants an escape, in quotation marks.
+pub(crate) fn put_plain(out: &mut Text, value: &str) -> Result<(), AllocError>
+    requires { list_all is_plain value.now ≡ true }
+    ensures text { OnOk result (out.new.items ≡ out.old.items ++ compact_text (string value.now)) }
+    ensures room { OnOk result (4 ≤ out.new.ready) }
+{
     out.reserve(value.len() + 8)?;
     out.push(b"\"");
     out.push(value.as_bytes());

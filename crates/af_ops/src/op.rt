@@ -13,6 +13,9 @@ use af_names::{DagId, RunId, TaskId};
 use af_policy::Parameter;
 use af_runs::Mark;
 
+pub(crate) mod copying;
+mod event;
+
 /// An operation that a request asks for: the names of its path, and what was read of its query or of its body, where it reads one.
 #[derive(Drop)]
 pub enum Op {

@@ -11,7 +11,7 @@ use crate::endpoint::Endpoint;
 use crate::method::Method;
 use crate::op::Op;
 use crate::parts::{is_account_name, is_all, is_dag_id, is_row_name, is_run_id, is_task_id};
-use crate::place::Place;
+use crate::path_template::PathTemplate;
 use crate::policy_op::PolicyOp;
 use crate::policy_reading::{
     add_role, add_user, change_role, change_user, delete_role, delete_user, get_role, get_user,
@@ -80,20 +80,30 @@ pub fn read_row(
 
 /// Whether the parts of a path of this form, decoded, are names of their kinds, where it is asked for by this method, or by one
 /// that the API has not. `~` stands for all DAGs in the listing of runs alone.
-pub fn are_names(alloc: Global, method: Option<Method>, place: Place, parts: &[String]) -> bool
-    ensures { result ≡ are_names method place (map (λ part. string_bytes part) parts.now) }
+pub fn are_names(
+    alloc: Global,
+    method: Option<Method>,
+    template: PathTemplate,
+    parts: &[String],
+) -> bool
+    ensures { result ≡ are_names method template (map (λ part. string_bytes part) parts.now) }
 {
-    match place {
-        Place::Version | Place::Dags | Place::Pools | Place::Variables => true,
-        Place::Entries | Place::Roles | Place::Users | Place::Me => true,
-        Place::Pool | Place::Variable => is_row_name(alloc, parts),
-        Place::Role | Place::User => is_account_name(alloc, parts),
-        Place::Dag | Place::Tasks | Place::Clear | Place::Sync => is_dag_id(alloc, parts),
-        Place::Runs => is_dag_id(alloc, parts) || is_get(method) && is_all(parts),
-        Place::Run | Place::RunClear | Place::Instances => {
+    match template {
+        PathTemplate::Version
+        | PathTemplate::Dags
+        | PathTemplate::Pools
+        | PathTemplate::Variables => true,
+        PathTemplate::Entries | PathTemplate::Roles | PathTemplate::Users | PathTemplate::Me =>
+            true,
+        PathTemplate::Pool | PathTemplate::Variable => is_row_name(alloc, parts),
+        PathTemplate::Role | PathTemplate::User => is_account_name(alloc, parts),
+        PathTemplate::Dag | PathTemplate::Tasks | PathTemplate::Clear | PathTemplate::Sync =>
+            is_dag_id(alloc, parts),
+        PathTemplate::Runs => is_dag_id(alloc, parts) || is_get(method) && is_all(parts),
+        PathTemplate::Run | PathTemplate::RunClear | PathTemplate::Instances => {
             is_dag_id(alloc, parts) && is_run_id(alloc, parts)
         }
-        Place::Instance => {
+        PathTemplate::Instance => {
             is_dag_id(alloc, parts) && (is_run_id(alloc, parts) && is_task_id(alloc, parts))
         }
     }

@@ -1,7 +1,7 @@
 ghost use Rattle.std.specs.Prelude.{◌≡◌};
 
 use crate::method::Method;
-use crate::place::Place;
+use crate::path_template::PathTemplate;
 use af_role::Need;
 use std::marker::Model;
 
@@ -10,7 +10,7 @@ use std::marker::Model;
 #[derive(Drop)]
 pub struct Route {
     pub method: Method,
-    pub place: Place,
+    pub template: PathTemplate,
     pub needs: &'static [Need],
     /// It asks for no token, and is decided under no policy.
     pub is_open: bool,
@@ -23,7 +23,7 @@ impl Model for Route {
 
     ghost view = { λ route. record {
       method = route.method;
-      place = route.place;
+      template = route.template;
       needs = route.needs.now;
       is_open = route.is_open;
     } };

@@ -21,6 +21,14 @@ pub trait Row {
         ensures { OnOk result (Adds false out.old out.new (fields self.now)) };
 }
 
+impl<R: Row> Row for &R {
+    ghost fields = { λ row. R.fields row.now };
+
+    fn put_fields(&self, alloc: Global, out: &mut Text) -> Result<(), AllocError> {
+        (**self).put_fields(alloc, out)
+    }
+}
+
 /// The text of a row. `AllocError` only where a growth was refused.
 pub fn row_text<R: Row>(alloc: Global, row: &R) -> Result<Vec<u8>, AllocError>
     ensures { IfOk result (λ text. text.items ≡ compact_text (object_of (R.fields row.now))) }
@@ -54,9 +62,22 @@ pub fn listing_text<R: Row>(
     requires { IsTrue (is_name name.now) }
     ensures { IfOk result (λ text. text.items ≡ compact_text (listing_of name.now (map (λ row. object_of (R.fields row.now)) rows.now) total)) }
 {
+    rows_text(alloc, name, rows, total)
+}
+
+/// The same of rows that stand one beside the other.
+pub(crate) fn rows_text<R: Row>(
+    alloc: Global,
+    name: &str,
+    rows: &[R],
+    total: usize,
+) -> Result<Vec<u8>, AllocError>
+    requires { IsTrue (is_name name.now) }
+    ensures { IfOk result (λ text. text.items ≡ compact_text (listing_of name.now (map (λ row. object_of (R.fields row)) rows.now) total)) }
+{
     let mut out = Text::with_memory(alloc, ROW_ROOM * (1 + rows.len().min(100)))?;
     out.push(b"{");
-    out.rows(alloc, false, name, rows)?;
+    out.each_row(alloc, false, name, rows)?;
     out.number(true, "total_entries", total as u64)?;
     out.push(b"}");
     Ok(out.into_bytes())
@@ -93,9 +114,9 @@ pub fn list_text<R: Row>(alloc: Global, name: &str, rows: &[&R]) -> Result<Vec<u
 }
 
 /// The rows as the items of an array, and the end of that.
-fn put_rows<R: Row>(alloc: Global, out: &mut Text, rows: &[&R]) -> Result<(), AllocError>
+fn put_rows<R: Row>(alloc: Global, out: &mut Text, rows: &[R]) -> Result<(), AllocError>
     requires { 4 ≤ out.old.ready }
-    ensures text { OnOk result (out.new.items ≡ out.old.items ++ items_text false (items_of (map (λ row. object_of (R.fields row.now)) rows.now))) }
+    ensures text { OnOk result (out.new.items ≡ out.old.items ++ items_text false (items_of (map (λ row. object_of (R.fields row)) rows.now))) }
     ensures room { OnOk result (2 ≤ out.new.ready) }
 {
     let mut later = false;
@@ -103,7 +124,7 @@ fn put_rows<R: Row>(alloc: Global, out: &mut Text, rows: &[&R]) -> Result<(), Al
         if later {
             out.push(b",");
         }
-        put_row(alloc, out, *row)?;
+        put_row(alloc, out, row)?;
         later = true;
     }
     out.push(b"]");
@@ -139,6 +160,20 @@ impl Text {
     ) -> Result<(), AllocError>
         requires { IsTrue (is_name name.now) }
         ensures { OnOk result (Adds later self.old self.new ((name.now, array (items_of (map (λ row. object_of (R.fields row.now)) rows.now))) ∷ [])) }
+    {
+        self.each_row(alloc, later, name, rows)
+    }
+
+    /// A list of rows that stand one beside the other.
+    fn each_row<R: Row>(
+        &mut self,
+        alloc: Global,
+        later: bool,
+        name: &str,
+        rows: &[R],
+    ) -> Result<(), AllocError>
+        requires { IsTrue (is_name name.now) }
+        ensures { OnOk result (Adds later self.old self.new ((name.now, array (items_of (map (λ row. object_of (R.fields row)) rows.now))) ∷ [])) }
     {
         self.reserve(name.len() + 20)?;
         self.push_member(later, name.as_bytes(), b"[");

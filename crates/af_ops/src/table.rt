@@ -6,7 +6,7 @@ use crate::endpoint::Endpoint;
 use crate::method::Method;
 use crate::methods::Methods;
 use crate::op::Op;
-use crate::place::Place;
+use crate::path_template::PathTemplate;
 use crate::policy_requirements::{
     CREATE_ROLE, CREATE_USER, DELETE_ROLE, DELETE_USER, EDIT_ROLE, EDIT_USER, READ_ENTRY,
     READ_ROLE, READ_USER,
@@ -63,29 +63,29 @@ pub const ENDPOINTS: [Endpoint; 37] = [
     Endpoint::SyncDag,
 ];
 
-/// All paths.
-pub const PLACES: [Place; 21] = [
-    Place::Version,
-    Place::Dags,
-    Place::Dag,
-    Place::Tasks,
-    Place::Runs,
-    Place::Run,
-    Place::RunClear,
-    Place::Instances,
-    Place::Instance,
-    Place::Clear,
-    Place::Pools,
-    Place::Pool,
-    Place::Variables,
-    Place::Variable,
-    Place::Entries,
-    Place::Roles,
-    Place::Role,
-    Place::Users,
-    Place::User,
-    Place::Me,
-    Place::Sync,
+/// All templates of paths.
+pub const PATH_TEMPLATES: [PathTemplate; 21] = [
+    PathTemplate::Version,
+    PathTemplate::Dags,
+    PathTemplate::Dag,
+    PathTemplate::Tasks,
+    PathTemplate::Runs,
+    PathTemplate::Run,
+    PathTemplate::RunClear,
+    PathTemplate::Instances,
+    PathTemplate::Instance,
+    PathTemplate::Clear,
+    PathTemplate::Pools,
+    PathTemplate::Pool,
+    PathTemplate::Variables,
+    PathTemplate::Variable,
+    PathTemplate::Entries,
+    PathTemplate::Roles,
+    PathTemplate::Role,
+    PathTemplate::Users,
+    PathTemplate::User,
+    PathTemplate::Me,
+    PathTemplate::Sync,
 ];
 
 /// The row of an operation.
@@ -93,65 +93,69 @@ pub fn route_of(endpoint: Endpoint) -> Route
     ensures { result ≡ route_of endpoint }
 {
     match endpoint {
-        Endpoint::Version => opened(Method::Get, Place::Version),
-        Endpoint::ListDags => needing(Method::Get, Place::Dags, &READ_SOME_DAG),
-        Endpoint::GetDag => needing(Method::Get, Place::Dag, &READ_DAG),
-        Endpoint::PauseDag => needing(Method::Patch, Place::Dag, &EDIT_DAG),
-        Endpoint::ListTasks => needing(Method::Get, Place::Tasks, &READ_TASK),
-        Endpoint::ListRuns => needing(Method::Get, Place::Runs, &READ_RUN),
-        Endpoint::TriggerRun => needing(Method::Post, Place::Runs, &CREATE_RUN),
-        Endpoint::GetRun => needing(Method::Get, Place::Run, &READ_RUN),
-        Endpoint::MarkRun => needing(Method::Patch, Place::Run, &EDIT_RUN),
-        Endpoint::DeleteRun => needing(Method::Delete, Place::Run, &DELETE_RUN),
-        Endpoint::ClearRun => needing(Method::Post, Place::RunClear, &EDIT_RUN),
-        Endpoint::ListInstances => needing(Method::Get, Place::Instances, &READ_INSTANCE),
-        Endpoint::GetInstance => needing(Method::Get, Place::Instance, &READ_INSTANCE),
-        Endpoint::ClearInstances => needing(Method::Post, Place::Clear, &CLEAR_INSTANCE),
-        Endpoint::ListPools => needing(Method::Get, Place::Pools, &READ_POOL),
-        Endpoint::AddPool => needing(Method::Post, Place::Pools, &CREATE_POOL),
-        Endpoint::GetPool => needing(Method::Get, Place::Pool, &READ_POOL),
-        Endpoint::ChangePool => needing(Method::Patch, Place::Pool, &EDIT_POOL),
-        Endpoint::DeletePool => needing(Method::Delete, Place::Pool, &DELETE_POOL),
-        Endpoint::ListVariables => needing(Method::Get, Place::Variables, &READ_VARIABLE),
-        Endpoint::AddVariable => needing(Method::Post, Place::Variables, &CREATE_VARIABLE),
-        Endpoint::GetVariable => needing(Method::Get, Place::Variable, &READ_VARIABLE),
-        Endpoint::ChangeVariable => needing(Method::Patch, Place::Variable, &EDIT_VARIABLE),
-        Endpoint::DeleteVariable => needing(Method::Delete, Place::Variable, &DELETE_VARIABLE),
-        Endpoint::ListEntries => needing(Method::Get, Place::Entries, &READ_ENTRY),
-        Endpoint::ListRoles => needing(Method::Get, Place::Roles, &READ_ROLE),
-        Endpoint::AddRole => needing(Method::Post, Place::Roles, &CREATE_ROLE),
-        Endpoint::GetRole => needing(Method::Get, Place::Role, &READ_ROLE),
-        Endpoint::ChangeRole => needing(Method::Patch, Place::Role, &EDIT_ROLE),
-        Endpoint::DeleteRole => needing(Method::Delete, Place::Role, &DELETE_ROLE),
-        Endpoint::ListUsers => needing(Method::Get, Place::Users, &READ_USER),
-        Endpoint::AddUser => needing(Method::Post, Place::Users, &CREATE_USER),
-        Endpoint::GetUser => needing(Method::Get, Place::User, &READ_USER),
-        Endpoint::ChangeUser => needing(Method::Patch, Place::User, &EDIT_USER),
-        Endpoint::DeleteUser => needing(Method::Delete, Place::User, &DELETE_USER),
-        Endpoint::GetMe => needing(Method::Get, Place::Me, &[]),
-        Endpoint::SyncDag => needing(Method::Post, Place::Sync, &EDIT_ROLE),
+        Endpoint::Version => opened(Method::Get, PathTemplate::Version),
+        Endpoint::ListDags => needing(Method::Get, PathTemplate::Dags, &READ_SOME_DAG),
+        Endpoint::GetDag => needing(Method::Get, PathTemplate::Dag, &READ_DAG),
+        Endpoint::PauseDag => needing(Method::Patch, PathTemplate::Dag, &EDIT_DAG),
+        Endpoint::ListTasks => needing(Method::Get, PathTemplate::Tasks, &READ_TASK),
+        Endpoint::ListRuns => needing(Method::Get, PathTemplate::Runs, &READ_RUN),
+        Endpoint::TriggerRun => needing(Method::Post, PathTemplate::Runs, &CREATE_RUN),
+        Endpoint::GetRun => needing(Method::Get, PathTemplate::Run, &READ_RUN),
+        Endpoint::MarkRun => needing(Method::Patch, PathTemplate::Run, &EDIT_RUN),
+        Endpoint::DeleteRun => needing(Method::Delete, PathTemplate::Run, &DELETE_RUN),
+        Endpoint::ClearRun => needing(Method::Post, PathTemplate::RunClear, &EDIT_RUN),
+        Endpoint::ListInstances => needing(Method::Get, PathTemplate::Instances, &READ_INSTANCE),
+        Endpoint::GetInstance => needing(Method::Get, PathTemplate::Instance, &READ_INSTANCE),
+        Endpoint::ClearInstances => needing(Method::Post, PathTemplate::Clear, &CLEAR_INSTANCE),
+        Endpoint::ListPools => needing(Method::Get, PathTemplate::Pools, &READ_POOL),
+        Endpoint::AddPool => needing(Method::Post, PathTemplate::Pools, &CREATE_POOL),
+        Endpoint::GetPool => needing(Method::Get, PathTemplate::Pool, &READ_POOL),
+        Endpoint::ChangePool => needing(Method::Patch, PathTemplate::Pool, &EDIT_POOL),
+        Endpoint::DeletePool => needing(Method::Delete, PathTemplate::Pool, &DELETE_POOL),
+        Endpoint::ListVariables => needing(Method::Get, PathTemplate::Variables, &READ_VARIABLE),
+        Endpoint::AddVariable => needing(Method::Post, PathTemplate::Variables, &CREATE_VARIABLE),
+        Endpoint::GetVariable => needing(Method::Get, PathTemplate::Variable, &READ_VARIABLE),
+        Endpoint::ChangeVariable => needing(Method::Patch, PathTemplate::Variable, &EDIT_VARIABLE),
+        Endpoint::DeleteVariable => needing(
+            Method::Delete,
+            PathTemplate::Variable,
+            &DELETE_VARIABLE,
+        ),
+        Endpoint::ListEntries => needing(Method::Get, PathTemplate::Entries, &READ_ENTRY),
+        Endpoint::ListRoles => needing(Method::Get, PathTemplate::Roles, &READ_ROLE),
+        Endpoint::AddRole => needing(Method::Post, PathTemplate::Roles, &CREATE_ROLE),
+        Endpoint::GetRole => needing(Method::Get, PathTemplate::Role, &READ_ROLE),
+        Endpoint::ChangeRole => needing(Method::Patch, PathTemplate::Role, &EDIT_ROLE),
+        Endpoint::DeleteRole => needing(Method::Delete, PathTemplate::Role, &DELETE_ROLE),
+        Endpoint::ListUsers => needing(Method::Get, PathTemplate::Users, &READ_USER),
+        Endpoint::AddUser => needing(Method::Post, PathTemplate::Users, &CREATE_USER),
+        Endpoint::GetUser => needing(Method::Get, PathTemplate::User, &READ_USER),
+        Endpoint::ChangeUser => needing(Method::Patch, PathTemplate::User, &EDIT_USER),
+        Endpoint::DeleteUser => needing(Method::Delete, PathTemplate::User, &DELETE_USER),
+        Endpoint::GetMe => needing(Method::Get, PathTemplate::Me, &[]),
+        Endpoint::SyncDag => needing(Method::Post, PathTemplate::Sync, &EDIT_ROLE),
     }
 }
 
 /// The row of an operation that anybody may ask for.
-fn opened(method: Method, place: Place) -> Route
-    ensures { result ≡ opened method place }
+fn opened(method: Method, template: PathTemplate) -> Route
+    ensures { result ≡ opened method template }
 {
     Route {
         method,
-        place,
+        template,
         needs: &[],
         is_open: true,
     }
 }
 
 /// The row of an operation with these requirements.
-fn needing(method: Method, place: Place, needs: &'static [Need]) -> Route
-    ensures { result ≡ needing method place needs.now }
+fn needing(method: Method, template: PathTemplate, needs: &'static [Need]) -> Route
+    ensures { result ≡ needing method template needs.now }
 {
     Route {
         method,
-        place,
+        template,
         needs,
         is_open: false,
     }
@@ -191,36 +195,36 @@ pub fn needs(endpoint: Endpoint) -> &'static [Need]
 }
 
 /// The operation that a method names at a path; none where the path has other methods.
-pub fn endpoint_at(method: Method, place: Place) -> Option<Endpoint>
-    ensures { result ≡ endpoint_at method place }
+pub fn endpoint_at(method: Method, template: PathTemplate) -> Option<Endpoint>
+    ensures { result ≡ endpoint_at method template }
 {
     ENDPOINTS
         .iter()
         .copied()
-        .find(|endpoint| is_route(method, place, *endpoint))
+        .find(|endpoint| is_route(method, template, *endpoint))
 }
 
-fn is_route(method: Method, place: Place, endpoint: Endpoint) -> bool
-    ensures { result ≡ is_route method place endpoint }
+fn is_route(method: Method, template: PathTemplate, endpoint: Endpoint) -> bool
+    ensures { result ≡ is_route method template endpoint }
 {
     let row = route_of(endpoint);
-    row.method == method && row.place == place
+    row.method == method && row.template == template
 }
 
 /// The methods that a path has.
-pub fn methods_at(place: Place) -> Methods
-    ensures { result ≡ methods_at place }
+pub fn methods_at(template: PathTemplate) -> Methods
+    ensures { result ≡ methods_at template }
 {
     Methods {
-        get: has_method(place, Method::Get),
-        post: has_method(place, Method::Post),
-        patch: has_method(place, Method::Patch),
-        delete: has_method(place, Method::Delete),
+        get: has_method(template, Method::Get),
+        post: has_method(template, Method::Post),
+        patch: has_method(template, Method::Patch),
+        delete: has_method(template, Method::Delete),
     }
 }
 
-fn has_method(place: Place, method: Method) -> bool
-    ensures { result ≡ has_method place method }
+fn has_method(template: PathTemplate, method: Method) -> bool
+    ensures { result ≡ has_method template method }
 {
-    endpoint_at(method, place).is_some()
+    endpoint_at(method, template).is_some()
 }

@@ -1,16 +1,19 @@
 ghost use Rattle.std.specs.Prelude.{◌≡◌, ◌+◌, ◌<◌, ◌≤◌, [], ◌∷◌, ◌++◌, take, cond, length, vec_len, vec_capacity, OnOk, IfOk};
-ghost use Rattle.json.specs.Filled.{Placed};
 
+use crate::placing::{place, place_comma};
 use std::alloc::{AllocError, Global};
 use std::marker::Model;
 
 /// Bytes that are made ready at once, at least.
 const LEAST_AHEAD: usize = 128;
 
+/// Bytes that are made ready at once at the beginning, at most.
+const FIRST_AHEAD: usize = 1024;
+
 /// Bytes that are made ready at once, at most.
 const MOST_AHEAD: usize = 16 * 1024;
 
-static ZEROS: [u8; 512] = [0; 512];
+static ZEROS: [u8; 4096] = [0; 4096];
 
 /// A text that grows at its end. Bytes after its end are made ready ahead, so that a member of an object takes one test of
 /// room. Contracts see its bytes, and how many more it takes without a growth.
@@ -43,14 +46,15 @@ impl Text {
         })
     }
 
-    /// An empty text that has memory for so many bytes, of which the first are ready: to make all ready at once takes longer than
-    /// to go on as the text grows. `AllocError` only where a growth was refused.
+    /// An empty text that has memory for so many bytes, of which the first are ready, all of few: to make many ready at once takes
+    /// longer than to go on as the text grows. `AllocError` only where a growth was refused.
     pub(crate) fn with_memory(alloc: Global, room: usize) -> Result<Text, AllocError>
         ensures items { IfOk result (λ text. text.items ≡ []) }
         ensures ready { IfOk result (λ text. 128 ≤ text.ready) }
     {
-        let mut bytes = Vec::with_capacity(alloc, room.max(LEAST_AHEAD))?;
-        fill_to(&mut bytes, LEAST_AHEAD);
+        let room = room.max(LEAST_AHEAD);
+        let mut bytes = Vec::with_capacity(alloc, room)?;
+        fill_to(&mut bytes, room.min(FIRST_AHEAD));
         Ok(Text { bytes, len: 0 })
     }
 
@@ -132,26 +136,6 @@ impl Text {
         let at = place(buf, at, value);
         self.len = place(buf, at, b"\"");
     }
-}
-
-#[inline(always)]
-fn place(buf: &mut [u8], at: usize, piece: &[u8]) -> usize
-    requires { at + length piece.now ≤ length buf.old }
-    ensures { Placed buf.old buf.new at piece.now result }
-{
-    let end = at + piece.len();
-    buf[at..end].copy_from_slice(piece);
-    end
-}
-
-/// The comma is always stored, and counts only where it is wanted.
-#[inline(always)]
-fn place_comma(buf: &mut [u8], at: usize, comma: bool) -> usize
-    requires { at < length buf.old }
-    ensures { Placed buf.old buf.new at (cond comma (44 ∷ []) []) result }
-{
-    buf[at] = b',';
-    if comma { at + 1 } else { at }
 }
 
 fn fill_to(bytes: &mut Vec<u8>, len: usize)

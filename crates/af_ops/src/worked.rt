@@ -7,7 +7,7 @@ ghost use Rattle.af_ops.specs.declared.body_fault.Member.TheVariants.{Conf, DagR
 ghost use Rattle.af_ops.specs.declared.endpoint.Endpoint.TheVariants as endpoint;
 ghost use Rattle.af_ops.specs.declared.method.Method.TheVariants.{Get, Post};
 ghost use Rattle.af_ops.specs.declared.op.Op.TheVariants as op;
-ghost use Rattle.af_ops.specs.declared.place.Place.TheVariants as place;
+ghost use Rattle.af_ops.specs.declared.path_template.PathTemplate.TheVariants as template;
 ghost use Rattle.af_ops.specs.declared.status.Status.TheVariants as status;
 ghost use Rattle.af_role.specs.declared.action.Action.TheVariants.{Read, Edit};
 ghost use Rattle.af_role.specs.declared.resource.ResourceKind.TheVariants.{DagRuns, TaskInstances};
@@ -89,22 +89,22 @@ pub fn routes_by_the_rule()
     ensures get { method_of (codes "GET") ≡ Some Get }
     ensures small { method_of (codes "get") ≡ None }
     ensures head { method_of (codes "HEAD") ≡ None }
-    ensures post { endpoint_at Post place.Dag ≡ None }
-    ensures methods { methods_at place.Dag ≡ record { get = true; post = false; patch = true; delete = false } }
-    ensures path { spelled (segments_of place.Dag) ≡ codes "/api/v1/dags/{dag_id}" }
+    ensures post { endpoint_at Post template.Dag ≡ None }
+    ensures methods { methods_at template.Dag ≡ record { get = true; post = false; patch = true; delete = false } }
+    ensures path { spelled (segments_of template.Dag) ≡ codes "/api/v1/dags/{dag_id}" }
     ensures one { call_of_row endpoint.GetDag (codes "b" ∷ []) [] (codes "{") ≡ Some (call.State (op.GetDag (codes "b"))) }
     ensures body { call_of_row endpoint.PauseDag (codes "b" ∷ []) [] (codes "{") ≡ Some (call.State (op.PauseDag (codes "b") (Err BadBody))) }
     ensures no_id { call_of_row endpoint.GetDag (codes "a b" ∷ []) [] [] ≡ None }
     ensures each_dag { call_of_row endpoint.PauseDag (codes "~" ∷ []) [] (codes "{}") ≡ None }
     ensures all { call_of_row endpoint.ListRuns (codes "~" ∷ []) [] [] ≡ Some (call.State (op.ListRuns None (window_of []))) }
     ensures one_of_all { call_of_row endpoint.ListRuns (codes "b" ∷ []) [] [] ≡ Some (call.State (op.ListRuns (Some (codes "b")) (window_of []))) }
-    ensures all_listed { are_names (Some Get) place.Runs (codes "~" ∷ []) ≡ true }
-    ensures none_triggered { are_names (Some Post) place.Runs (codes "~" ∷ []) ≡ false }
-    ensures no_method { are_names None place.Runs (codes "~" ∷ []) ≡ false }
+    ensures all_listed { are_names (Some Get) template.Runs (codes "~" ∷ []) ≡ true }
+    ensures none_triggered { are_names (Some Post) template.Runs (codes "~" ∷ []) ≡ false }
+    ensures no_method { are_names None template.Runs (codes "~" ∷ []) ≡ false }
     ensures run { call_of_row endpoint.GetRun (codes "b" ∷ codes "r~1" ∷ []) [] [] ≡ Some (call.State (op.GetRun (codes "b") (codes "r~1"))) }
     ensures no_run { call_of_row endpoint.GetRun (codes "b" ∷ codes "~" ∷ []) [] [] ≡ None }
-    ensures run_path { spelled (segments_of place.Run) ≡ codes "/api/v1/dags/{dag_id}/dagRuns/{dag_run_id}" }
-    ensures run_methods { methods_at place.Runs ≡ record { get = true; post = true; patch = false; delete = false } }
+    ensures run_path { spelled (segments_of template.Run) ≡ codes "/api/v1/dags/{dag_id}/dagRuns/{dag_run_id}" }
+    ensures run_methods { methods_at template.Runs ≡ record { get = true; post = true; patch = false; delete = false } }
     ensures no_part { call_of_row endpoint.GetDag ([] ∷ []) [] [] ≡ None }
 {}
 
@@ -169,7 +169,7 @@ pub fn triggers_by_the_rule()
 /// Who asks for the tasks of a DAG: a viewer is told them in the order of the definition, each with those that wait for it, once. A
 /// denial comes before an absence.
 pub fn tasks_by_the_rule()
-    ensures path { spelled (segments_of place.Tasks) ≡ codes "/api/v1/dags/{dag_id}/tasks" }
+    ensures path { spelled (segments_of template.Tasks) ≡ codes "/api/v1/dags/{dag_id}/tasks" }
     ensures row { call_of_row endpoint.ListTasks (codes "f" ∷ []) [] (codes "{") ≡ Some (call.State (op.ListTasks (codes "f"))) }
     ensures each_dag { call_of_row endpoint.ListTasks (codes "~" ∷ []) [] [] ≡ None }
     ensures listed { asks at_work (codes "vera") (op.ListTasks (codes "f")) ≡ tells (compact_text (listing_of (codes "tasks") (task_data waiting_told ∷ task_data waited_told ∷ []) 2)) }
@@ -187,11 +187,11 @@ pub fn instance_routes_by_the_rule()
     ensures no_part { call_of_row endpoint.GetInstance (codes "b" ∷ codes "r" ∷ []) [] [] ≡ None }
     ensures each_run { call_of_row endpoint.ListInstances (codes "b" ∷ codes "~" ∷ []) [] [] ≡ None }
     ensures each_dag { call_of_row endpoint.ListInstances (codes "~" ∷ codes "r" ∷ []) [] [] ≡ None }
-    ensures names { are_names (Some Get) place.Instance (codes "b" ∷ codes "r" ∷ codes "t" ∷ []) ≡ true }
-    ensures no_names { are_names None place.Instance (codes "b" ∷ codes "r" ∷ codes "t~1" ∷ []) ≡ false }
-    ensures path { spelled (segments_of place.Instances) ≡ codes "/api/v1/dags/{dag_id}/dagRuns/{dag_run_id}/taskInstances" }
-    ensures one_path { spelled (segments_of place.Instance) ≡ codes "/api/v1/dags/{dag_id}/dagRuns/{dag_run_id}/taskInstances/{task_id}" }
-    ensures methods { methods_at place.Instance ≡ record { get = true; post = false; patch = false; delete = false } }
+    ensures names { are_names (Some Get) template.Instance (codes "b" ∷ codes "r" ∷ codes "t" ∷ []) ≡ true }
+    ensures no_names { are_names None template.Instance (codes "b" ∷ codes "r" ∷ codes "t~1" ∷ []) ≡ false }
+    ensures path { spelled (segments_of template.Instances) ≡ codes "/api/v1/dags/{dag_id}/dagRuns/{dag_run_id}/taskInstances" }
+    ensures one_path { spelled (segments_of template.Instance) ≡ codes "/api/v1/dags/{dag_id}/dagRuns/{dag_run_id}/taskInstances/{task_id}" }
+    ensures methods { methods_at template.Instance ≡ record { get = true; post = false; patch = false; delete = false } }
 {}
 
 /// Who asks for instances: a viewer is told those of a run in the order of its DAG's tasks. A denial comes before an absence; of DAG,
@@ -232,7 +232,7 @@ pub fn marks_by_the_rule()
     ensures full_stands { asks full_later (codes "uma") (op.MarkRun (codes "b") (codes "r2") (Ok mark.Queued)) ≡ tells (compact_text (run_data second)) }
     ensures row { call_of_row endpoint.MarkRun (codes "b" ∷ codes "r~1" ∷ []) [] (codes "{") ≡ Some (call.State (op.MarkRun (codes "b") (codes "r~1") (Err BadBody))) }
     ensures no_name { call_of_row endpoint.MarkRun (codes "~" ∷ codes "r" ∷ []) [] [] ≡ None }
-    ensures methods { methods_at place.Run ≡ record { get = true; post = false; patch = true; delete = true } }
+    ensures methods { methods_at template.Run ≡ record { get = true; post = false; patch = true; delete = true } }
 {}
 
 /// What is told of marks, and their bodies: a state that a run is put into, which `running` is not.

@@ -6,7 +6,7 @@ ghost use Rattle.af_ops.specs.declared.body_fault.Member.TheVariants.{DagRunId, 
 ghost use Rattle.af_ops.specs.declared.endpoint.Endpoint.TheVariants as endpoint;
 ghost use Rattle.af_ops.specs.declared.method.Method.TheVariants.{Delete, Post};
 ghost use Rattle.af_ops.specs.declared.op.Op.TheVariants as op;
-ghost use Rattle.af_ops.specs.declared.place.Place.TheVariants as place;
+ghost use Rattle.af_ops.specs.declared.path_template.PathTemplate.TheVariants as template;
 ghost use Rattle.af_ops.specs.declared.status.Status.TheVariants as status;
 ghost use Rattle.af_role.specs.declared.action.Action.TheVariants.{Edit};
 ghost use Rattle.serde_json.specs.Written.{compact_text};
@@ -70,10 +70,10 @@ pub fn clear_bodies_by_the_rule()
     ensures row { call_of_row endpoint.ClearRun (codes "b" ∷ codes "r~1" ∷ []) [] (codes "{") ≡ Some (call.State (op.ClearRun (codes "b") (codes "r~1") (Err BadBody))) }
     ensures dag_row { call_of_row endpoint.ClearInstances (codes "b" ∷ []) [] (codes "{") ≡ Some (call.State (op.ClearInstances (codes "b") (Err BadBody))) }
     ensures no_dag { call_of_row endpoint.ClearInstances (codes "~" ∷ []) [] [] ≡ None }
-    ensures path { spelled (segments_of place.RunClear) ≡ codes "/api/v1/dags/{dag_id}/dagRuns/{dag_run_id}/clear" }
-    ensures dag_path { spelled (segments_of place.Clear) ≡ codes "/api/v1/dags/{dag_id}/clearTaskInstances" }
-    ensures methods { methods_at place.Clear ≡ record { get = false; post = true; patch = false; delete = false } }
-    ensures names { are_names (Some Post) place.RunClear (codes "b" ∷ codes "~" ∷ []) ≡ false }
+    ensures path { spelled (segments_of template.RunClear) ≡ codes "/api/v1/dags/{dag_id}/dagRuns/{dag_run_id}/clear" }
+    ensures dag_path { spelled (segments_of template.Clear) ≡ codes "/api/v1/dags/{dag_id}/clearTaskInstances" }
+    ensures methods { methods_at template.Clear ≡ record { get = false; post = true; patch = false; delete = false } }
+    ensures names { are_names (Some Post) template.RunClear (codes "b" ∷ codes "~" ∷ []) ≡ false }
 {}
 
 /// Who deletes a run: one who may edit its DAG and delete runs. Nothing is told of it; a denial comes before an absence, and both
@@ -88,5 +88,5 @@ pub fn deletes_by_the_rule()
     ensures full { asks full_later (codes "uma") (op.DeleteRun (codes "b") (codes "r2")) ≡ Refuses fault.HistoryFull }
     ensures row { call_of_row endpoint.DeleteRun (codes "b" ∷ codes "r~1" ∷ []) [] (codes "{") ≡ Some (call.State (op.DeleteRun (codes "b") (codes "r~1"))) }
     ensures no_name { call_of_row endpoint.DeleteRun (codes "b" ∷ codes "~" ∷ []) [] [] ≡ None }
-    ensures found { endpoint_at Delete place.Run ≡ Some endpoint.DeleteRun }
+    ensures found { endpoint_at Delete template.Run ≡ Some endpoint.DeleteRun }
 {}

@@ -12,7 +12,7 @@ ghost use Rattle.af_policy.specs.Samples.{bob_digest, vera_digest};
 ghost use Rattle.af_ops.specs.declared.call.Call.TheVariants.{Entries, Policy};
 ghost use Rattle.af_ops.specs.declared.endpoint.Endpoint.TheVariants as endpoint;
 ghost use Rattle.af_ops.specs.declared.method.Method.TheVariants.{Get, Post};
-ghost use Rattle.af_ops.specs.declared.place.Place.TheVariants as place;
+ghost use Rattle.af_ops.specs.declared.path_template.PathTemplate.TheVariants as template;
 ghost use Rattle.af_ops.specs.declared.policy_op.PolicyOp.TheVariants as asks;
 ghost use Rattle.af_ops.specs.declared.status.Status.TheVariants as status;
 ghost use Rattle.af_ops.specs.Calls.{call_of_row};
@@ -97,12 +97,12 @@ pub fn policy_routes_by_the_rule()
     ensures users { call_of_row endpoint.ListUsers [] (codes "offset=-1") [] ≡ Some (Policy (asks.Read (read.Bad reading.Users (bad.Parameter parameter.Offset)))) }
     ensures role { call_of_row endpoint.GetRole (codes "a b" ∷ []) [] [] ≡ Some (Policy (asks.Read (read.Role (codes "a b")))) }
     ensures no_name { call_of_row endpoint.DeleteRole ([] ∷ []) [] [] ≡ None }
-    ensures no_part { are_names (Some Get) place.User ([] ∷ []) ≡ false }
-    ensures all_dags { are_names (Some Post) place.Sync (codes "~" ∷ []) ≡ false }
-    ensures me_path { spelled (segments_of place.Me) ≡ codes "/own/me" }
-    ensures sync_path { spelled (segments_of place.Sync) ≡ codes "/own/dags/{dag_id}/sync" }
-    ensures role_path { spelled (segments_of place.Role) ≡ codes "/api/v1/roles/{role_name}" }
-    ensures sync_methods { methods_at place.Sync ≡ record { get = false; post = true; patch = false; delete = false } }
-    ensures role_methods { methods_at place.Role ≡ record { get = true; post = false; patch = true; delete = true } }
-    ensures users_methods { methods_at place.Users ≡ record { get = true; post = true; patch = false; delete = false } }
+    ensures no_part { are_names (Some Get) template.User ([] ∷ []) ≡ false }
+    ensures all_dags { are_names (Some Post) template.Sync (codes "~" ∷ []) ≡ false }
+    ensures me_path { spelled (segments_of template.Me) ≡ codes "/own/me" }
+    ensures sync_path { spelled (segments_of template.Sync) ≡ codes "/own/dags/{dag_id}/sync" }
+    ensures role_path { spelled (segments_of template.Role) ≡ codes "/api/v1/roles/{role_name}" }
+    ensures sync_methods { methods_at template.Sync ≡ record { get = false; post = true; patch = false; delete = false } }
+    ensures role_methods { methods_at template.Role ≡ record { get = true; post = false; patch = true; delete = true } }
+    ensures users_methods { methods_at template.Users ≡ record { get = true; post = true; patch = false; delete = false } }
 {}

@@ -6,7 +6,7 @@ ghost use Rattle.af_ops.specs.declared.body_fault.Member.TheVariants.{Key, Name,
 ghost use Rattle.af_ops.specs.declared.endpoint.Endpoint.TheVariants as endpoint;
 ghost use Rattle.af_ops.specs.declared.method.Method.TheVariants.{Get};
 ghost use Rattle.af_ops.specs.declared.op.Op.TheVariants as op;
-ghost use Rattle.af_ops.specs.declared.place.Place.TheVariants as place;
+ghost use Rattle.af_ops.specs.declared.path_template.PathTemplate.TheVariants as template;
 ghost use Rattle.af_ops.specs.declared.pool_op.PoolOp.TheVariants as pool_op;
 ghost use Rattle.af_ops.specs.declared.status.Status.TheVariants as status;
 ghost use Rattle.af_ops.specs.declared.variable_op.VariableOp.TheVariants as variable_op;
@@ -91,13 +91,13 @@ pub fn row_bodies_by_the_rule()
 
 /// Requests on pools and variables by the table.
 pub fn row_routes_by_the_rule()
-    ensures pools { methods_at place.Pools ≡ record { get = true; post = true; patch = false; delete = false } }
-    ensures pool { methods_at place.Pool ≡ record { get = true; post = false; patch = true; delete = true } }
-    ensures path { spelled (segments_of place.Pool) ≡ codes "/api/v1/pools/{pool_name}" }
-    ensures variable_path { spelled (segments_of place.Variable) ≡ codes "/api/v1/variables/{variable_key}" }
+    ensures pools { methods_at template.Pools ≡ record { get = true; post = true; patch = false; delete = false } }
+    ensures pool { methods_at template.Pool ≡ record { get = true; post = false; patch = true; delete = true } }
+    ensures path { spelled (segments_of template.Pool) ≡ codes "/api/v1/pools/{pool_name}" }
+    ensures variable_path { spelled (segments_of template.Variable) ≡ codes "/api/v1/variables/{variable_key}" }
     ensures one { call_of_row endpoint.GetPool (codes "a b" ∷ []) [] (codes "{") ≡ Some (call.State (op.Pool (pool_op.Get (codes "a b")))) }
     ensures no_name { call_of_row endpoint.DeletePool ([] ∷ []) [] [] ≡ None }
-    ensures no_part { are_names (Some Get) place.Variable ([] ∷ []) ≡ false }
+    ensures no_part { are_names (Some Get) template.Variable ([] ∷ []) ≡ false }
     ensures key { call_of_row endpoint.DeleteVariable (codes "%zz" ∷ []) [] [] ≡ Some (call.State (op.Variable (variable_op.Delete (codes "%zz")))) }
     ensures body { call_of_row endpoint.ChangeVariable (codes "k" ∷ []) [] (codes "{") ≡ Some (call.State (op.Variable (variable_op.Change (codes "k") (Err BadBody)))) }
 {}

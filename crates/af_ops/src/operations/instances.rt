@@ -11,7 +11,7 @@ use crate::edit::Edit;
 use crate::instance_text::InstanceRow;
 use crate::operations::shared::{cut, dag_or, run_or, window_or};
 use crate::prepared::Prepared;
-use crate::row::{listing_text, row_text};
+use crate::row::{row_text, rows_text};
 use af_graph::{Dag, TaskSpec};
 use af_listing::Window;
 use af_names::{DagId, RunId, TaskId};
@@ -87,9 +87,8 @@ fn instances_text(
     ensures { IfOk result (λ body. body.items ≡ compact_text (instances_data window dag.now.tasks run.now)) }
 {
     let told = each_told(alloc, run, dag.tasks(), run.instances.as_slice())?;
-    let rows: Vec<&InstanceRow<'_>> = told.iter().collect(alloc)?;
-    let shown = cut(rows.as_slice(), window);
-    let body = listing_text(alloc, "task_instances", shown, rows.len())?;
+    let shown = cut(told.as_slice(), window);
+    let body = rows_text(alloc, "task_instances", shown, told.len())?;
     Ok(body)
 }
 
@@ -102,7 +101,7 @@ fn each_told<'a>(
 ) -> Result<Vec<InstanceRow<'a>>, AllocError>
     ensures { IfOk result (λ told. told.items ≡ each_told run.now tasks.now instances.now) }
 {
-    let mut all = Vec::new(alloc);
+    let mut all = Vec::with_capacity(alloc, tasks.len())?;
     for place in 0..tasks.len().min(instances.len()) {
         all.push(told(run, &tasks[place], &instances[place]))?;
     }

@@ -17,7 +17,7 @@ use crate::operations::shared::{cut, input_fault, window_or};
 use crate::pool_op::PoolOp;
 use crate::pool_text::PoolRow;
 use crate::prepared::Prepared;
-use crate::row::{listing_text, row_text};
+use crate::row::{row_text, rows_text};
 use af_listing::Window;
 use af_names::PoolName;
 use af_policy::Parameter;
@@ -87,8 +87,7 @@ fn pools_text(alloc: Global, state: &State, window: Window) -> Result<Vec<u8>, A
     let all = state.pools();
     let held = state.each_held(alloc, window.limit(), window.offset())?;
     let told = each_told(alloc, cut(all, window), held.as_slice())?;
-    let rows: Vec<&PoolRow<'_>> = told.iter().collect(alloc)?;
-    let body = listing_text(alloc, "pools", rows.as_slice(), all.len())?;
+    let body = rows_text(alloc, "pools", told.as_slice(), all.len())?;
     Ok(body)
 }
 
@@ -100,7 +99,7 @@ fn each_told<'a>(
 ) -> Result<Vec<PoolRow<'a>>, AllocError>
     ensures { IfOk result (λ told. told.items ≡ listed pools.now held.now) }
 {
-    let mut all = Vec::new(alloc);
+    let mut all = Vec::with_capacity(alloc, pools.len())?;
     for place in 0..pools.len().min(held.len()) {
         all.push(beside(&pools[place], &held[place]))?;
     }

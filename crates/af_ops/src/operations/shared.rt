@@ -11,7 +11,7 @@ ghost use Rattle.af_ops.specs.Texts.{is_name};
 use crate::answer::OpFault;
 use crate::body_fault::BodyFault;
 use crate::clear::Clear;
-use crate::row::{Row, listing_text};
+use crate::row::{Row, rows_text};
 use crate::trigger::Trigger;
 use af_listing::Window;
 use af_names::{DagId, NamesDag, RunId};
@@ -121,9 +121,7 @@ pub(crate) fn page_text<T: Row>(
     requires { IsTrue (is_name name.now) }
     ensures { IfOk result (λ body. body.items ≡ compact_text (listing_of name.now (map (λ row. object_of (T.fields row)) (cut window rows.now)) (length rows.now))) }
 {
-    let shown: Vec<&T> = cut(rows, window).iter().collect(alloc)?;
-    let body = listing_text(alloc, name, shown.as_slice(), rows.len())?;
-    Ok(body)
+    rows_text(alloc, name, cut(rows, window), rows.len())
 }
 
 /// The rows of a page, of those that are shown.

@@ -10,7 +10,7 @@ use crate::answer::OpFault;
 use crate::edit::Edit;
 use crate::operations::shared::dag_or;
 use crate::prepared::Prepared;
-use crate::row::listing_text;
+use crate::row::rows_text;
 use crate::task_text::TaskRow;
 use af_graph::{Dag, TaskSpec};
 use af_names::DagId;
@@ -36,8 +36,7 @@ fn tasks_text(alloc: Global, dag: &Dag) -> Result<Vec<u8>, AllocError>
     ensures { IfOk result (λ body. body.items ≡ compact_text (tasks_data dag.now.tasks)) }
 {
     let told = first_told(alloc, dag, dag.tasks())?;
-    let rows: Vec<&TaskRow<'_>> = told.iter().collect(alloc)?;
-    let body = listing_text(alloc, "tasks", rows.as_slice(), dag.tasks().len())?;
+    let body = rows_text(alloc, "tasks", told.as_slice(), dag.tasks().len())?;
     Ok(body)
 }
 
@@ -49,7 +48,7 @@ fn first_told<'a>(
 ) -> Result<Vec<TaskRow<'a>>, AllocError>
     ensures { IfOk result (λ told. told.items ≡ first_told dag.now.tasks tasks.now) }
 {
-    let mut all = Vec::new(alloc);
+    let mut all = Vec::with_capacity(alloc, tasks.len())?;
     for place in 0..tasks.len() {
         all.push(told(dag, place, &tasks[place]))?;
     }

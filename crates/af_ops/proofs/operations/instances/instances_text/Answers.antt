@@ -1,11 +1,12 @@
-use Rattle.std.proofs.Common.{◌∙◌, codes, refl, rules}
+use Rattle.std.proofs.Common.{◌∙◌, codes, length, rules}
+use Rattle.af_listing.specs.Pages.{cut}
 use Rattle.af_ops.specs.Effects.{instances_told}
 use Rattle.af_ops.specs.Rows.{instance_fields}
-use Rattle.af_ops.proofs.PageLemmas.{listing_now}
+use Rattle.af_ops.proofs.PageLemmas.{all_same}
 use Rattle.af_ops.proofs.operations.instances.instances_text.Goals as goal
 
 pub returns : goal.returns
 returns c =
+    let told = instances_told c.args.dag.now.tasks c.args.run.now in
     c.in_ok-body.ensures
-    ∙ listing_now (codes "task_instances") (λ row. row.now) instance_fields c.args.window c.cut-shown.result.now c.in_ok-rows.rows.items (instances_told c.args.dag.now.tasks c.args.run.now) _
-    (rw (c.cut-shown.ensures, c.as_slice-2.ensures.value) refl) (search rules) (search rules)
+    ∙ all_same (codes "task_instances") instance_fields c.cut-shown.result.now (cut c.args.window told) _ (length told) (search rules) (search rules)
