@@ -7,8 +7,8 @@ use Rattle.std.proofs.lemmas.Bool.{lt-ltb, ltb-true}
 use Rattle.af_names.specs.Names.{Grammar, account_name_grammar, id_grammar, is_spelled, is_tilde, named as name_in, row_name_grammar, run_id_grammar}
 use Rattle.af_names.specs.declared.name_error.NameError.TheVariants.{BadName, TooLong}
 use Rattle.af_ops.specs.declared.method.Method.{Method}
-use Rattle.af_ops.specs.declared.place.Place.{Place}
-use Rattle.af_ops.specs.declared.place.Place.TheVariants as place
+use Rattle.af_ops.specs.declared.path_template.PathTemplate.{PathTemplate}
+use Rattle.af_ops.specs.declared.path_template.PathTemplate.TheVariants as template
 use Rattle.af_ops.specs.Endpoints.{account_name_in, are_names, dag_id_in, is_get, row_name_in, run_id_in, task_id_in}
 use Rattle.af_ops.specs.Methods.{method_of}
 use Rattle.af_ops.specs.Table.{Segment, Text, Part, segments_of}
@@ -129,36 +129,36 @@ no_part [] few long = cc
 no_part (t ∷ ts) few long = omega (arith, few)
 
 -- where a text is too long, the parts are no names
-no_names : (method : Option Method) (p : Place) (texts : List (List ℕ)) → length texts ≤ part_count (segments_of p) → list_any is_long texts ≡ true → are_names method p texts ≡ false
-no_names method place.Version texts few long = absurd (no_part texts few long)
-no_names method place.Dags texts few long = absurd (no_part texts few long)
-no_names method place.Dag texts few long = no_one texts few long
-no_names method place.Tasks texts few long = no_one texts few long
-no_names method place.Runs [] few long = cc
-no_names method place.Runs (t ∷ []) few long =
+no_names : (method : Option Method) (p : PathTemplate) (texts : List (List ℕ)) → length texts ≤ part_count (segments_of p) → list_any is_long texts ≡ true → are_names method p texts ≡ false
+no_names method template.Version texts few long = absurd (no_part texts few long)
+no_names method template.Dags texts few long = absurd (no_part texts few long)
+no_names method template.Dag texts few long = no_one texts few long
+no_names method template.Tasks texts few long = no_one texts few long
+no_names method template.Runs [] few long = cc
+no_names method template.Runs (t ∷ []) few long =
     ap (λ (b : Bool). b || (is_get method && is_tilde t)) (no_dag t [] (either_false (is_long t) long))
     ∙ ap (λ (b : Bool). is_get method && b) (no_tilde t (either_false (is_long t) long))
     ∙ both_false (is_get method)
-no_names method place.Runs (t ∷ u ∷ ts) few long = absurd (omega (arith, few))
-no_names method place.Run texts few long = no_two texts few long
-no_names method place.RunClear texts few long = no_two texts few long
-no_names method place.Instances texts few long = no_two texts few long
-no_names method place.Instance texts few long = no_three texts few long
-no_names method place.Clear texts few long = no_one texts few long
-no_names method place.Pools texts few long = absurd (no_part texts few long)
-no_names method place.Pool texts few long = no_row texts few long
-no_names method place.Variables texts few long = absurd (no_part texts few long)
-no_names method place.Variable texts few long = no_row texts few long
-no_names method place.Entries texts few long = absurd (no_part texts few long)
-no_names method place.Roles texts few long = absurd (no_part texts few long)
-no_names method place.Role texts few long = no_account texts few long
-no_names method place.Users texts few long = absurd (no_part texts few long)
-no_names method place.User texts few long = no_account texts few long
-no_names method place.Me texts few long = absurd (no_part texts few long)
-no_names method place.Sync texts few long = no_one texts few long
+no_names method template.Runs (t ∷ u ∷ ts) few long = absurd (omega (arith, few))
+no_names method template.Run texts few long = no_two texts few long
+no_names method template.RunClear texts few long = no_two texts few long
+no_names method template.Instances texts few long = no_two texts few long
+no_names method template.Instance texts few long = no_three texts few long
+no_names method template.Clear texts few long = no_one texts few long
+no_names method template.Pools texts few long = absurd (no_part texts few long)
+no_names method template.Pool texts few long = no_row texts few long
+no_names method template.Variables texts few long = absurd (no_part texts few long)
+no_names method template.Variable texts few long = no_row texts few long
+no_names method template.Entries texts few long = absurd (no_part texts few long)
+no_names method template.Roles texts few long = absurd (no_part texts few long)
+no_names method template.Role texts few long = no_account texts few long
+no_names method template.Users texts few long = absurd (no_part texts few long)
+no_names method template.User texts few long = no_account texts few long
+no_names method template.Me texts few long = absurd (no_part texts few long)
+no_names method template.Sync texts few long = no_one texts few long
 
 -- so there is no such path
-pub unfit_path : (method query body : List ℕ) (p : Place) (path : List ℕ) → IsUnfit (parts_in (segments_of p) path) → with_parts method query body p (parts_in (segments_of p) path) ≡ Err fault.NoPath
+pub unfit_path : (method query body : List ℕ) (p : PathTemplate) (path : List ℕ) → IsUnfit (parts_in (segments_of p) path) → with_parts method query body p (parts_in (segments_of p) path) ≡ Err fault.NoPath
 unfit_path method query body p path unfit = by (parts_in (segments_of p) path) (parts_few (segments_of p) path) unfit
   where
     by : (parts : Option (List (List ℕ))) → IfSome parts (λ texts. length texts ≤ part_count (segments_of p)) → IsUnfit parts → with_parts method query body p parts ≡ Err fault.NoPath

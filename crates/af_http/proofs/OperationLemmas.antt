@@ -5,8 +5,8 @@ use Rattle.af_ops.specs.declared.call.Call.{Call}
 use Rattle.af_ops.specs.declared.endpoint.Endpoint.{Endpoint}
 use Rattle.af_ops.specs.declared.method.Method.{Method}
 use Rattle.af_ops.specs.declared.method.Method.TheVariants.{Get, Post, Patch, Delete}
-use Rattle.af_ops.specs.declared.place.Place.{Place}
-use Rattle.af_ops.specs.declared.place.Place.TheVariants as place
+use Rattle.af_ops.specs.declared.path_template.PathTemplate.{PathTemplate}
+use Rattle.af_ops.specs.declared.path_template.PathTemplate.TheVariants as template
 use Rattle.af_ops.specs.Calls.{call_of_row}
 use Rattle.af_ops.specs.Endpoints.{account_name_in, are_names, both, dag_id_in, is_all, row_name_in, run_id_in, task_id_in}
 use Rattle.af_ops.specs.Methods.{method_of}
@@ -39,95 +39,95 @@ some_if f None false y = refl
 some_if f (Some x) true y = refl
 some_if f (Some x) false y = refl
 
-abbrev Agrees : Method → Place → List (List ℕ) → List ℕ → List ℕ → Option Endpoint → Type 0
+abbrev Agrees : Method → PathTemplate → List (List ℕ) → List ℕ → List ℕ → Option Endpoint → Type 0
 Agrees method p parts query body None = ⊤
 Agrees method p parts query body (Some endpoint) = are_names (Some method) p parts ≡ is_some (call_of_row endpoint parts query body)
 
-agrees : (method : Method) (p : Place) (parts : List (List ℕ)) (query body : List ℕ) → Agrees method p parts query body (endpoint_at method p)
-agrees Get place.Version parts query body = refl
-agrees Post place.Version parts query body = tt
-agrees Patch place.Version parts query body = tt
-agrees Delete place.Version parts query body = tt
-agrees Get place.Dags parts query body = refl
-agrees Post place.Dags parts query body = tt
-agrees Patch place.Dags parts query body = tt
-agrees Delete place.Dags parts query body = tt
-agrees Get place.Dag parts query body = some_map _ (dag_id_in parts)
-agrees Post place.Dag parts query body = tt
-agrees Patch place.Dag parts query body = some_map _ (dag_id_in parts)
-agrees Delete place.Dag parts query body = tt
-agrees Get place.Tasks parts query body = some_map _ (dag_id_in parts)
-agrees Post place.Tasks parts query body = tt
-agrees Patch place.Tasks parts query body = tt
-agrees Delete place.Tasks parts query body = tt
-agrees Get place.Runs parts query body = some_if _ (dag_id_in parts) (is_all parts) _
-agrees Post place.Runs parts query body = some_or_false _ (dag_id_in parts)
-agrees Patch place.Runs parts query body = tt
-agrees Delete place.Runs parts query body = tt
-agrees Get place.Run parts query body = some_both _ (dag_id_in parts) (run_id_in parts)
-agrees Post place.Run parts query body = tt
-agrees Patch place.Run parts query body = some_both _ (dag_id_in parts) (run_id_in parts)
-agrees Delete place.Run parts query body = some_both _ (dag_id_in parts) (run_id_in parts)
-agrees Get place.RunClear parts query body = tt
-agrees Post place.RunClear parts query body = some_both _ (dag_id_in parts) (run_id_in parts)
-agrees Patch place.RunClear parts query body = tt
-agrees Delete place.RunClear parts query body = tt
-agrees Get place.Instances parts query body = some_both _ (dag_id_in parts) (run_id_in parts)
-agrees Post place.Instances parts query body = tt
-agrees Patch place.Instances parts query body = tt
-agrees Delete place.Instances parts query body = tt
-agrees Get place.Instance parts query body = some_three _ (dag_id_in parts) (run_id_in parts) (task_id_in parts)
-agrees Post place.Instance parts query body = tt
-agrees Patch place.Instance parts query body = tt
-agrees Delete place.Instance parts query body = tt
-agrees Get place.Clear parts query body = tt
-agrees Post place.Clear parts query body = some_map _ (dag_id_in parts)
-agrees Patch place.Clear parts query body = tt
-agrees Delete place.Clear parts query body = tt
-agrees Get place.Pools parts query body = refl
-agrees Post place.Pools parts query body = refl
-agrees Patch place.Pools parts query body = tt
-agrees Delete place.Pools parts query body = tt
-agrees Get place.Pool parts query body = some_map _ (row_name_in parts)
-agrees Post place.Pool parts query body = tt
-agrees Patch place.Pool parts query body = some_map _ (row_name_in parts)
-agrees Delete place.Pool parts query body = some_map _ (row_name_in parts)
-agrees Get place.Variables parts query body = refl
-agrees Post place.Variables parts query body = refl
-agrees Patch place.Variables parts query body = tt
-agrees Delete place.Variables parts query body = tt
-agrees Get place.Variable parts query body = some_map _ (row_name_in parts)
-agrees Post place.Variable parts query body = tt
-agrees Patch place.Variable parts query body = some_map _ (row_name_in parts)
-agrees Delete place.Variable parts query body = some_map _ (row_name_in parts)
-agrees Get place.Entries parts query body = refl
-agrees Post place.Entries parts query body = tt
-agrees Patch place.Entries parts query body = tt
-agrees Delete place.Entries parts query body = tt
-agrees Get place.Roles parts query body = refl
-agrees Post place.Roles parts query body = refl
-agrees Patch place.Roles parts query body = tt
-agrees Delete place.Roles parts query body = tt
-agrees Get place.Role parts query body = some_map _ (account_name_in parts)
-agrees Post place.Role parts query body = tt
-agrees Patch place.Role parts query body = some_map _ (account_name_in parts)
-agrees Delete place.Role parts query body = some_map _ (account_name_in parts)
-agrees Get place.Users parts query body = refl
-agrees Post place.Users parts query body = refl
-agrees Patch place.Users parts query body = tt
-agrees Delete place.Users parts query body = tt
-agrees Get place.User parts query body = some_map _ (account_name_in parts)
-agrees Post place.User parts query body = tt
-agrees Patch place.User parts query body = some_map _ (account_name_in parts)
-agrees Delete place.User parts query body = some_map _ (account_name_in parts)
-agrees Get place.Me parts query body = refl
-agrees Post place.Me parts query body = tt
-agrees Patch place.Me parts query body = tt
-agrees Delete place.Me parts query body = tt
-agrees Get place.Sync parts query body = tt
-agrees Post place.Sync parts query body = some_map _ (dag_id_in parts)
-agrees Patch place.Sync parts query body = tt
-agrees Delete place.Sync parts query body = tt
+agrees : (method : Method) (p : PathTemplate) (parts : List (List ℕ)) (query body : List ℕ) → Agrees method p parts query body (endpoint_at method p)
+agrees Get template.Version parts query body = refl
+agrees Post template.Version parts query body = tt
+agrees Patch template.Version parts query body = tt
+agrees Delete template.Version parts query body = tt
+agrees Get template.Dags parts query body = refl
+agrees Post template.Dags parts query body = tt
+agrees Patch template.Dags parts query body = tt
+agrees Delete template.Dags parts query body = tt
+agrees Get template.Dag parts query body = some_map _ (dag_id_in parts)
+agrees Post template.Dag parts query body = tt
+agrees Patch template.Dag parts query body = some_map _ (dag_id_in parts)
+agrees Delete template.Dag parts query body = tt
+agrees Get template.Tasks parts query body = some_map _ (dag_id_in parts)
+agrees Post template.Tasks parts query body = tt
+agrees Patch template.Tasks parts query body = tt
+agrees Delete template.Tasks parts query body = tt
+agrees Get template.Runs parts query body = some_if _ (dag_id_in parts) (is_all parts) _
+agrees Post template.Runs parts query body = some_or_false _ (dag_id_in parts)
+agrees Patch template.Runs parts query body = tt
+agrees Delete template.Runs parts query body = tt
+agrees Get template.Run parts query body = some_both _ (dag_id_in parts) (run_id_in parts)
+agrees Post template.Run parts query body = tt
+agrees Patch template.Run parts query body = some_both _ (dag_id_in parts) (run_id_in parts)
+agrees Delete template.Run parts query body = some_both _ (dag_id_in parts) (run_id_in parts)
+agrees Get template.RunClear parts query body = tt
+agrees Post template.RunClear parts query body = some_both _ (dag_id_in parts) (run_id_in parts)
+agrees Patch template.RunClear parts query body = tt
+agrees Delete template.RunClear parts query body = tt
+agrees Get template.Instances parts query body = some_both _ (dag_id_in parts) (run_id_in parts)
+agrees Post template.Instances parts query body = tt
+agrees Patch template.Instances parts query body = tt
+agrees Delete template.Instances parts query body = tt
+agrees Get template.Instance parts query body = some_three _ (dag_id_in parts) (run_id_in parts) (task_id_in parts)
+agrees Post template.Instance parts query body = tt
+agrees Patch template.Instance parts query body = tt
+agrees Delete template.Instance parts query body = tt
+agrees Get template.Clear parts query body = tt
+agrees Post template.Clear parts query body = some_map _ (dag_id_in parts)
+agrees Patch template.Clear parts query body = tt
+agrees Delete template.Clear parts query body = tt
+agrees Get template.Pools parts query body = refl
+agrees Post template.Pools parts query body = refl
+agrees Patch template.Pools parts query body = tt
+agrees Delete template.Pools parts query body = tt
+agrees Get template.Pool parts query body = some_map _ (row_name_in parts)
+agrees Post template.Pool parts query body = tt
+agrees Patch template.Pool parts query body = some_map _ (row_name_in parts)
+agrees Delete template.Pool parts query body = some_map _ (row_name_in parts)
+agrees Get template.Variables parts query body = refl
+agrees Post template.Variables parts query body = refl
+agrees Patch template.Variables parts query body = tt
+agrees Delete template.Variables parts query body = tt
+agrees Get template.Variable parts query body = some_map _ (row_name_in parts)
+agrees Post template.Variable parts query body = tt
+agrees Patch template.Variable parts query body = some_map _ (row_name_in parts)
+agrees Delete template.Variable parts query body = some_map _ (row_name_in parts)
+agrees Get template.Entries parts query body = refl
+agrees Post template.Entries parts query body = tt
+agrees Patch template.Entries parts query body = tt
+agrees Delete template.Entries parts query body = tt
+agrees Get template.Roles parts query body = refl
+agrees Post template.Roles parts query body = refl
+agrees Patch template.Roles parts query body = tt
+agrees Delete template.Roles parts query body = tt
+agrees Get template.Role parts query body = some_map _ (account_name_in parts)
+agrees Post template.Role parts query body = tt
+agrees Patch template.Role parts query body = some_map _ (account_name_in parts)
+agrees Delete template.Role parts query body = some_map _ (account_name_in parts)
+agrees Get template.Users parts query body = refl
+agrees Post template.Users parts query body = refl
+agrees Patch template.Users parts query body = tt
+agrees Delete template.Users parts query body = tt
+agrees Get template.User parts query body = some_map _ (account_name_in parts)
+agrees Post template.User parts query body = tt
+agrees Patch template.User parts query body = some_map _ (account_name_in parts)
+agrees Delete template.User parts query body = some_map _ (account_name_in parts)
+agrees Get template.Me parts query body = refl
+agrees Post template.Me parts query body = tt
+agrees Patch template.Me parts query body = tt
+agrees Delete template.Me parts query body = tt
+agrees Get template.Sync parts query body = tt
+agrees Post template.Sync parts query body = some_map _ (dag_id_in parts)
+agrees Patch template.Sync parts query body = tt
+agrees Delete template.Sync parts query body = tt
 
 reads_if_named : (o : Option Call) (b : Bool) → b ≡ is_some o → (if b then ok_or o fault.NoPath else Err fault.NoPath) ≡ ok_or o fault.NoPath
 reads_if_named None true is = refl
@@ -136,7 +136,7 @@ reads_if_named (Some x) true is = refl
 reads_if_named (Some x) false is = cc
 
 -- where the path has the method, what its operation reads is all
-pub named_read : (method query body : List ℕ) (p : Place) (parts : List (List ℕ)) (endpoint : Endpoint) → endpoint_of method p ≡ Some endpoint → named method query body p parts ≡ read endpoint parts query body
+pub named_read : (method query body : List ℕ) (p : PathTemplate) (parts : List (List ℕ)) (endpoint : Endpoint) → endpoint_of method p ≡ Some endpoint → named method query body p parts ≡ read endpoint parts query body
 named_read method query body p parts endpoint is = by (method_of method) is
   where
     by : (m : Option Method) → option_and_then (λ it. endpoint_at it p) m ≡ Some endpoint

@@ -4,10 +4,10 @@ use Rattle.std.specs.Prelude.{bytes_eq, ◌||◌}
 use Rattle.std.specs.List.{find}
 use Rattle.std.proofs.lemmas.Bool.{eq-eqb, ne_eqb, eqb-true, and_parts}
 use Rattle.std.proofs.lemmas.Slice.Eq.{bytes_eq-Decides}
-use Rattle.af_ops.specs.declared.place.Place.{Place}
-use Rattle.af_ops.specs.declared.place.Place.TheVariants as place
-use Rattle.af_ops.specs.Table.{Segment, Text, Part, segments_of, places, place_rank}
-use Rattle.af_http.specs.Routes.{before, onward, has_form, place_of, stands_for}
+use Rattle.af_ops.specs.declared.path_template.PathTemplate.{PathTemplate}
+use Rattle.af_ops.specs.declared.path_template.PathTemplate.TheVariants as template
+use Rattle.af_ops.specs.Table.{Segment, Text, Part, segments_of, templates, template_rank}
+use Rattle.af_http.specs.Routes.{before, onward, has_form, template_of, stands_for}
 
 -- ---- cutting
 
@@ -77,69 +77,69 @@ never (Part n ∷ ss) (u ∷ us) (b ∷ path) a f g =
     never ss us (onward 47 path) a (two_of (b == 47) (stands_for (Part n) (before 47 path)) (has_form ss (onward 47 path)) f).1
     (two_of (b == 47) (stands_for u (before 47 path)) (has_form us (onward 47 path)) g).1
 
--- a place by its rank
-abbrev place_at : ℕ → Place
-place_at rank = get_or places rank place.Version
+-- a template by its rank
+abbrev template_at : ℕ → PathTemplate
+template_at rank = get_or templates rank template.Version
 
-ranked : (p : Place) → place_at (place_rank p) ≡ p
-ranked place.Version = refl
-ranked place.Dags = refl
-ranked place.Dag = refl
-ranked place.Tasks = refl
-ranked place.Runs = refl
-ranked place.Run = refl
-ranked place.RunClear = refl
-ranked place.Instances = refl
-ranked place.Instance = refl
-ranked place.Clear = refl
-ranked place.Pools = refl
-ranked place.Pool = refl
-ranked place.Variables = refl
-ranked place.Variable = refl
-ranked place.Entries = refl
-ranked place.Roles = refl
-ranked place.Role = refl
-ranked place.Users = refl
-ranked place.User = refl
-ranked place.Me = refl
-ranked place.Sync = refl
+ranked : (p : PathTemplate) → template_at (template_rank p) ≡ p
+ranked template.Version = refl
+ranked template.Dags = refl
+ranked template.Dag = refl
+ranked template.Tasks = refl
+ranked template.Runs = refl
+ranked template.Run = refl
+ranked template.RunClear = refl
+ranked template.Instances = refl
+ranked template.Instance = refl
+ranked template.Clear = refl
+ranked template.Pools = refl
+ranked template.Pool = refl
+ranked template.Variables = refl
+ranked template.Variable = refl
+ranked template.Entries = refl
+ranked template.Roles = refl
+ranked template.Role = refl
+ranked template.Users = refl
+ranked template.User = refl
+ranked template.Me = refl
+ranked template.Sync = refl
 
--- the place is in the list, and those before it are apart from it
-abbrev is_first : List Place → Place → Bool
+-- the template is in the list, and those before it are apart from it
+abbrev is_first : List PathTemplate → PathTemplate → Bool
 is_first [] p = false
-is_first (q ∷ qs) p = (place_rank q == place_rank p) || (apart (segments_of q) (segments_of p) && is_first qs p)
+is_first (q ∷ qs) p = (template_rank q == template_rank p) || (apart (segments_of q) (segments_of p) && is_first qs p)
 
-first_place : (p : Place) → is_first places p ≡ true
-first_place place.Version = refl
-first_place place.Dags = refl
-first_place place.Dag = refl
-first_place place.Tasks = refl
-first_place place.Runs = refl
-first_place place.Run = refl
-first_place place.RunClear = refl
-first_place place.Instances = refl
-first_place place.Instance = refl
-first_place place.Clear = refl
-first_place place.Pools = refl
-first_place place.Pool = refl
-first_place place.Variables = refl
-first_place place.Variable = refl
-first_place place.Entries = refl
-first_place place.Roles = refl
-first_place place.Role = refl
-first_place place.Users = refl
-first_place place.User = refl
-first_place place.Me = refl
-first_place place.Sync = refl
+first_template : (p : PathTemplate) → is_first templates p ≡ true
+first_template template.Version = refl
+first_template template.Dags = refl
+first_template template.Dag = refl
+first_template template.Tasks = refl
+first_template template.Runs = refl
+first_template template.Run = refl
+first_template template.RunClear = refl
+first_template template.Instances = refl
+first_template template.Instance = refl
+first_template template.Clear = refl
+first_template template.Pools = refl
+first_template template.Pool = refl
+first_template template.Variables = refl
+first_template template.Variable = refl
+first_template template.Entries = refl
+first_template template.Roles = refl
+first_template template.Role = refl
+first_template template.Users = refl
+first_template template.User = refl
+first_template template.Me = refl
+first_template template.Sync = refl
 
-abbrev Finds : List Place → List ℕ → Place → Type 0
+abbrev Finds : List PathTemplate → List ℕ → PathTemplate → Type 0
 Finds ps path p = find (λ q. has_form (segments_of q) path) ps ≡ Some p
 
-found_at : (q : Place) (qs : List Place) (p : Place) (path : List ℕ) (c : Bool) → (place_rank q == place_rank p) ≡ c
+found_at : (q : PathTemplate) (qs : List PathTemplate) (p : PathTemplate) (path : List ℕ) (c : Bool) → (template_rank q == template_rank p) ≡ c
     → (c || (apart (segments_of q) (segments_of p) && is_first qs p)) ≡ true → has_form (segments_of p) path ≡ true
     → (is_first qs p ≡ true → Finds qs path p) → Finds (q ∷ qs) path p
 found_at q qs p path true e j h more =
-    let same : q ≡ p = sym (ranked q) ∙ ap place_at (eqb-true (place_rank q) (place_rank p) e) ∙ ranked p in
+    let same : q ≡ p = sym (ranked q) ∙ ap template_at (eqb-true (template_rank q) (template_rank p) e) ∙ ranked p in
     ap (λ t. cond t (Some q) (find (λ r. has_form (segments_of r) path) qs)) (ap (λ r. has_form (segments_of r) path) same ∙ h) ∙ ap Some same
 found_at q qs p path false e j h more =
     let both = and_parts (apart (segments_of q) (segments_of p)) (is_first qs p) j in
@@ -150,9 +150,9 @@ found_at q qs p path false e j h more =
     skipped true e a k = absurd (never (segments_of q) (segments_of p) path a e h)
     skipped false e a k = more k
 
-found : (ps : List Place) (p : Place) (path : List ℕ) → is_first ps p ≡ true → has_form (segments_of p) path ≡ true → Finds ps path p
+found : (ps : List PathTemplate) (p : PathTemplate) (path : List ℕ) → is_first ps p ≡ true → has_form (segments_of p) path ≡ true → Finds ps path p
 found [] p path i h = cc
-found (q ∷ qs) p path i h = found_at q qs p path (place_rank q == place_rank p) refl i h (λ j. found qs p path j h)
+found (q ∷ qs) p path i h = found_at q qs p path (template_rank q == template_rank p) refl i h (λ j. found qs p path j h)
 
-pub one_place : (path : List ℕ) (p : Place) → has_form (segments_of p) path ≡ true → place_of path ≡ Some p
-one_place path p h = found places p path (first_place p) h
+pub one_template : (path : List ℕ) (p : PathTemplate) → has_form (segments_of p) path ≡ true → template_of path ≡ Some p
+one_template path p h = found templates p path (first_template p) h

@@ -1,11 +1,16 @@
 -- Reads, one after another.
-use Rattle.std.proofs.Common.{◌≡◌, ◌+◌, ℕ, List, ◌++◌, Option, Some, None, refl, sym, ap, ◌∙◌, subst, arith}
-use Rattle.std.proofs.lemmas.List.{append-nil, append_assoc}
+use Rattle.std.proofs.Common.{◌≡◌, ◌+◌, ℕ, List, [], ◌++◌, Option, Some, None, refl, sym, ap, ◌∙◌, subst, arith}
+use Rattle.std.proofs.lemmas.List.{append-nil, append_assoc, length-append}
+use Rattle.std.proofs.lemmas.List.Sums.{sum_by-append}
 use Rattle.std.specs.Io.KnownBytes.{prepend_known, Consumes, Keeps, IsAtEnd}
 use Rattle.af_http.specs.Streams.{Given, Took, StaysKnown}
 
 pub took_none : (g : Given) → Took 0 0 0 g g
 took_none g = record {
+  sizes = [];
+  sizes_are = sym (append-nil g.sizes);
+  so_many = refl;
+  gave = omega arith;
   reads_are = omega arith;
   each_gave = omega arith;
   ends_are = omega arith;
@@ -25,7 +30,17 @@ took_more {n} {m} {ends} {failures} {a} {b} {c} x y =
     let e2 = y.ends_are in
     let f1 = x.failed in
     let f2 = y.failed in
+    let s1 = x.gave in
+    let s2 = y.gave in
+    let n1 = x.so_many in
+    let n2 = y.so_many in
+    let l = length-append x.sizes y.sizes in
+    let s = sum_by-append (λ n. n) x.sizes y.sizes in
     record {
+      sizes = x.sizes ++ y.sizes;
+      sizes_are = y.sizes_are ∙ ap (λ t. t ++ y.sizes) x.sizes_are ∙ append_assoc a.sizes x.sizes y.sizes;
+      so_many = omega (arith, l, n1, n2);
+      gave = omega (arith, s, s1, s2);
       reads_are = omega (arith, r1, r2);
       each_gave = omega (arith, g1, g2);
       ends_are = omega (arith, e1, e2);

@@ -2,9 +2,9 @@
 use Rattle.std.specs.Prelude.{ℕ, ◌≡◌, ◌+◌, List, [], ◌∷◌, ◌++◌, Bool, true, false, length, nat_lt, Option, Some, None, option_map, ⊤}
 use Rattle.std.specs.List.{list_any}
 use Rattle.af_ops.specs.Table.{Segment, Text, Part, segments_of}
-use Rattle.af_ops.specs.declared.place.Place.{Place}
+use Rattle.af_ops.specs.declared.path_template.PathTemplate.{PathTemplate}
 use Rattle.af_http.specs.Limits.{name_limit}
-use Rattle.af_http.specs.Routes.{decoded, has_form, parts_in, place_of}
+use Rattle.af_http.specs.Routes.{decoded, has_form, parts_in, template_of}
 use Rattle.af_http.specs.declared.fit.Fit.{Fit}
 use Rattle.af_http.specs.declared.fit.Fit.TheVariants.{Other, Unfit, Fits}
 
@@ -53,6 +53,6 @@ unfit true = Unfit
 unfit false = Other
 
 -- this path of the table, with these texts of its parts; or none has them
-abbrev pub IsFound : List ℕ → List (List ℕ) → Option Place → Type 0
-IsFound path texts (Some place) = (place_of path ≡ Some place) × (parts_in (segments_of place) path ≡ Some texts)
-IsFound path texts None = (place : Place) → place_of path ≡ Some place → IsUnfit (parts_in (segments_of place) path)
+abbrev pub IsFound : List ℕ → List (List ℕ) → Option PathTemplate → Type 0
+IsFound path texts (Some template) = (template_of path ≡ Some template) × (parts_in (segments_of template) path ≡ Some texts)
+IsFound path texts None = (template : PathTemplate) → template_of path ≡ Some template → IsUnfit (parts_in (segments_of template) path)

@@ -6,11 +6,11 @@ use Rattle.std.specs.Str.{is_utf8}
 use Rattle.percent_encoding.specs.Percent.{percent_decode}
 use Rattle.af_ops.specs.declared.call.Call.{Call}
 use Rattle.af_ops.specs.declared.endpoint.Endpoint.{Endpoint}
-use Rattle.af_ops.specs.declared.place.Place.{Place}
+use Rattle.af_ops.specs.declared.path_template.PathTemplate.{PathTemplate}
 use Rattle.af_ops.specs.Calls.{IsRead, call_of_row}
 use Rattle.af_ops.specs.Endpoints.{are_names}
 use Rattle.af_ops.specs.Methods.{method_of}
-use Rattle.af_ops.specs.Table.{Segment, Text, Part, segments_of, places, endpoint_at, methods_at}
+use Rattle.af_ops.specs.Table.{Segment, Text, Part, segments_of, templates, endpoint_at, methods_at}
 use Rattle.af_http.specs.declared.route_fault.RouteFault.{RouteFault}
 use Rattle.af_http.specs.declared.route_fault.RouteFault.TheVariants.{NoPath, BadMethod, OutOfMemory}
 
@@ -50,8 +50,8 @@ has_form (segment ∷ segments) (b ∷ path) =
     (b == 47) && (stands_for segment (before 47 path) && has_form segments (onward 47 path))
 
 -- the path of the table that this is
-abbrev pub place_of : List ℕ → Option Place
-place_of path = find (λ place. has_form (segments_of place) path) places
+abbrev pub template_of : List ℕ → Option PathTemplate
+template_of path = find (λ template. has_form (segments_of template) path) templates
 
 -- ---- parts
 
@@ -73,36 +73,36 @@ parts_in (Part name ∷ segments) (b ∷ path) = with_first (decoded (before 47 
 -- ---- operations
 
 -- the operation of a method at a path; methods are case-sensitive (RFC 9110, section 9.1)
-abbrev pub endpoint_of : List ℕ → Place → Option Endpoint
-endpoint_of method place = option_and_then (λ it. endpoint_at it place) (method_of method)
+abbrev pub endpoint_of : List ℕ → PathTemplate → Option Endpoint
+endpoint_of method template = option_and_then (λ it. endpoint_at it template) (method_of method)
 
 -- what an operation reads
 abbrev pub read : Endpoint → List (List ℕ) → List ℕ → List ℕ → Result Call RouteFault
 read endpoint parts query body = ok_or (call_of_row endpoint parts query body) NoPath
 
 -- at a path: what the operation of the method reads, if the path has that method
-abbrev pub by_endpoint : Place → List (List ℕ) → List ℕ → List ℕ → Option Endpoint → Result Call RouteFault
-by_endpoint place parts query body None = Err (BadMethod (methods_at place))
-by_endpoint place parts query body (Some endpoint) = read endpoint parts query body
+abbrev pub by_endpoint : PathTemplate → List (List ℕ) → List ℕ → List ℕ → Option Endpoint → Result Call RouteFault
+by_endpoint template parts query body None = Err (BadMethod (methods_at template))
+by_endpoint template parts query body (Some endpoint) = read endpoint parts query body
 
-abbrev pub by_method : List ℕ → Place → List (List ℕ) → List ℕ → List ℕ → Result Call RouteFault
-by_method method place parts query body = by_endpoint place parts query body (endpoint_of method place)
+abbrev pub by_method : List ℕ → PathTemplate → List (List ℕ) → List ℕ → List ℕ → Result Call RouteFault
+by_method method template parts query body = by_endpoint template parts query body (endpoint_of method template)
 
-abbrev pub named : List ℕ → List ℕ → List ℕ → Place → List (List ℕ) → Result Call RouteFault
-named method query body place parts = if are_names (method_of method) place parts then by_method method place parts query body else Err NoPath
+abbrev pub named : List ℕ → List ℕ → List ℕ → PathTemplate → List (List ℕ) → Result Call RouteFault
+named method query body template parts = if are_names (method_of method) template parts then by_method method template parts query body else Err NoPath
 
-abbrev pub with_parts : List ℕ → List ℕ → List ℕ → Place → Option (List (List ℕ)) → Result Call RouteFault
-with_parts method query body place None = Err NoPath
-with_parts method query body place (Some parts) = named method query body place parts
+abbrev pub with_parts : List ℕ → List ℕ → List ℕ → PathTemplate → Option (List (List ℕ)) → Result Call RouteFault
+with_parts method query body template None = Err NoPath
+with_parts method query body template (Some parts) = named method query body template parts
 
-abbrev pub at_place : List ℕ → List ℕ → List ℕ → List ℕ → Option Place → Result Call RouteFault
-at_place method path query body None = Err NoPath
-at_place method path query body (Some place) = with_parts method query body place (parts_in (segments_of place) path)
+abbrev pub at_template : List ℕ → List ℕ → List ℕ → List ℕ → Option PathTemplate → Result Call RouteFault
+at_template method path query body None = Err NoPath
+at_template method path query body (Some template) = with_parts method query body template (parts_in (segments_of template) path)
 
 -- What a method, a target and a body ask for, or why they ask for nothing: no such path, also where a part is no text or no name
 -- of its kind; then no such method.
 abbrev pub call_of : List ℕ → List ℕ → List ℕ → Result Call RouteFault
-call_of method target body = at_place method (path_of target) (query_of target) body (place_of (path_of target))
+call_of method target body = at_template method (path_of target) (query_of target) body (template_of (path_of target))
 
 abbrev pub IsAsked : Result Call RouteFault → Call → Type 0
 IsAsked (Ok wanted) call = IsRead (Some wanted) (Some call)

@@ -1,5 +1,5 @@
 -- What a reader has given and a writer has taken, from the first call to a moment.
-use Rattle.std.specs.Prelude.{◌≡◌, ◌+◌, ℕ, Bool, ◌&&◌, ◌==◌, ◌<◌, cond, nat_lt, List, ◌++◌, map, Option, Some}
+use Rattle.std.specs.Prelude.{◌≡◌, ◌+◌, ℕ, Bool, ◌&&◌, ◌==◌, ◌<◌, cond, nat_lt, List, ◌++◌, length, map, sum, Option, Some}
 use Rattle.std.specs.Io.KnownBytes.{Appends}
 use Rattle.af_http.specs.Limits.{read_room}
 
@@ -14,6 +14,8 @@ pub record Given : Type 0 where
   pub ends : ℕ
   pub failures : ℕ
   pub narrow : ℕ
+  -- how many bytes each read gave, one after another
+  pub sizes : List ℕ
   -- all bytes that come before the input ends, where they are known
   pub whole : Option (List ℕ)
 
@@ -48,8 +50,13 @@ abbrev pub IsWhole : Given → Type 0
 IsWhole g = (all : List ℕ) → g.whole ≡ Some all → all ≡ g.bytes
 
 -- So many reads from one moment to another: so many of them found the end, so many failed, and each other gave a byte. Each
--- had room for as many bytes as one of a connection has, so that no message is read in many where few would do.
+-- had room for as many bytes as one of a connection has, so that no message is read in many where few would do. What came is
+-- what these reads gave: so the first moment is the one at which the reader had given just what was there before.
 pub record Took (count ends failures : ℕ) (old new : Given) : Type 0 where
+  pub sizes : List ℕ
+  pub sizes_are : new.sizes ≡ old.sizes ++ sizes
+  pub so_many : length sizes ≡ count
+  pub gave : length new.bytes ≡ length old.bytes + sum sizes
   pub reads_are : new.reads ≡ old.reads + count
   pub each_gave : new.fruitful + ends + failures ≡ old.fruitful + count
   pub ends_are : new.ends ≡ old.ends + ends
@@ -67,6 +74,10 @@ pub record Grew (old new : Taken) : Type 0 where
 -- the bytes of a history
 abbrev pub bytes_of : List (ℕ × ℕ) → List ℕ
 bytes_of items = map (λ (p : ℕ × ℕ). p.0) items
+
+-- the numbers of another
+abbrev pub numbers_of : List (ℕ × ℕ) → List ℕ
+numbers_of items = map (λ (p : ℕ × ℕ). p.0) items
 
 -- what waits for a writer, and whether a write of it has failed
 pub record Waiting : Type 0 where

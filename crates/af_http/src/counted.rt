@@ -1,6 +1,6 @@
 ghost use Rattle.std.specs.Prelude.{◌≡◌, ◌+◌, ◌++◌, ◌∷◌, [], false, length, take};
 ghost use Rattle.std.specs.Io.KnownBytes.{prepend_known};
-ghost use Rattle.af_http.specs.Streams.{bytes_of, one_if, is_end, is_narrow};
+ghost use Rattle.af_http.specs.Streams.{bytes_of, numbers_of, one_if, is_end, is_narrow};
 
 use crate::incoming::READ_ROOM;
 use crate::stream::{Failed, Sink, Source};
@@ -22,6 +22,7 @@ pub struct Counted<T> {
     ends: Log<u8, u8>,
     failures: Log<u8, u8>,
     narrow: Log<u8, u8>,
+    sizes: Log<usize, u8>,
 }
 
 impl<T> Counted<T> {
@@ -35,6 +36,7 @@ impl<T> Counted<T> {
         ensures ends { length result.ends.items ≡ 0 }
         ensures failures { length result.failures.items ≡ 0 }
         ensures narrow { length result.narrow.items ≡ 0 }
+        ensures sizes { numbers_of result.sizes.items ≡ [] }
     {
         Counted {
             inner,
@@ -45,6 +47,7 @@ impl<T> Counted<T> {
             ends: Log::new(),
             failures: Log::new(),
             narrow: Log::new(),
+            sizes: Log::new(),
         }
     }
 
@@ -73,6 +76,13 @@ fn with_one(log: &Log<u8, u8>) -> Log<u8, u8>
     ensures { length result.items ≡ length log.now.items + 1 }
 {
     log.and(&0, &0)
+}
+
+/// The history with this number at its end.
+fn with_number(log: &Log<usize, u8>, number: usize) -> Log<usize, u8>
+    ensures { numbers_of result.items ≡ numbers_of log.now.items ++ number ∷ [] }
+{
+    log.and(&number, &0)
 }
 
 /// The same, where this is so.
@@ -104,6 +114,7 @@ impl<T: Read> Source for Counted<T> {
       ends = length s.ends.items;
       failures = length s.failures.items;
       narrow = length s.narrow.items;
+      sizes = numbers_of s.sizes.items;
       whole = prepend_known (bytes_of s.moved.items) (T.remaining s.inner);
     } };
 
@@ -120,10 +131,12 @@ impl<T: Read> Source for Counted<T> {
                 self.ends = with_one_if(log, is_end(count, buffer));
                 let log = std::mem::replace(&mut self.moved, Log::new());
                 self.moved = with_bytes(log, &buffer[..count]);
+                self.sizes = with_number(&self.sizes, count);
                 Ok(count)
             }
             Err(_) => {
                 self.failures = with_one(&self.failures);
+                self.sizes = with_number(&self.sizes, 0);
                 Err(Failed)
             }
         }

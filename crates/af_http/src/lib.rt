@@ -34,6 +34,8 @@ mod writing;
 
 pub use counted::Counted;
 pub use ended::Ended;
+pub use route_fault::RouteFault;
+pub use routes::Routes;
 pub use service::Service;
 pub use serving::serve;
 pub use stream::{Failed, Sink, Source};

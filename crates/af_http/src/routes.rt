@@ -3,13 +3,14 @@ ghost use Rattle.af_ops.specs.Segments.{seen};
 ghost use Rattle.af_ops.specs.Table.{segments_of};
 ghost use Rattle.af_http.specs.Limits.{part_limit};
 ghost use Rattle.af_http.specs.Parts.{IsFit, IsFound, IsLeftOut, IsPut, part_count, unfit};
-ghost use Rattle.af_http.specs.Routes.{IsRouted, before, endpoint_of, has_form, named, onward, call_of, parts_in, path_of, place_of, query_of, read, stands_for};
+ghost use Rattle.af_http.specs.Routes.{IsRouted, before, endpoint_of, has_form, named, onward, call_of, parts_in, path_of, template_of, query_of, read, stands_for};
 
 use crate::fit::Fit;
 use crate::parts::Parts;
 use crate::route_fault::RouteFault;
 use af_ops::{
-    Call, Endpoint, Method, PLACES, Place, Segment, are_names, endpoint_at, methods_at, read_row,
+    Call, Endpoint, Method, PATH_TEMPLATES, PathTemplate, Segment, are_names, endpoint_at,
+    methods_at, read_row,
 };
 use matchit::Router;
 use memchr::memchr;
@@ -20,7 +21,7 @@ use std::alloc::{AllocError, Global};
 #[derive(Drop)]
 pub struct Routes {
     alloc: Global,
-    router: Router<Place>,
+    router: Router<PathTemplate>,
     /// The parts of the path that is read.
     parts: Parts,
 }
@@ -112,11 +113,11 @@ fn compared(segments: &[Segment], path: &[u8], parts: &mut Parts) -> Fit
 }
 
 /// The operation of a method at a path.
-fn endpoint_of(method: &[u8], place: Place) -> Option<Endpoint>
-    ensures { result ≡ endpoint_of method.now place }
+fn endpoint_of(method: &[u8], template: PathTemplate) -> Option<Endpoint>
+    ensures { result ≡ endpoint_of method.now template }
 {
     match Method::named(method) {
-        Some(method) => endpoint_at(method, place),
+        Some(method) => endpoint_at(method, template),
         None => None,
     }
 }
@@ -143,18 +144,18 @@ fn read(
 fn named(
     alloc: Global,
     method: &[u8],
-    place: Place,
+    template: PathTemplate,
     parts: &[String],
     query: &[u8],
     body: &[u8],
 ) -> Result<Call, RouteFault>
-    ensures { IsRouted (named method.now query.now body.now place (map (λ part. string_bytes part) parts.now)) result }
+    ensures { IsRouted (named method.now query.now body.now template (map (λ part. string_bytes part) parts.now)) result }
 {
-    match endpoint_of(method, place) {
+    match endpoint_of(method, template) {
         Some(endpoint) => read(alloc, endpoint, parts, query, body),
-        None if are_names(alloc, Method::named(method), place, parts) => Err(RouteFault::BadMethod(
-            methods_at(place),
-        )),
+        None if are_names(alloc, Method::named(method), template, parts) => Err(
+            RouteFault::BadMethod(methods_at(template)),
+        ),
         None => Err(RouteFault::NoPath),
     }
 }
@@ -175,10 +176,10 @@ fn parted(target: &[u8]) -> (&[u8], &[u8])
 }
 
 /// A router of all paths of the table.
-fn router_of_places(alloc: Global) -> Result<Router<Place>, AllocError> {
+fn router_of_templates(alloc: Global) -> Result<Router<PathTemplate>, AllocError> {
     let mut router = Router::new(alloc);
-    for place in PLACES {
-        if router.insert(place.text(), place).is_err() {
+    for template in PATH_TEMPLATES {
+        if router.insert(template.text(), template).is_err() {
             return Err(AllocError);
         }
     }
@@ -188,7 +189,7 @@ fn router_of_places(alloc: Global) -> Result<Router<Place>, AllocError> {
 impl Routes {
     /// The table. It is made once for a connection.
     pub fn new(alloc: Global) -> Result<Routes, AllocError> {
-        let router = router_of_places(alloc)?;
+        let router = router_of_templates(alloc)?;
         let parts = Parts::new(alloc)?;
         Ok(Routes {
             alloc,
@@ -198,38 +199,38 @@ impl Routes {
     }
 
     /// The path of the table that the router takes this for.
-    fn likely(&self, path: &[u8]) -> Option<Place> {
+    fn likely(&self, path: &[u8]) -> Option<PathTemplate> {
         let text = str::from_utf8(path).ok()?;
         let found = self.router.at(text).ok()?;
         Some(*found.value)
     }
 
     /// The path of the table that has this form, looked for from the first on.
-    fn place_of(&self, path: &[u8]) -> Option<Place>
-        ensures { result ≡ place_of path.now }
+    fn template_of(&self, path: &[u8]) -> Option<PathTemplate>
+        ensures { result ≡ template_of path.now }
     {
-        PLACES
+        PATH_TEMPLATES
             .iter()
             .copied()
-            .find(|place| has_form(place.segments(), path))
+            .find(|template| has_form(template.segments(), path))
     }
 
     /// What a path is to the segments of a path of the table. The texts of its parts are those of this one alone.
-    fn read_parts(&mut self, place: Place, path: &[u8]) -> Fit
-        ensures { IsFit (segments_of place) path.now [] self.new.parts result }
+    fn read_parts(&mut self, template: PathTemplate, path: &[u8]) -> Fit
+        ensures { IsFit (segments_of template) path.now [] self.new.parts result }
     {
         self.parts.clear();
-        compared(place.segments(), path, &mut self.parts)
+        compared(template.segments(), path, &mut self.parts)
     }
 
     /// The path of the table that this is, with the texts of its parts; none also where one of these has no text, or one that is
     /// too long for a name.
-    fn find(&mut self, path: &[u8]) -> Option<Place>
+    fn find(&mut self, path: &[u8]) -> Option<PathTemplate>
         ensures { IsFound path.now self.new.parts result }
     {
-        if let Some(place) = self.likely(path) {
-            match self.read_parts(place, path) {
-                Fit::Fits => return Some(place),
+        if let Some(template) = self.likely(path) {
+            match self.read_parts(template, path) {
+                Fit::Fits => return Some(template),
                 Fit::Unfit => return None,
                 Fit::Other => {}
             }
@@ -239,12 +240,12 @@ impl Routes {
 
     /// The same where the router did not find it: each path of the table is tried.
     #[cold]
-    fn search(&mut self, path: &[u8]) -> Option<Place>
+    fn search(&mut self, path: &[u8]) -> Option<PathTemplate>
         ensures { IsFound path.now self.new.parts result }
     {
-        match self.place_of(path) {
-            Some(place) => match self.read_parts(place, path) {
-                Fit::Fits => Some(place),
+        match self.template_of(path) {
+            Some(template) => match self.read_parts(template, path) {
+                Fit::Fits => Some(template),
                 _ => None,
             },
             None => None,
@@ -263,10 +264,10 @@ impl Routes {
     {
         let (path, query) = parted(target);
         match self.find(path) {
-            Some(place) => named(
+            Some(template) => named(
                 self.alloc,
                 method,
-                place,
+                template,
                 self.parts.as_slice(),
                 query,
                 body,

@@ -1,4 +1,4 @@
-ghost use Rattle.std.specs.Prelude.{◌≡◌, ℕ, ◌+◌, ◌≤◌, ◌==◌, Bool, not, true, false, List, ◌++◌, length, take, IfOk, OnErr, MatchResult};
+ghost use Rattle.std.specs.Prelude.{◌≡◌, ℕ, ◌+◌, ◌≤◌, ◌==◌, Bool, not, true, false, List, [], ◌∷◌, ◌++◌, length, take, IfOk, OnErr, MatchResult};
 ghost use Rattle.std.specs.Io.KnownBytes.{Keeps, WriteAppends};
 ghost use Rattle.af_http.specs.Streams.{Given, Taken, is_end, is_narrow, one_if, StaysKnown, IsWhole};
 
@@ -17,6 +17,7 @@ pub trait Source {
         ensures bytes { IfOk result (λ n. (given self.new).bytes ≡ (given self.old).bytes ++ take n buffer.new) }
         ensures reads { (given self.new).reads ≡ (given self.old).reads + 1 }
         ensures narrow { (given self.new).narrow ≡ (given self.old).narrow + one_if (is_narrow (length buffer.new)) }
+        ensures sizes { IfOk result (λ n. (given self.new).sizes ≡ (given self.old).sizes ++ n ∷ []) }
         ensures fruitful { IfOk result (λ n. (given self.new).fruitful ≡ (given self.old).fruitful + one_if (not (n == 0))) }
         ensures ends { IfOk result (λ n. (given self.new).ends ≡ (given self.old).ends + one_if (is_end n (length buffer.new))) }
         ensures fine { IfOk result (λ n. (given self.new).failures ≡ (given self.old).failures) }
@@ -26,6 +27,7 @@ pub trait Source {
         // A read that fails gives nothing.
         ensures failed { OnErr result ((given self.new).failures ≡ (given self.old).failures + 1) }
         ensures kept { OnErr result ((given self.new).bytes ≡ (given self.old).bytes) }
+        ensures none { OnErr result ((given self.new).sizes ≡ (given self.old).sizes ++ 0 ∷ []) }
         ensures idle { OnErr result ((given self.new).fruitful ≡ (given self.old).fruitful) }
         ensures open { OnErr result ((given self.new).ends ≡ (given self.old).ends) };
 }

@@ -8,5 +8,5 @@ use Rattle.af_http.proofs.routes.named.Goals as goal
 
 pub returns-in-Some : goal.returns-in-Some
 returns-in-Some c =
-    let same = named_read c.args.method.now c.args.query.now c.args.body.now c.args.place _ c.in-Some.endpoint (sym c.endpoint_of.ensures ∙ c.in-Some.is) in
+    let same = named_read c.args.method.now c.args.query.now c.args.body.now c.args.template _ c.in-Some.endpoint (sym c.endpoint_of.ensures ∙ c.in-Some.is) in
     subst (λ (expected : Result Call RouteFault). IsRouted expected c.read.result) (sym same) c.read.ensures
