@@ -1,16 +1,19 @@
 -- What a tick leaves of a ledger.
-use Rattle.std.proofs.Common.{◌≡◌, ◌≢◌, refl, ℕ, false}
-use Rattle.std.specs.Prelude.{Err}
-use Rattle.af_sched.specs.State.{StateRows}
-use Rattle.af_sched.specs.Tick.{IsTick}
+use Rattle.std.proofs.Common.{refl, subst, sym, ℕ, Bool, true, false}
+use Rattle.std.specs.Prelude.{Err, Ok, Result}
+use Rattle.af_audit.specs.declared.act.Act.TheVariants.{Tick}
+use Rattle.af_audit.specs.declared.actor.Actor.TheVariants.{Scheduler}
 use Rattle.af_audit.specs.declared.audit_fault.AuditFault.{AuditFault}
 use Rattle.af_audit.specs.declared.audit_fault.AuditFault.TheVariants.{HistoryFull, OutOfMemory}
-use Rattle.af_audit.specs.Entries.{has_room}
-use Rattle.af_audit.specs.Ledgers.{LedgerRows}
+use Rattle.af_audit.specs.Acts.{IsState}
+use Rattle.af_audit.specs.Ledgers.{IsLedger, LedgerRows}
 use Rattle.af_audit.specs.Ticked.{IsTicked}
+use Rattle.af_audit.proofs.LedgerLemmas.{ledger_grown}
 
--- a tick that would change the state, whose entry finds no room or no memory
-pub tick_refused : (t : ℕ) (old new : LedgerRows) (next : StateRows) (fault : AuditFault) → (fault ≡ HistoryFull → has_room old.audit ≡ false) → IsTick t old.state next → next ≢ old.state → new ≡ old → IsTicked t old new (Err fault)
-tick_refused t old new next HistoryFull full tick apart same =
-    record { full = full refl; next = next; after = tick; changed = apart; ledger = same }
-tick_refused t old new next OutOfMemory full tick apart same = same
+-- what a tick leaves is as a ledger is at all times
+pub tick_kept : (t : ℕ) (old new : LedgerRows) (told : Result Bool AuditFault) → IsLedger old → IsState new.state → IsTicked t old new told → IsLedger new
+tick_kept t old new (Ok true) is state ticked =
+    subst IsLedger (sym ticked.ledger) (ledger_grown old Scheduler Tick t new.state is ticked.room refl state ticked.after)
+tick_kept t old new (Ok false) is state ticked = subst IsLedger (sym ticked.ledger) is
+tick_kept t old new (Err HistoryFull) is state ticked = subst IsLedger (sym ticked.ledger) is
+tick_kept t old new (Err OutOfMemory) is state same = subst IsLedger (sym same) is

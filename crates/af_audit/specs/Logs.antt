@@ -7,13 +7,10 @@ use Rattle.af_listing.specs.Windows.{Cut}
 use Rattle.af_ops.specs.declared.body_fault.BodyFault.{BodyFault}
 use Rattle.af_ops.specs.declared.op.Op.{Op}
 use Rattle.af_ops.specs.declared.op.Op.TheVariants as op
-use Rattle.af_ops.specs.declared.pool_op.PoolOp.{PoolOp}
-use Rattle.af_ops.specs.declared.pool_op.PoolOp.TheVariants as pool
 use Rattle.af_ops.specs.declared.trigger.Trigger.{Trigger}
-use Rattle.af_ops.specs.declared.variable_op.VariableOp.{VariableOp}
-use Rattle.af_ops.specs.declared.variable_op.VariableOp.TheVariants as variable
 use Rattle.af_ops.specs.Effects.{id_or, made_id}
 use Rattle.af_ops.specs.Endpoints.{dag_of, run_of, task_of}
+use Rattle.af_ops.specs.Events.{op_event}
 use Rattle.af_ops.specs.Fields.{Field, instant_data, listing_of, object_of}
 use Rattle.af_audit.specs.declared.act.Act.{Act}
 use Rattle.af_audit.specs.declared.act.Act.TheVariants as act
@@ -23,32 +20,7 @@ use Rattle.af_audit.specs.declared.entry.Entry.{Entry}
 use Rattle.af_audit.specs.declared.run_name.RunName.{RunName}
 use Rattle.af_audit.specs.declared.run_name.RunName.TheVariants.{Given, Made}
 
--- the event of an operation on pools; one that never changes anything has none
-abbrev pub pool_event : PoolOp → List ℕ
-pool_event (pool.Add input) = codes "post_pool"
-pool_event (pool.Change name input) = codes "patch_pool"
-pool_event (pool.Delete name) = codes "delete_pool"
-pool_event _ = []
-
--- of an operation on variables
-abbrev pub variable_event : VariableOp → List ℕ
-variable_event (variable.Add input) = codes "post_variable"
-variable_event (variable.Change key input) = codes "patch_variable"
-variable_event (variable.Delete key) = codes "delete_variable"
-variable_event _ = []
-
--- of any operation
-abbrev pub op_event : Op → List ℕ
-op_event (op.PauseDag dag_id input) = codes "patch_dag"
-op_event (op.TriggerRun dag_id input) = codes "trigger_dag_run"
-op_event (op.MarkRun dag_id run_id input) = codes "patch_dag_run"
-op_event (op.DeleteRun dag_id run_id) = codes "delete_dag_run"
-op_event (op.ClearRun dag_id run_id input) = codes "clear_dag_run"
-op_event (op.ClearInstances dag_id input) = codes "clear_task_instances"
-op_event (op.Pool it) = pool_event it
-op_event (op.Variable it) = variable_event it
-op_event _ = []
-
+-- the event of an act
 abbrev pub event_of : Act → List ℕ
 event_of (act.Did asked) = op_event asked
 event_of act.Tick = codes "tick"

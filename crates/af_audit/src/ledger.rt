@@ -1,10 +1,11 @@
-ghost use Rattle.std.specs.Prelude.{◌≡◌, ◌≤◌, IfOk};
+ghost use Rattle.std.specs.Prelude.{◌≡◌, ◌≤◌};
 ghost use Rattle.af_audit.specs.Ledgers.{IsLedger, opened};
 
 use crate::audit::Audit;
+use crate::opening_state::OpeningState;
 use crate::replaying::show_state;
 use af_sched::State;
-use std::alloc::{AllocError, Global};
+use std::alloc::Global;
 use std::marker::Model;
 
 mod answering;
@@ -14,11 +15,11 @@ mod recording;
 mod reporting;
 mod ticking;
 
-/// The state that stands, the one that it was opened with, and the entries that made it of that one: at all times it is their
-/// replay. It also keeps the policy version under which acts are decided.
+/// The state that stands, and the entries that made it of the one that it was opened with: at all times it is their replay. It also
+/// keeps the policy version under which acts are decided. The opening state stands in proofs alone: who wants to replay reads it again.
 #[derive(Drop)]
 pub struct Ledger {
-    opening: State,
+    opening: OpeningState,
     state: State,
     audit: Audit,
     version: u32,
@@ -35,26 +36,17 @@ impl Model for Ledger {
 }
 
 impl Ledger {
-    /// No entries yet, room for so many, and version 0, over this state, of which a copy stays as it is. `AllocError` only
-    /// where a growth was refused.
-    pub fn open(alloc: Global, state: State, limit: u32) -> Result<Ledger, AllocError>
-        ensures { IfOk result (λ ledger. ledger ≡ opened state.rows limit) }
+    /// No entries yet, room for so many, and version 0, over this state. It takes no memory.
+    pub fn open(alloc: Global, state: State, limit: u32) -> Ledger
+        ensures { result ≡ opened state.rows limit }
     {
-        let opening = state.copied(alloc)?;
-        show_state(&opening);
-        Ok(Ledger {
-            opening,
+        show_state(&state);
+        Ledger {
+            opening: OpeningState::of(&state),
             state,
             audit: Audit::new(alloc, limit),
             version: 0,
-        })
-    }
-
-    /// The state that it was opened with.
-    pub fn opening(&self) -> &State
-        ensures { result.now.rows ≡ self.now.opening }
-    {
-        &self.opening
+        }
     }
 
     /// The state that stands.

@@ -1,4 +1,4 @@
-ghost use Rattle.std.specs.Prelude.{◌≡◌, ◌≢◌, ◌≤◌, IfOk, Some, length, slice_get};
+ghost use Rattle.std.specs.Prelude.{◌≡◌, ◌≢◌, ◌≤◌, Some, length, slice_get};
 ghost use Rattle.std.specs.Option.{option_copied};
 ghost use Rattle.af_policy.specs.Identity.{bearer_of};
 ghost use Rattle.af_policy.specs.Rows.{PolicyRows};
@@ -20,7 +20,7 @@ use af_names::Instant;
 use af_ops::{Call, Op, Served};
 use af_policy::{Parameter, Policy, Versions};
 use af_sched::{Claim, Outcome, State};
-use std::alloc::{AllocError, Global};
+use std::alloc::Global;
 use std::marker::Model;
 
 /// The ledger of a world, which looks at versions of the policy that it borrows, and decides under the one that it looked at last. Each of
@@ -39,14 +39,13 @@ impl Model for Plane {
 }
 
 impl Plane {
-    /// No entries yet, room for as many as `history_limit`, and version 0, over this state, of which a copy is kept. `AllocError` only
-    /// where a growth was refused.
-    pub fn open(alloc: Global, state: State, history_limit: u32) -> Result<Plane, AllocError>
-        ensures { IfOk result (λ plane. plane ≡ opened state.rows history_limit) }
+    /// No entries yet, room for as many as `history_limit`, and version 0, over this state. It takes no memory.
+    pub fn open(alloc: Global, state: State, history_limit: u32) -> Plane
+        ensures { result ≡ opened state.rows history_limit }
     {
-        Ok(Plane {
-            ledger: Ledger::open(alloc, state, history_limit)?,
-        })
+        Plane {
+            ledger: Ledger::open(alloc, state, history_limit),
+        }
     }
 
     /// The ledger: the opening state, the state, the entries that made it of that one, and the version looked at.

@@ -1,4 +1,4 @@
-ghost use Rattle.std.specs.Prelude.{◌≡◌, ◌≢◌, IfOk};
+ghost use Rattle.std.specs.Prelude.{◌≡◌, ◌≢◌};
 ghost use Rattle.std.specs.Option.{option_copied};
 ghost use Rattle.af_ops.specs.declared.served.Served.TheVariants.{ReplyLost};
 ghost use Rattle.af_plane.specs.Alone.{IsAnswered};
@@ -10,7 +10,7 @@ use af_names::Instant;
 use af_ops::{Call, Op, PolicyOp, Served, answer_policy, route_of};
 use af_policy::{Parameter, Policy, Versions};
 use af_sched::State;
-use std::alloc::{AllocError, Global};
+use std::alloc::Global;
 use std::marker::Model;
 
 /// A server for one thread. What is asked of the state and of the event logs is decided on the plane, under the latest version of the policy;
@@ -33,22 +33,21 @@ impl Model for Solo {
 }
 
 impl Solo {
-    /// Opens with version 0 of the policy, the greatest number that a version may have, the state, of which a copy is kept, and the most
-    /// entries that there may be. `AllocError` only where a growth was refused.
+    /// Opens with version 0 of the policy, the greatest number that a version may have, the state, and the most entries that there may
+    /// be. It takes no memory.
     pub fn open(
         alloc: Global,
         policy: Policy,
         version_limit: u32,
         state: State,
         history_limit: u32,
-    ) -> Result<Solo, AllocError>
-        ensures { IfOk result (λ solo. solo ≡ opened (alone policy version_limit state.rows history_limit)) }
+    ) -> Solo
+        ensures { result ≡ opened (alone policy version_limit state.rows history_limit) }
     {
-        let plane = Plane::open(alloc, state, history_limit)?;
-        Ok(Solo {
+        Solo {
             versions: Versions::open(alloc, policy, version_limit),
-            plane,
-        })
+            plane: Plane::open(alloc, state, history_limit),
+        }
     }
 
     /// The versions of the policy.

@@ -1,4 +1,4 @@
-ghost use Rattle.std.specs.Prelude.{◌≡◌, IfOk};
+ghost use Rattle.std.specs.Prelude.{◌≡◌};
 ghost use Rattle.af_plane.specs.Solos.{IsSolo};
 ghost use Rattle.af_server.specs.Desks.{Decides, opened};
 
@@ -7,7 +7,7 @@ use af_http::Service;
 use af_names::Instant;
 use af_ops::{Call, Served};
 use af_plane::Solo;
-use std::alloc::{AllocError, Global};
+use std::alloc::Global;
 use std::marker::Model;
 
 /// Answers calls at one moment: a server for one thread.
@@ -27,14 +27,10 @@ impl Model for Desk {
 }
 
 impl Desk {
-    /// The desk under a configuration, at a moment, with room for as many entries and versions as the configuration lets.
-    /// `AllocError` only where a growth was refused: a copy of the state is kept.
-    pub fn open(
-        alloc: Global,
-        configuration: Configuration,
-        now: Instant,
-    ) -> Result<Desk, AllocError>
-        ensures { IfOk result (λ desk. desk ≡ opened configuration now) }
+    /// The desk under a configuration, at a moment, with room for as many entries and versions as the configuration lets. It takes no
+    /// memory.
+    pub fn open(alloc: Global, configuration: Configuration, now: Instant) -> Desk
+        ensures { result ≡ opened configuration now }
     {
         let Configuration {
             policy,
@@ -42,8 +38,8 @@ impl Desk {
             limits,
             ..
         } = configuration;
-        let solo = Solo::open(alloc, policy, limits.versions, state, limits.history)?;
-        Ok(Desk { alloc, solo, now })
+        let solo = Solo::open(alloc, policy, limits.versions, state, limits.history);
+        Desk { alloc, solo, now }
     }
 
     /// The conditions that a desk meets at all times.

@@ -36,7 +36,7 @@ pub fn once<R: Source, W: Sink>(
     ensures long { longest < length config.now → result ≡ Err Reason.Unreadable }
 {
     let configuration = Configuration::read(alloc, config)?;
-    let mut desk = Desk::open(alloc, configuration, now)?;
+    let mut desk = Desk::open(alloc, configuration, now);
     desk.conditions();
     let ended = converse(alloc, &mut desk, reader, writer);
     desk.conditions();

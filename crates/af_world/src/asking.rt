@@ -1,6 +1,6 @@
 // What is asked of the ledger under a policy, and of the versions of the policy. Each gives what is told, or `AllocError` where there
 // was no memory; then nothing was done.
-ghost use Rattle.std.specs.Prelude.{◌≡◌, ◌≤◌, IfOk, OnOk, Some, length};
+ghost use Rattle.std.specs.Prelude.{◌≡◌, ◌≤◌, IfOk, OnErr, OnOk, Some, length};
 ghost use Rattle.std.specs.Option.{option_copied};
 ghost use Rattle.af_policy.specs.Identity.{bearer_of};
 ghost use Rattle.af_ops.specs.PolicyServed.{told_of, versions_after};
@@ -29,6 +29,7 @@ pub(crate) fn ask_op(
     ensures told { IfOk result (λ shown. answer_of op.now (standing_of ledger.old).under (verdict_on policy.now ledger.old (option_copied token.entry) op.now now) ≡ Some shown) }
     ensures left { OnOk result (ledger.new ≡ ledger_left (bearer_of policy.now (option_copied token.entry)) op.now now ledger.old (verdict_on policy.now ledger.old (option_copied token.entry) op.now now)) }
     ensures version { ledger.new.version ≡ ledger.old.version }
+    ensures err { OnErr result (ledger.new ≡ ledger.old) }
 {
     verdicts_leave_one_ledger();
     match ledger.answer(alloc, policy, token, op, now) {
@@ -63,6 +64,7 @@ pub(crate) fn ask_policy(
     ensures told { IfOk result (λ shown. told_of (current versions.old) (policy_verdict versions.old (option_copied token.entry) asked.now) ≡ Some shown) }
     ensures left { OnOk result (versions.new ≡ versions_after (policy_verdict versions.old (option_copied token.entry) asked.now) versions.old) }
     ensures grown { length versions.old.earlier ≤ length versions.new.earlier }
+    ensures err { OnErr result (versions.new ≡ versions.old) }
 {
     match answer_policy(alloc, versions, token, asked) {
         Served::Shown(shown) => Ok(shown),

@@ -82,7 +82,7 @@ impl Opening {
         ensures { IfOk result (λ ledger. ledger ≡ opened self.now.state self.now.history_limit) }
     {
         let state = self.state.copied(alloc)?;
-        Ledger::open(alloc, state, self.history_limit)
+        Ok(Ledger::open(alloc, state, self.history_limit))
     }
 
     /// Each session has seen nothing.

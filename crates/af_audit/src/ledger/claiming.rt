@@ -6,13 +6,12 @@ ghost use Rattle.af_audit.specs.Claimed.{IsClaimed, IsPassedOver};
 use crate::act::Act;
 use crate::actor::Actor;
 use crate::audit_fault::AuditFault;
-use crate::copying::copied_claim;
 use crate::ledger::Ledger;
 use crate::replaying::show_state;
 use af_names::Instant;
 use af_sched::laws::a_claim_tells_the_next;
 use af_sched::{Claim, State};
-use std::alloc::Global;
+use std::alloc::{AllocError, Global};
 
 impl Ledger {
     /// Claims the first queued instance at a moment, if there is one; then there is one entry, of an executor, under the
@@ -28,7 +27,7 @@ impl Ledger {
             Ok(None) => return Ok(None),
             Err(fault) => return Err(fault),
         };
-        let Ok(kept) = copied_claim(alloc, &claim) else {
+        let Ok(kept) = copied(alloc, &claim) else {
             return Err(AuditFault::OutOfMemory);
         };
         if let Err(fault) = self
@@ -45,6 +44,22 @@ impl Ledger {
         show_state(&self.state);
         Ok(Some(claim))
     }
+}
+
+/// The same claim again. `AllocError` only where a growth was refused.
+fn copied(alloc: Global, claim: &Claim) -> Result<Claim, AllocError>
+    ensures { IfOk result (λ copy. copy ≡ claim.now) }
+{
+    let dag_id = claim.dag_id.copied(alloc)?;
+    let run_id = claim.run_id.copied(alloc)?;
+    let task_id = claim.task_id.copied(alloc)?;
+    Ok(Claim {
+        run_number: claim.run_number,
+        dag_id,
+        run_id,
+        task_id,
+        try_number: claim.try_number,
+    })
 }
 
 /// What the next claim tells, where there is room for its entry. Where there is none, whether there is a next claim is told without

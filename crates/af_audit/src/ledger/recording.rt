@@ -6,7 +6,6 @@ ghost use Rattle.af_audit.specs.Entries.{has_room, with_entry};
 use crate::act::Act;
 use crate::actor::Actor;
 use crate::audit::Audit;
-use crate::copying::copied;
 use af_names::{Instant, UserName};
 use af_ops::{Op, OpFault};
 use std::alloc::Global;
@@ -36,7 +35,7 @@ pub(crate) fn record(
         return Err(OpFault::HistoryFull);
     }
     let actor = Actor::User(user.copied(alloc)?);
-    let act = Act::Did(copied(alloc, op)?);
+    let act = Act::Did(op.copied(alloc)?);
     audit.enter(now, actor, version, act)?;
     Ok(())
 }

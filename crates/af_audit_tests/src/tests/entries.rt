@@ -216,16 +216,14 @@ fn an_audit_counts_from_one(rt: HostRuntime) -> Result<(), Fail> {
     Ok(())
 }
 
-/// The runs that there were, those that there are, and the most entries.
-fn kept(alloc: Global) -> Result<(usize, usize, u32), Fail> {
+/// The runs that there are, and the most entries.
+fn kept(alloc: Global) -> Result<(usize, u32), Fail> {
     let ledger = failed(alloc)?;
-    let before = ledger.opening().runs().len();
-    let after = ledger.state().runs().len();
-    Ok((before, after, ledger.audit().limit()))
+    Ok((ledger.state().runs().len(), ledger.audit().limit()))
 }
 
 #[test]
-fn a_ledger_keeps_what_it_was_opened_with(rt: HostRuntime) -> Result<(), Fail> {
-    assert_eq!(rt; kept(rt.alloc())?, (0, 1, 1_000_000));
+fn a_ledger_keeps_its_runs_and_its_limit(rt: HostRuntime) -> Result<(), Fail> {
+    assert_eq!(rt; kept(rt.alloc())?, (1, 1_000_000));
     Ok(())
 }

@@ -1,7 +1,7 @@
 //! A long connection of acts that a seed chooses: requests of several users, some of them denied, refused or without a change; ticks,
 //! claims and reports. Each act has one entry exactly where the state is another after it; and the entries make the state again.
 use crate::tests::asks::{ASKS, USERS};
-use crate::tests::opening::{op_at, wide_ledger};
+use crate::tests::opening::{op_at, wide_ledger, wide_state};
 use crate::tests::playing::shown_to;
 use crate::tests::rows::JANUARY;
 use crate::tests::same::is_same;
@@ -226,10 +226,9 @@ fn played(alloc: Global, stage: &mut Stage, acts: usize) -> Result<Tally, Fail> 
     Ok(tally)
 }
 
-/// Whether the entries make the state, of the opening one and of a copy of it.
+/// Whether the entries make the state, of one like that which the ledger was opened with.
 fn is_replay(alloc: Global, ledger: &Ledger) -> Result<bool, Fail> {
-    let opening = ledger.opening().copied(alloc)?;
-    let again = replay(alloc, opening, ledger.audit().entries())?;
+    let again = replay(alloc, wide_state(alloc)?, ledger.audit().entries())?;
     Ok(is_same(&again, ledger.state()))
 }
 

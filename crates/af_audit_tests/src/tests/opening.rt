@@ -85,7 +85,7 @@ fn add(alloc: Global, state: &mut State, id: &str, schedule: Option<Schedule>) -
 }
 
 /// The DAG wide, of three tasks, beside those two.
-fn wide_state(alloc: Global) -> Result<State, Fail> {
+pub fn wide_state(alloc: Global) -> Result<State, Fail> {
     let mut state = state(alloc)?;
     add_wide(alloc, &mut state)?;
     Ok(state)
@@ -99,12 +99,12 @@ fn add_wide(alloc: Global, state: &mut State) -> Result<(), Fail> {
 
 /// A ledger of the three DAGs with room for so many entries.
 pub fn wide_ledger(alloc: Global, limit: u32) -> Result<Ledger, Fail> {
-    Ok(Ledger::open(alloc, wide_state(alloc)?, limit)?)
+    Ok(Ledger::open(alloc, wide_state(alloc)?, limit))
 }
 
 /// A ledger with room for so many entries.
 pub fn ledger(alloc: Global, limit: u32) -> Result<Ledger, Fail> {
-    Ok(Ledger::open(alloc, state(alloc)?, limit)?)
+    Ok(Ledger::open(alloc, state(alloc)?, limit))
 }
 
 /// The id of the run of b that is triggered in January 2024.

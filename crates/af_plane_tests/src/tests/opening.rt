@@ -73,7 +73,7 @@ pub const MONTHLY: Due = Due {
 
 /// A plane with room for so many entries.
 pub fn plane(alloc: Global, limit: u32, due: Due) -> Result<Plane, Fail> {
-    Ok(Plane::open(alloc, state(alloc, due)?, limit)?)
+    Ok(Plane::open(alloc, state(alloc, due)?, limit))
 }
 
 /// The call of a row of the table with this part of its path, if it has one, and this body.

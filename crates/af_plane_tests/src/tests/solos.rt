@@ -133,7 +133,7 @@ const FULL: &[Row] = &[
 /// A server with room for two later versions and three entries.
 fn solo(alloc: Global) -> Result<Solo, Fail> {
     let policy = policy(alloc)?;
-    Ok(Solo::open(alloc, policy, 2, state_of_b(alloc)?, 3)?)
+    Ok(Solo::open(alloc, policy, 2, state_of_b(alloc)?, 3))
 }
 
 /// Whether what is told has this body.

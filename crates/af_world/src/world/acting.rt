@@ -1,4 +1,4 @@
-ghost use Rattle.std.specs.Prelude.{◌≡◌, IfOk};
+ghost use Rattle.std.specs.Prelude.{◌≡◌, IfOk, OnErr};
 ghost use Rattle.std.specs.Option.{option_copied};
 ghost use Rattle.af_world.specs.Acting.{acting, holds};
 ghost use Rattle.af_world.specs.Moving.{move_of};
@@ -13,7 +13,7 @@ use std::alloc::{AllocError, Global};
 
 impl World {
     /// A session that holds the plane asks for something that is decided there, under the policy of the plane's version; then nobody
-    /// holds the plane.
+    /// holds the plane. Where there was no memory the world is as before.
     pub(crate) fn act(
         &mut self,
         alloc: Global,
@@ -22,7 +22,8 @@ impl World {
         call: &Call,
         now: Instant,
     ) -> Result<Option<Shown>, AllocError>
-        ensures { IfOk result (λ answer. move_of answer self.new ≡ acting self.old session (option_copied token.entry) call.now now) }
+        ensures answer { IfOk result (λ answer. move_of answer self.new ≡ acting self.old session (option_copied token.entry) call.now now) }
+        ensures err { OnErr result (self.new ≡ self.old) }
     {
         match call {
             Call::State(op) => self.act_on_state(alloc, session, token, op, now),
@@ -40,7 +41,8 @@ impl World {
         op: &Op,
         now: Instant,
     ) -> Result<Option<Shown>, AllocError>
-        ensures { IfOk result (λ answer. move_of answer self.new ≡ acting self.old session (option_copied token.entry) (Call.State op.now) now) }
+        ensures answer { IfOk result (λ answer. move_of answer self.new ≡ acting self.old session (option_copied token.entry) (Call.State op.now) now) }
+        ensures err { OnErr result (self.new ≡ self.old) }
     {
         if !self.holds(session) || route_of(op.endpoint()).is_open {
             return Ok(None);
@@ -63,7 +65,8 @@ impl World {
         window: &Result<Window, Parameter>,
         now: Instant,
     ) -> Result<Option<Shown>, AllocError>
-        ensures { IfOk result (λ answer. move_of answer self.new ≡ acting self.old session (option_copied token.entry) (Call.Entries window.now) now) }
+        ensures answer { IfOk result (λ answer. move_of answer self.new ≡ acting self.old session (option_copied token.entry) (Call.Entries window.now) now) }
+        ensures err { OnErr result (self.new ≡ self.old) }
     {
         let _now = now;
         if !self.holds(session) {

@@ -1,4 +1,4 @@
-ghost use Rattle.std.specs.Prelude.{◌≡◌, ◌<◌, Err, IfOk, IfSome, IsNone, Ok, Some, length, if◌then◌else◌};
+ghost use Rattle.std.specs.Prelude.{◌≡◌, ◌<◌, Err, IfOk, IfSome, IsNone, Ok, OnErr, Some, length, if◌then◌else◌};
 ghost use Rattle.std.specs.Option.{option_copied};
 ghost use Rattle.af_policy.specs.Rows.{PolicyRows};
 ghost use Rattle.af_policy.specs.Versions.{decided};
@@ -25,7 +25,8 @@ impl World {
         token: Option<&[u8]>,
         asked: &PolicyOp,
     ) -> Result<Option<Shown>, AllocError>
-        ensures { IfOk result (λ answer. move_of answer self.new ≡ meeting self.old session (option_copied token.entry) asked.now) }
+        ensures answer { IfOk result (λ answer. move_of answer self.new ≡ meeting self.old session (option_copied token.entry) asked.now) }
+        ensures err { OnErr result (self.new ≡ self.old) }
     {
         match asked {
             PolicyOp::Me | PolicyOp::Read(_) => self.decide(alloc, session, token, asked),
@@ -41,7 +42,8 @@ impl World {
         token: Option<&[u8]>,
         asked: &PolicyOp,
     ) -> Result<Option<Shown>, AllocError>
-        ensures { IfOk result (λ answer. move_of answer self.new ≡ (if has_session self.old session then made self.old session (policy_verdict self.old.versions (option_copied token.entry) asked.now) else stays self.old)) }
+        ensures answer { IfOk result (λ answer. move_of answer self.new ≡ (if has_session self.old session then made self.old session (policy_verdict self.old.versions (option_copied token.entry) asked.now) else stays self.old)) }
+        ensures err { OnErr result (self.new ≡ self.old) }
     {
         if !self.has_session(session) {
             return Ok(None);
@@ -59,7 +61,8 @@ impl World {
         asked: &PolicyOp,
     ) -> Result<Shown, AllocError>
         requires { session < length self.old.sessions }
-        ensures { IfOk result (λ shown. move_of (Some shown) self.new ≡ made self.old session (policy_verdict self.old.versions (option_copied token.entry) asked.now)) }
+        ensures shown { IfOk result (λ shown. move_of (Some shown) self.new ≡ made self.old session (policy_verdict self.old.versions (option_copied token.entry) asked.now)) }
+        ensures err { OnErr result (self.new ≡ self.old) }
     {
         let shown = ask_policy(alloc, &mut self.versions, token, asked)?;
         let last = self.versions.current();
@@ -75,7 +78,8 @@ impl World {
         token: Option<&[u8]>,
         asked: &PolicyOp,
     ) -> Result<Option<Shown>, AllocError>
-        ensures { IfOk result (λ answer. move_of answer self.new ≡ publishing self.old session at (option_copied token.entry) asked.now) }
+        ensures answer { IfOk result (λ answer. move_of answer self.new ≡ publishing self.old session at (option_copied token.entry) asked.now) }
+        ensures err { OnErr result (self.new ≡ self.old) }
     {
         match asked {
             PolicyOp::Change(ask) => self.hand_in(alloc, session, at, token, ask, asked),
@@ -96,7 +100,8 @@ impl World {
         asked: &PolicyOp,
     ) -> Result<Option<Shown>, AllocError>
         requires { asked.now ≡ PolicyOp.Change ask.now }
-        ensures { IfOk result (λ answer. move_of answer self.new ≡ publishing self.old session at (option_copied token.entry) (PolicyOp.Change ask.now)) }
+        ensures answer { IfOk result (λ answer. move_of answer self.new ≡ publishing self.old session at (option_copied token.entry) (PolicyOp.Change ask.now)) }
+        ensures err { OnErr result (self.new ≡ self.old) }
     {
         if !self.has_session(session) || self.versions.policy(at).is_none() {
             return Ok(None);
@@ -114,7 +119,8 @@ impl World {
     /// Another version was made since.
     fn overtake(&mut self, alloc: Global, session: u32, ask: &Ask) -> Result<Shown, AllocError>
         requires { session < length self.old.sessions }
-        ensures { IfOk result (λ shown. move_of (Some shown) self.new ≡ overtaken self.old session ask.now) }
+        ensures shown { IfOk result (λ shown. move_of (Some shown) self.new ≡ overtaken self.old session ask.now) }
+        ensures err { OnErr result (self.new ≡ self.old) }
     {
         let last = self.versions.current();
         let shown = shown_submit_fault(alloc, ask, &SubmitFault::Moved(last), last)?;
@@ -131,7 +137,8 @@ impl World {
         ask: &Ask,
     ) -> Result<Shown, AllocError>
         requires { session < length self.old.sessions }
-        ensures { IfOk result (λ shown. (policy : PolicyRows) → policy_at self.old at ≡ Some policy → move_of (Some shown) self.new ≡ lost self.old session at ask.now (decided policy (option_copied token.entry) ask.now)) }
+        ensures shown { IfOk result (λ shown. (policy : PolicyRows) → policy_at self.old at ≡ Some policy → move_of (Some shown) self.new ≡ lost self.old session at ask.now (decided policy (option_copied token.entry) ask.now)) }
+        ensures err { OnErr result (self.new ≡ self.old) }
     {
         let Some(policy) = self.versions.policy(at) else {
             return Err(AllocError);
