@@ -11,6 +11,7 @@ import oracle_names
 import policy_cases
 import request_cases
 import state_cases
+import trace_cases
 import worked_cases
 import worked_policies
 from oracle_table import having
@@ -89,8 +90,9 @@ def fixed_cases(it, folder, write):
 
 
 class Random:
-    """The random cases, one after another: a quarter each configurations with faults, hostile requests, operations on few names, and long connections
-    in which users and roles come and go, of which every other one is replayed (where the program has what these want; else operations again)."""
+    """The random cases, one after another: a quarter each configurations with faults (every other one a trace, where the program verifies these), hostile
+    requests, operations on few names, and long connections in which users and roles come and go, of which every other one is replayed (where the program
+    has what these want; else operations again)."""
 
     def __init__(self, rng, it, write, seed):
         self.rng, self.it, self.write, self.seed, self.has = rng, it, write, seed, it.has
@@ -100,7 +102,8 @@ class Random:
             made, self.tokens = config_cases.good(self.rng)
             self.good = config_cases.written(self.rng, made)
         long = self.operations if "set_user" not in self.has else self.replayed if n % 8 == 6 and {"list_entries", "pages"} <= self.has else self.mixed
-        kinds = [self.hostile, self.operations, long, self.configuration]
+        traces = "verify" in self.has and n % 8 == 3
+        kinds = [self.hostile, self.operations, long, self.traced if traces else self.configuration]
         if n % 8 == 1:
             self.state, self.users = state_cases.config(self.rng, self.has)
             self.wide = config_cases.written(self.rng, self.state)
@@ -116,6 +119,10 @@ class Random:
     def operations(self, name):
         data = state_cases.Asker(self.rng, self.state, self.users, self.has).connection()
         self.it.case(name, [*self.write(self.wide)[:2], self.rng.choice(state_cases.NOWS)], data)
+
+    def traced(self, name):
+        made, tokens = state_cases.config(self.rng, self.has)
+        self.it.case(name, ["verify", self.write(trace_cases.Tracer(self.rng, made, tokens, self.has).trace())[1]], b"")
 
     def mixer(self):
         """Who makes a long connection, and the words of the program that is to answer it."""

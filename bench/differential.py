@@ -13,7 +13,7 @@ A case is one run of the program: words, a configuration and an input of one or 
 or hostile, few or hundreds that build on one another. Exit status, standard output and standard error must be the oracle's. The first difference is shown,
 with as few of its requests as it needs, and its configuration and input are left in bench/out/ with the command that shows it again. Standard error tells
 how many answers of each status were compared. Each answer to a whole request is also held against docs/openapi.json, where its validator is installed
-(Debian's python3-openapi-spec-validator): an answer that it does not have fails its case. The last line is `N passed, N failed`, and the status 0 only where
+(openapi-spec-validator): an answer that it does not have fails its case. The last line is `N passed, N failed`, and the status 0 only where
 nothing failed.
 """
 import argparse

@@ -9,7 +9,7 @@ It is written from the words that say what afplane does, not from its code: it r
 the operations, oracle_verdict.py the order of the rules, oracle_state.py and oracle_policy.py what is done). Its exit
 status and its words on standard error are the program's own. `--has` names the operations that there are: `landed` (where
 nothing is said), which is all that the program has, or fewer of them: `dags`, `pools`, `variables`, `limits`, `pages`,
-`audit`, `policy`, `baseline`, or single ones.
+`audit`, `policy`, `verify`, `baseline`, or single ones. Traces are verified too (oracle_world.py).
 """
 import re
 import sys
@@ -19,6 +19,7 @@ from oracle_json import compact
 from oracle_names import instant_of
 from oracle_table import LANDED, having
 from oracle_verdict import Plane as OpenPlane, decide, told
+from oracle_world import verify
 
 USAGE = "usage: afplane once CONFIG NOW | serve CONFIG PORT WORKERS | verify TRACE"
 MOST_HEAD, MOST_FIELDS, MOST_BODY, MOST_REQUESTS = 16384, 64, 65536, 1000
@@ -136,19 +137,27 @@ def Plane(config, now=0, has=LANDED):
 
 def run(words, data, has=LANDED):
     """Exit status, standard output and standard error of the program called with these words."""
-    if len(words) != 3 or words[0] != "once" or instant_of(words[2]) is None:
+    verifies = "verify" in has and len(words) == 2 and words[0] == "verify"
+    if not verifies and (len(words) != 3 or words[0] != "once" or instant_of(words[2]) is None):
         return 2, b"", f"{USAGE}\n".encode()
     try:
-        try:
-            with open(words[1], "rb") as file:
-                config = file.read(MOST_BYTES + 1)
-        except (OSError, ValueError) as fault_found:
-            raise Refused("unreadable") from fault_found
-        plane = Plane(config, instant_of(words[2]), has)
+        held = file_of(words[1])
+        if verifies:
+            return (0, b"agrees\n", b"") if verify(held, has) else (1, b"differs\n", b"")
+        plane = Plane(held, instant_of(words[2]), has)
     except Refused as why:
         return 3, b"", f"afplane: configuration refused: {why}\n".encode()
     out, closed = answers(plane, data)
     return 0 if closed else 1, out, b""
+
+
+def file_of(path):
+    """The bytes of a file, or so many that it is too long."""
+    try:
+        with open(path, "rb") as file:
+            return file.read(MOST_BYTES + 1)
+    except (OSError, ValueError) as why:
+        raise Refused("unreadable") from why
 
 
 def main():
@@ -159,7 +168,7 @@ def main():
         except ValueError as why:
             sys.exit(f"oracle.py: {why}")
         words = words[2:]
-    words = words if words[:1] == ["once"] else ["once", *words]
+    words = words if words[:1] in (["once"], ["verify"]) else ["once", *words]
     status, out, said = run(words, sys.stdin.buffer.read(), has)
     sys.stdout.buffer.write(out)
     sys.stderr.buffer.write(said)

@@ -215,6 +215,11 @@ def read_config(data, having):
         config = read_json(data)
     except ValueError as why:
         raise Refused("syntax") from why
+    return read_value(config, having)
+
+
+def read_value(config, having):
+    """The same of a value that was read already."""
     need(type(config) is dict, "shape")
     roles = read_roles(config)
     policy = Policy(roles, read_users(config, roles))
