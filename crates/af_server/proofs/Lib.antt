@@ -4,3 +4,4 @@ pub mod DeskLemmas
 pub mod AnswerLemmas
 pub mod OneWayLemmas
 pub mod LawLemmas
+pub mod VerifiedLemmas

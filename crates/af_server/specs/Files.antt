@@ -1,16 +1,19 @@
 -- What is read of a file of at most 16 MiB, to its end (this product's own rule).
 use Rattle.std.specs.Prelude.{◌≡◌, ◌<◌, ◌≤◌, ◌⊎◌, ℕ, List, ◌++◌, length}
-use Rattle.af_http.specs.Streams.{Given}
+use Rattle.af_http.specs.Streams.{Given, IsWhole, StaysKnown}
 use Rattle.af_server.specs.declared.reason.Reason.{Reason}
 use Rattle.af_server.specs.declared.reason.Reason.TheVariants.{Memory, Unreadable}
 use Rattle.af_server.specs.Configurations.{longest}
 
--- What a reader gave from one moment to another is these bytes; it found the end, no read failed, and they are not too many.
+-- What a reader gave from one moment to another is these bytes; it found the end, no read failed, and they are not too many. Where
+-- all bytes that come are known, all have come.
 pub record CameWhole (before after : Given) (bytes : List ℕ) : Type 0 where
   pub came : after.bytes ≡ before.bytes ++ bytes
   pub ended : before.ends < after.ends
   pub fine : after.failures ≡ before.failures
   pub short : length bytes ≤ longest
+  pub known : StaysKnown before.whole after.whole
+  pub all : IsWhole after
 
 -- why it can't be had: a read failed; or what the reader gave is too long; or a growth of memory was refused, and no read
 -- failed
@@ -28,6 +31,7 @@ pub record IsPiece (before after : Given) (bytes bytes' : List ℕ) : Type 0 whe
   pub ends : before.ends ≤ after.ends
   pub fine : after.failures ≡ before.failures
   pub short : length bytes' ≤ longest
+  pub known : StaysKnown before.whole after.whole
 
 -- why a piece can't be had, behind these bytes
 abbrev pub IsPieceFault : Given → Given → List ℕ → Reason → Type 0

@@ -16,4 +16,7 @@ pub mod Once
 pub mod Laws
 pub mod Commands
 pub mod Tellings
+pub mod Verified
+pub mod Verdicts
+pub mod Programs
 pub mod Worked

@@ -1,4 +1,4 @@
--- Why a configuration is refused, in one word, and which reason each fault of a row is (this product's own rule).
+-- Why a configuration or a trace is refused, in one word, and which reason each fault of a row is (this product's own rule).
 use Rattle.std.specs.Prelude.{ℕ, List, codes}
 use Rattle.af_names.specs.declared.name_error.NameError.{NameError}
 use Rattle.af_names.specs.declared.name_error.NameError.TheVariants as name
@@ -14,8 +14,10 @@ use Rattle.af_vars.specs.declared.fault.VariableFault.{VariableFault}
 use Rattle.af_vars.specs.declared.fault.VariableFault.TheVariants as variable
 use Rattle.af_sched.specs.declared.add_dag_fault.AddDagFault.{AddDagFault}
 use Rattle.af_sched.specs.declared.add_dag_fault.AddDagFault.TheVariants as add
+use Rattle.af_trace.specs.declared.trace_fault.TraceFault.{TraceFault}
+use Rattle.af_trace.specs.declared.trace_fault.TraceFault.TheVariants as trace
 use Rattle.af_server.specs.declared.reason.Reason.{Reason}
-use Rattle.af_server.specs.declared.reason.Reason.TheVariants.{Unreadable, Syntax, Shape, Name, Duplicate, Role, Action, Pair, Admin, Pool, Graph, Schedule, Limit, Memory}
+use Rattle.af_server.specs.declared.reason.Reason.TheVariants.{Unreadable, Syntax, Shape, Name, Duplicate, Role, Action, Pair, Admin, Pool, Graph, Schedule, Limit, Memory, Trace}
 
 abbrev pub reason_text : Reason → List ℕ
 reason_text Unreadable = codes "unreadable"
@@ -32,6 +34,7 @@ reason_text Graph = codes "graph"
 reason_text Schedule = codes "schedule"
 reason_text Limit = codes "limit"
 reason_text Memory = codes "memory"
+reason_text Trace = codes "trace"
 
 -- a text that is no name
 abbrev pub name_reason : NameError → Reason
@@ -95,3 +98,8 @@ change_reason change.RoleInUse = Role
 change_reason change.LastAdmin = Admin
 change_reason change.TooMany = Limit
 change_reason change.OutOfMemory = Memory
+
+-- a value that is no trace
+abbrev pub trace_reason : TraceFault → Reason
+trace_reason trace.Form = Trace
+trace_reason trace.OutOfMemory = Memory

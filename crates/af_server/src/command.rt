@@ -1,7 +1,7 @@
 // The words that the program is given.
 ghost use Rattle.std.specs.Prelude.{◌≡◌, map, option_map, string_bytes};
 ghost use Rattle.std.specs.Vec.Iter.{into_iter_items};
-ghost use Rattle.af_server.specs.Commands.{Asks, AsksOnce, three_words};
+ghost use Rattle.af_server.specs.Commands.{Asks, AsksOf, AsksOnce, few_words};
 
 use af_names::Instant;
 use std::env;
@@ -11,6 +11,8 @@ use std::env;
 pub enum Command {
     /// One connection from standard input to standard output, under the configuration at this path, at this moment.
     Once { config: String, now: Instant },
+    /// Whether the answers of the trace at this path are those of the run of its steps.
+    Verify { trace: String },
     /// Anything else.
     Usage,
 }
@@ -20,11 +22,19 @@ impl Command {
     pub fn of_words(words: env::Args) -> Command
         ensures { Asks (map string_bytes (into_iter_items words)) result }
     {
-        match three(words) {
-            Some((verb, config, now)) if verb.as_str() == "once" => Command::once(
-                config,
-                now.as_str(),
-            ),
+        match few(words) {
+            Some((verb, path, moment)) => Command::of(verb.as_str(), path, moment),
+            None => Command::Usage,
+        }
+    }
+
+    /// What this verb, a path and perhaps a moment ask for.
+    fn of(verb: &str, path: String, moment: Option<String>) -> Command
+        ensures { AsksOf verb.now (string_bytes path) (option_map string_bytes moment) result }
+    {
+        match moment {
+            None if verb == "verify" => Command::Verify { trace: path },
+            Some(now) if verb == "once" => Command::once(path, now.as_str()),
             _ => Command::Usage,
         }
     }
@@ -40,17 +50,17 @@ impl Command {
     }
 }
 
-/// The words after the program's name, where they are three.
-fn three(mut words: env::Args) -> Option<(String, String, String)>
-    ensures { option_map (λ found. (string_bytes found.0, string_bytes found.1, string_bytes found.2)) result
-        ≡ three_words (map string_bytes (into_iter_items words)) }
+/// The words after the program's name, where they are two or three.
+fn few(mut words: env::Args) -> Option<(String, String, Option<String>)>
+    ensures { option_map (λ found. (string_bytes found.0, string_bytes found.1, option_map string_bytes found.2)) result
+        ≡ few_words (map string_bytes (into_iter_items words)) }
 {
     let _program = words.next()?;
     let verb = words.next()?;
-    let config = words.next()?;
-    let now = words.next()?;
+    let path = words.next()?;
+    let moment = words.next();
     match words.next() {
         Some(_) => None,
-        None => Some((verb, config, now)),
+        None => Some((verb, path, moment)),
     }
 }

@@ -93,7 +93,7 @@ impl Configuration {
     }
 
     /// Reads what a JSON value says. Of one that is no object the reason is told, memory or not.
-    fn of_value(alloc: Global, value: &Json<'_>) -> Result<Configuration, Reason>
+    pub(crate) fn of_value(alloc: Global, value: &Json<'_>) -> Result<Configuration, Reason>
         ensures read { OrMemory Reason.Memory (configuration_in (view value.now)) result }
         ensures memory { result ≡ Err Reason.Memory → is_some (as_object (view value.now)) ≡ true }
     {
@@ -115,7 +115,11 @@ impl Configuration {
 }
 
 /// The JSON value that the bytes are the text of.
-fn parse<'a>(alloc: Global, bytes: &'a [u8], scratch: &'a mut Scratch) -> Result<Json<'a>, Reason>
+pub fn parse<'a>(
+    alloc: Global,
+    bytes: &'a [u8],
+    scratch: &'a mut Scratch,
+) -> Result<Json<'a>, Reason>
     ensures { OrMemory Reason.Memory (ok_or (json_of bytes.now) Reason.Syntax) (seen view result) }
 {
     json_in(alloc, bytes, scratch)?.ok_or(Reason::Syntax)

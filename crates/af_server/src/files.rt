@@ -1,5 +1,7 @@
-// A file of at most 16 MiB.
-ghost use Rattle.std.specs.Prelude.{◌≡◌, ◌≤◌, ◌<◌, ◌⊎◌, true, false, length, vec_len, IfOk, IfErr};
+// Files of at most 16 MiB.
+ghost use Rattle.std.specs.Prelude.{◌≡◌, ◌≢◌, ◌≤◌, ◌<◌, ◌⊎◌, ℕ, List, [], true, false, length, vec_len, IfOk, IfErr};
+ghost use Rattle.std.specs.IoError.{error_kind};
+ghost use Rattle.af_http.specs.Streams.{Given, IsWhole};
 ghost use Rattle.af_server.specs.Configurations.{longest};
 ghost use Rattle.af_server.specs.Files.{CameWhole, IsFileFault, IsPiece, IsPieceFault};
 ghost use Rattle.af_server.specs.declared.reason.Reason.{Reason};
@@ -9,19 +11,53 @@ use crate::reason::Reason;
 use af_http::{Counted, Source};
 use std::alloc::Global;
 use std::fs::File;
-use std::io::ErrorKind;
+use std::io::{self, ErrorKind};
 
 /// How many bytes are read at once, at most.
 const PIECE: usize = 16 * 1024;
 
-/// The file at a path. `Memory` only where a growth was refused; else `Unreadable`.
-pub fn open(rt: &HostRuntime, path: &str) -> Result<Counted<File>, Reason>
-    ensures { IfErr result (λ reason. (reason ≡ Reason.Unreadable) ⊎ (reason ≡ Reason.Memory)) }
+/// Where files are found.
+pub trait Files {
+    /// A reader of a file.
+    type File: Source + Drop;
+
+    /// Whether a reader of the file at a path, of which nothing was read yet, may have given this.
+    ghost holds: { Self → List ℕ → Given → Type 0 };
+
+    /// Whether the file at a path may not be opened for this reason.
+    ghost refuses: { Self → List ℕ → Reason → Type 0 };
+
+    /// Opens the file at a path.
+    fn open(&self, path: &str) -> Result<Self::File, Reason>
+        ensures opened { IfOk result (λ file. holds self.now path.now (Self.File.given file)) }
+        ensures refused { IfErr result (λ reason. refuses self.now path.now reason) };
+}
+
+/// The machine's files. Nothing is said of what they hold. `Memory` only where the system says so, else `Unreadable`.
+impl Files for HostRuntime {
+    type File = Counted<File>;
+
+    ghost holds = { λ machine path given. given.bytes ≡ [] };
+
+    ghost refuses = { λ machine path reason. (reason ≡ Reason.Unreadable) ⊎ (reason ≡ Reason.Memory) };
+
+    fn open(&self, path: &str) -> Result<Counted<File>, Reason> {
+        match File::open(self, path) {
+            Ok(file) => Ok(Counted::new(file)),
+            Err(error) => Err(open_fault(&error)),
+        }
+    }
+}
+
+/// Why a file that the system does not open is refused: `Memory` where the system wants memory, else `Unreadable`.
+pub fn open_fault(error: &io::Error) -> Reason
+    ensures memory { error_kind error.now ≡ ErrorKind.OutOfMemory → result ≡ Reason.Memory }
+    ensures unreadable { error_kind error.now ≢ ErrorKind.OutOfMemory → result ≡ Reason.Unreadable }
 {
-    match File::open(rt, path) {
-        Ok(file) => Ok(Counted::new(file)),
-        Err(error) if error.kind() == ErrorKind::OutOfMemory => Err(Reason::Memory),
-        Err(_) => Err(Reason::Unreadable),
+    if error.kind() == ErrorKind::OutOfMemory {
+        Reason::Memory
+    } else {
+        Reason::Unreadable
     }
 }
 
@@ -42,6 +78,7 @@ fn read_piece<F: Source>(file: &mut F, bytes: &mut Vec<u8>) -> Result<bool, Reas
     ensures piece { IfOk result (λ _. IsPiece (F.given file.old) (F.given file.new) bytes.old.items bytes.new.items) }
     ensures more { IfOk result (λ more. more ≡ true → length bytes.old.items < length bytes.new.items) }
     ensures end { IfOk result (λ more. more ≡ false → (F.given file.old).ends < (F.given file.new).ends) }
+    ensures all { IfOk result (λ more. more ≡ false → IsWhole (F.given file.new)) }
     ensures fault { IfErr result (IsPieceFault (F.given file.old) (F.given file.new) bytes.old.items) }
 {
     let mut room = [0; PIECE];

@@ -1,16 +1,17 @@
 ghost use Rattle.std.specs.Prelude.{◌≡◌};
 ghost use Rattle.af_server.specs.declared.reason.Reason.TheVariants.{Memory};
-ghost use Rattle.af_server.specs.Reasons.{change_reason, name_reason, reason_text, row_reason, dag_reason, graph_reason, pool_reason, variable_reason};
+ghost use Rattle.af_server.specs.Reasons.{change_reason, name_reason, reason_text, row_reason, dag_reason, graph_reason, pool_reason, trace_reason, variable_reason};
 
 use af_graph::DagFault;
 use af_names::NameError;
 use af_policy::{ChangeFault, RowFault};
 use af_pool::PoolFault;
 use af_sched::AddDagFault;
+use af_trace::TraceFault;
 use af_vars::VariableFault;
 use std::alloc::{AllocError, AllocFailed};
 
-/// Why a configuration is refused.
+/// Why a configuration or a trace is refused.
 #[derive(Clone, Copy, Debug, PartialEq, Eq)]
 pub enum Reason {
     /// The file can't be read, or is longer than 16 MiB.
@@ -41,6 +42,8 @@ pub enum Reason {
     Limit,
     /// A growth of memory was refused.
     Memory,
+    /// A trace has not the form of one.
+    Trace,
 }
 
 impl Reason {
@@ -63,6 +66,7 @@ impl Reason {
             Reason::Schedule => "schedule",
             Reason::Limit => "limit",
             Reason::Memory => "memory",
+            Reason::Trace => "trace",
         }
     }
 }
@@ -173,6 +177,17 @@ impl From<AddDagFault> for Reason {
             AddDagFault::NoSuchPool => Reason::Pool,
             AddDagFault::Exists => Reason::Duplicate,
             AddDagFault::OutOfMemory => Reason::Memory,
+        }
+    }
+}
+
+impl From<TraceFault> for Reason {
+    ghost from_gives = { λ fault reason. reason ≡ trace_reason fault };
+
+    fn from(fault: TraceFault) -> Reason {
+        match fault {
+            TraceFault::Form => Reason::Trace,
+            TraceFault::OutOfMemory => Reason::Memory,
         }
     }
 }

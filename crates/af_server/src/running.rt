@@ -32,7 +32,7 @@ pub fn run_once<F: Source, R: Source, W: Sink, E: Sink>(
 }
 
 /// One connection under the configuration that a file holds.
-fn connection<F: Source, R: Source, W: Sink>(
+pub fn connection<F: Source, R: Source, W: Sink>(
     alloc: Global,
     file: &mut F,
     now: Instant,

@@ -46,8 +46,8 @@ fn said(outcome: Result<Ended, Reason>) -> &'static str
 /// How the program is called.
 const USAGE: &str = "usage: afplane once CONFIG NOW | serve CONFIG PORT WORKERS | verify TRACE\n";
 
-/// Why a configuration is refused, as a line.
-fn line_of(reason: Reason) -> &'static str
+/// Why a configuration or a trace is refused, as a line.
+pub fn line_of(reason: Reason) -> &'static str
     ensures { result.now ≡ refusal_line reason }
 {
     match reason {
@@ -65,11 +65,12 @@ fn line_of(reason: Reason) -> &'static str
         Reason::Schedule => "afplane: configuration refused: schedule\n",
         Reason::Limit => "afplane: configuration refused: limit\n",
         Reason::Memory => "afplane: configuration refused: memory\n",
+        Reason::Trace => "afplane: configuration refused: trace\n",
     }
 }
 
 /// Writes a text. Where a write fails, the rest is given up: there is nobody to tell.
-fn tell<E: Sink>(errors: &mut E, text: &str)
+pub fn tell<E: Sink>(errors: &mut E, text: &str)
     ensures { Tells (E.taken errors.old) (E.taken errors.new) text.now }
 {
     let _told = write_all(errors, text.as_bytes());

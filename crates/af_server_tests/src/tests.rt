@@ -6,6 +6,7 @@ mod clears;
 mod configurations;
 mod connections;
 mod dags;
+mod denials;
 mod histories;
 mod instances;
 mod listings;
@@ -14,8 +15,10 @@ mod marks;
 mod pages;
 mod policies;
 mod pools;
+mod programs;
 mod rows;
 mod variables;
+mod verifying;
 mod versions;
 
 use af_http::{Counted, Ended};

@@ -1,8 +1,9 @@
-//! The program `afplane`: one connection, from standard input to standard output, under the configuration in a file.
+//! The program `afplane`: one connection, from standard input to standard output, under the configuration in a file; or whether the
+//! answers of a trace are those of the run of its steps.
 #![tactic(auto)]
 
 use af_http::Counted;
-use af_server::{Command, Console, Reason, ended, open, run_once, usage};
+use af_server::{Command, Console, Reason, ended, run};
 use std::env;
 use std::process::ExitCode;
 
@@ -12,15 +13,9 @@ fn main(rt: HostRuntime) -> ExitCode {
         output: Counted::new(rt.stdout()),
         errors: Counted::new(rt.stderr()),
     };
-    let Ok(words) = env::args(&rt) else {
-        return ExitCode::from(ended(&mut console.errors, Err(Reason::Memory)));
-    };
-    let status = match Command::of_words(words) {
-        Command::Once { config, now } => match open(&rt, config.as_str()) {
-            Ok(mut file) => run_once(rt.alloc(), &mut file, now, &mut console),
-            Err(reason) => ended(&mut console.errors, Err(reason)),
-        },
-        Command::Usage => usage(&mut console.errors),
+    let status = match env::args(&rt) {
+        Ok(words) => run(rt.alloc(), &rt, Command::of_words(words), &mut console),
+        Err(_) => ended(&mut console.errors, Err(Reason::Memory)),
     };
     ExitCode::from(status)
 }

@@ -8,7 +8,7 @@ use std::io::{self, ErrorKind, Read};
 use std::test::Fail;
 
 /// What words ask for.
-fn asked(alloc: Global, words: &[&str]) -> Result<Command, Fail> {
+pub fn asked(alloc: Global, words: &[&str]) -> Result<Command, Fail> {
     let mut all = Vec::new(alloc);
     for word in words {
         all.push(String::from_str(alloc, word)?)?;
@@ -17,9 +17,13 @@ fn asked(alloc: Global, words: &[&str]) -> Result<Command, Fail> {
 }
 
 /// Words that ask for nothing that there is.
-const WRONG: [&[&str]; 6] = [
+const WRONG: [&[&str]; 10] = [
     &["afplane"],
+    &["afplane", "verify"],
     &["afplane", "once", "base.json"],
+    &["afplane", "check", "trace.json"],
+    &["afplane", "verify", "trace.json", "2024-01-01T00:00:00Z"],
+    &["afplane", "verify", "trace.json", "more", "words"],
     &["afplane", "once", "base.json", "today"],
     &[
         "afplane",
@@ -36,14 +40,14 @@ const WRONG: [&[&str]; 6] = [
 fn asks_once(alloc: Global, words: &[&str], path: &str) -> Result<bool, Fail> {
     match asked(alloc, words)? {
         Command::Once { config, .. } => Ok(config.as_str() == path),
-        Command::Usage => Ok(false),
+        Command::Verify { .. } | Command::Usage => Ok(false),
     }
 }
 
 /// Whether the words ask for how the program is called.
 fn asks_usage(alloc: Global, words: &[&str]) -> Result<bool, Fail> {
     match asked(alloc, words)? {
-        Command::Once { .. } => Ok(false),
+        Command::Once { .. } | Command::Verify { .. } => Ok(false),
         Command::Usage => Ok(true),
     }
 }
@@ -115,7 +119,7 @@ const CALLS: [Call; 6] = [
 ];
 
 /// These bytes, of which a read gives 4,096 at most.
-fn pieces(text: &'static str) -> Counted<Pieces<'static>> {
+pub fn pieces(text: &str) -> Counted<Pieces<'_>> {
     Counted::new(Pieces {
         rest: text.as_bytes(),
         size: 4_096,
@@ -185,7 +189,7 @@ fn files_that_fail_are_refused(rt: HostRuntime) -> Result<(), Fail> {
 }
 
 /// Each reason, and its word.
-const WORDS: [(Reason, &str); 14] = [
+const WORDS: [(Reason, &str); 15] = [
     (Reason::Unreadable, "unreadable"),
     (Reason::Syntax, "syntax"),
     (Reason::Shape, "shape"),
@@ -200,6 +204,7 @@ const WORDS: [(Reason, &str); 14] = [
     (Reason::Schedule, "schedule"),
     (Reason::Limit, "limit"),
     (Reason::Memory, "memory"),
+    (Reason::Trace, "trace"),
 ];
 
 /// Whether a reason is told by this word.

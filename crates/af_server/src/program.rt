@@ -1,0 +1,96 @@
+// What the program does of what its words ask for.
+ghost use Rattle.af_server.specs.Programs.{IsOnceAt, IsVerifiedAt, Runs, RunsOnce, RunsVerify};
+
+use crate::command::Command;
+use crate::console::Console;
+use crate::files::Files;
+use crate::reason::Reason;
+use crate::running::connection;
+use crate::telling::{ended, usage};
+use crate::verdict::{conclude, verified};
+use af_http::{Ended, Sink, Source};
+use af_names::Instant;
+use std::alloc::Global;
+
+/// Does what the words ask for, with files found there, and gives the status. `once`: 0 where the connection ended as connections do, 1 where
+/// it was cut short. `verify`: 0 where the answers agree, 1 where they differ. Of wrong words 2; where the configuration or the trace is
+/// refused, also where its file can't be opened, 3.
+pub fn run<F: Files, R: Source, W: Sink, E: Sink>(
+    alloc: Global,
+    files: &F,
+    command: Command,
+    console: &mut Console<R, W, E>,
+) -> u8
+    ensures { Runs (F.holds files.now) (F.refuses files.now) command (R.given console.old.input) (R.given console.new.input)
+        (W.taken console.old.output) (W.taken console.new.output) (E.taken console.old.errors) (E.taken console.new.errors) result }
+{
+    match command {
+        Command::Once { config, now } => once_at(alloc, files, config.as_str(), now, console),
+        Command::Verify { trace } => verify_at(alloc, files, trace.as_str(), console),
+        Command::Usage => usage(&mut console.errors),
+    }
+}
+
+/// One connection under the configuration at a path; why it is refused is told on standard error.
+fn once_at<F: Files, R: Source, W: Sink, E: Sink>(
+    alloc: Global,
+    files: &F,
+    path: &str,
+    now: Instant,
+    console: &mut Console<R, W, E>,
+) -> u8
+    ensures { RunsOnce (F.holds files.now) (F.refuses files.now) path.now now (R.given console.old.input) (R.given console.new.input)
+        (W.taken console.old.output) (W.taken console.new.output) (E.taken console.old.errors) (E.taken console.new.errors) result }
+{
+    let outcome = connection_at(
+        alloc,
+        files,
+        path,
+        now,
+        &mut console.input,
+        &mut console.output,
+    );
+    ended(&mut console.errors, outcome)
+}
+
+/// One connection under the configuration at a path.
+fn connection_at<F: Files, R: Source, W: Sink>(
+    alloc: Global,
+    files: &F,
+    path: &str,
+    now: Instant,
+    reader: &mut R,
+    writer: &mut W,
+) -> Result<Ended, Reason>
+    ensures { IsOnceAt (F.holds files.now) (F.refuses files.now) path.now now (R.given reader.old) (R.given reader.new)
+        (W.taken writer.old) (W.taken writer.new) result }
+{
+    match files.open(path) {
+        Ok(mut file) => connection(alloc, &mut file, now, reader, writer),
+        Err(reason) => Err(reason),
+    }
+}
+
+/// Whether the answers of the trace at a path are those of the run of its steps: that is printed, or why it is refused told on standard error.
+fn verify_at<F: Files, R: Source, W: Sink, E: Sink>(
+    alloc: Global,
+    files: &F,
+    path: &str,
+    console: &mut Console<R, W, E>,
+) -> u8
+    ensures { RunsVerify (F.holds files.now) (F.refuses files.now) path.now (R.given console.old.input) (R.given console.new.input)
+        (W.taken console.old.output) (W.taken console.new.output) (E.taken console.old.errors) (E.taken console.new.errors) result }
+{
+    let outcome = verified_at(alloc, files, path);
+    conclude(&mut console.output, &mut console.errors, outcome)
+}
+
+/// Whether the answers of the trace at a path are those of the run of its steps.
+fn verified_at<F: Files>(alloc: Global, files: &F, path: &str) -> Result<bool, Reason>
+    ensures { IsVerifiedAt (F.holds files.now) (F.refuses files.now) path.now result }
+{
+    match files.open(path) {
+        Ok(mut file) => verified(alloc, &mut file),
+        Err(reason) => Err(reason),
+    }
+}

@@ -1,0 +1,3 @@
+mod WholeLemmas
+mod RecordLemmas
+mod AgreeLemmas

@@ -1,0 +1,8 @@
+mod asserts;
+mod changed;
+mod forms;
+mod full;
+mod refused;
+mod rows;
+mod story;
+mod writing;
