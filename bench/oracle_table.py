@@ -113,7 +113,7 @@ GROUPS = {
 GROUPS["baseline"] = set().union(*(GROUPS[it] for it in GROUPS if it != "policy"))
 GROUPS["verify"] = {"verify"}
 GROUPS["all"] = set().union(*GROUPS.values())
-LANDED = GROUPS["landed"] = GROUPS["all"] - GROUPS["verify"]
+LANDED = GROUPS["landed"] = GROUPS["all"]
 
 
 def having(text):
