@@ -179,6 +179,45 @@ class Calls(unittest.TestCase):
                         self.assertTrue(part in self.words or part in FOREIGN or (CRATES / part).is_dir())
 
 
+class Requirements(unittest.TestCase):
+    """What each operation requires is said alike by the table of operations, by docs/API.md in its table and its sections, and by docs/openapi.json."""
+
+    @classmethod
+    def setUpClass(cls):
+        table = text_of(CRATES / "af_ops/specs/Table.antt")
+        routes = re.findall(r"(?m)^route_of endpoint\.\w+ = \w+ (\w+) template\.\w+(.*)$", table)
+        cls.routes = sorted((method.upper(), cls.needs_of(needs)) for method, needs in routes)
+        cls.api = text_of(TOP / "docs/API.md")
+        cls.paths = json.loads(text_of(TOP / "docs/openapi.json"))["paths"]
+
+    @staticmethod
+    def needs_of(needs):
+        """The requirements of a row of the table, as documents write them."""
+        spelled = []
+        for kind, action, resource in re.findall(r"(at_some_dag|at_dag|on_all) (?:action\.)?(\w+) ?(\w*)", needs):
+            words = re.sub(r"(?<=[a-z])(?=[A-Z])", " ", resource).replace("Dag ", "DAG ")
+            spelled.append(f"{words if kind == 'on_all' else 'DAGs'}.can_{action.lower()}")
+        return spelled
+
+    @staticmethod
+    def named_in(text):
+        """The permissions that a text names, in order, each once; what stands in brackets explains."""
+        names = "DAGs|DAG Runs|Task Instances|Pools|Variables|Audit Logs|Roles|Users"
+        return [*dict.fromkeys(re.findall(rf"(?:{names})\.can_\w+", re.sub(r"\([^)]*\)", "", text)))]
+
+    def test_they_are_said_alike(self):
+        rows = re.findall(r"(?m)^\| \[`([A-Z]+) ([^`]+)`\]\([^)]*\) \| [^|]* \| ([^|]*) \|$", self.api)
+        told = []
+        for method, path, said in rows:
+            with self.subTest(method=method, path=path):
+                needs = told[-1][1] if said == "the same" else self.named_in(said)
+                told.append((method, needs))
+                section = self.api.partition(f"\n### {method} {path}\n")[2].partition("\n### ")[0]
+                self.assertEqual(self.named_in(re.search(r"(?m)^- \*\*Requires\*\* (.*)$", section)[1]), needs)
+                self.assertEqual(self.named_in(self.paths[path][method.lower()]["description"]), needs)
+        self.assertEqual(sorted(told), self.routes)
+
+
 # What documents name that is in no source: the end of the names of test crates, what was looked at and not taken, a state of Airflow.
 FOREIGN = {"_tests", "Tape", "restarting"}
 
