@@ -69,6 +69,7 @@ class Case(unittest.TestCase):
         out, err = io.TextIOWrapper(io.BytesIO(), encoding="utf-8"), io.StringIO()
         with contextlib.redirect_stdout(out), contextlib.redirect_stderr(err):
             status = trace_of.main(list(words))
+            out.flush()
         return status, out.buffer.getvalue().decode(), err.getvalue()
 
     def run_on(self, requests, answers, config="{}"):
@@ -255,6 +256,8 @@ class Ends(Case):
         usage = "usage: trace_of.py CONFIG NOW REQUESTS ANSWERS > TRACE\n"
         for words in ([], ["c", NOW, "r"], ["c", NOW, "r", "a", "t"]):
             self.assertEqual(self.call(*words), (2, "", usage))
+        for word in ("-h", "--help"):
+            self.assertEqual(self.call(word), (0, trace_of.__doc__.strip() + "\n", ""))
         config, none = self.file("c.json", "{}"), str(self.folder / "none")
         self.assertEqual(self.call(config, NOW, none, config), (1, "", f"trace_of.py: {none}: can not be read: No such file or directory\n"))
 

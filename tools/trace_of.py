@@ -244,6 +244,9 @@ def main(words):
     def tell(text):
         print(f"trace_of.py: {text}", file=sys.stderr)
 
+    if words in (["-h"], ["--help"]):
+        print(__doc__.strip())
+        return 0
     if len(words) != 4:
         print("usage: trace_of.py CONFIG NOW REQUESTS ANSWERS > TRACE", file=sys.stderr)
         return 2
