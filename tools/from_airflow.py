@@ -18,7 +18,7 @@ import secrets
 import sys
 
 from airflow_exports import Unusable, read_dags, read_roles, read_users
-from airflow_places import DAG_ID, DEFAULT_ROLES, LABEL, in_order, is_dag_id, is_label, listed, shown, why_not
+from airflow_permissions import DAG_ID, DEFAULT_ROLES, LABEL, in_order, is_dag_id, is_label, listed, shown, why_not
 
 MOST_ROLES, MOST_USERS, MOST_DAGS, MOST_BYTES = 4096, 65536, 1024, 16 * 1024 * 1024
 PLACEHOLDER = "placeholder"

@@ -13,7 +13,7 @@ import sys
 import unittest
 
 sys.dont_write_bytecode = True
-import airflow_places  # noqa: E402
+import airflow_permissions  # noqa: E402
 from airflow_case import ADMIN, PROGRAM, README, SAMPLES, Case, flat, granted  # noqa: E402
 
 
@@ -127,10 +127,10 @@ class Formats(Case):
                 self.assertIn(f"role 'R': no place for {resource}.{action}: {reason}", err)
 
     def test_each_permission_with_a_place(self):
-        roles = [flat("R", it, ",".join(airflow_places.ACTIONS)) for it in reversed(airflow_places.RESOURCES)]
+        roles = [flat("R", it, ",".join(airflow_permissions.ACTIONS)) for it in reversed(airflow_permissions.RESOURCES)]
         roles += [flat("R", "DAG:b", "can_delete, can_edit,can_read"), flat("R", "DAG:a", "can_read")]
         config, _, err = self.convert(roles=roles, users=[ADMIN])
-        wanted = [f"{it}.{action}" for it in airflow_places.RESOURCES for action in airflow_places.ACTIONS]
+        wanted = [f"{it}.{action}" for it in airflow_permissions.RESOURCES for action in airflow_permissions.ACTIONS]
         wanted += ["DAG:a.can_read", "DAG:b.can_read", "DAG:b.can_edit", "DAG:b.can_delete"]
         self.assertEqual(granted(config, "R"), wanted)
         self.assertNotIn("no place", err)

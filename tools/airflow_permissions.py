@@ -1,4 +1,4 @@
-"""Which of Airflow's permissions and names have a place in afplane, and why others have none. Part of from_airflow.py."""
+"""Which of Airflow's permissions and names there are in afplane, and why not the others. Part of from_airflow.py."""
 import re
 
 ACTIONS = ["can_create", "can_read", "can_edit", "can_delete"]
