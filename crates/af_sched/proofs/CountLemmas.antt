@@ -19,7 +19,6 @@ use Rattle.af_names.proofs.OrderLemmas.{order-take}
 use Rattle.af_pool.specs.Occupants.{OccupantRow, holds_slots, is_there_in, slots_in}
 use Rattle.af_pool.specs.Pools.{has_pool, name_of, pool_of}
 use Rattle.af_pool.specs.declared.pool.Pool.{Pool}
-use Rattle.af_graph.specs.declared.task_spec.TaskSpec.{TaskSpec}
 use Rattle.af_runs.specs.Busy.{busy_of, holders_of, holds_any, is_busy, is_held}
 use Rattle.af_runs.specs.declared.instance.Instance.{Instance}
 use Rattle.af_runs.specs.declared.run.Run.{Run}

@@ -86,7 +86,7 @@ stays_finished : (t : ℕ) (dags : List DagRow) (run : Run) → Stays run (finis
 stays_finished t dags run ended = rw (ends_no_ended run ended) refl
 
 -- ---- runs are only added
-fold_keeps : {S X : Type 0} (P : S → Type 0) (f : S → X → S) → ((s : S) (x : X) → P s → P (f s x)) → (s : S) (xs : List X) → P s → P (fold f s xs)
+pub fold_keeps : {S X : Type 0} (P : S → Type 0) (f : S → X → S) → ((s : S) (x : X) → P s → P (f s x)) → (s : S) (xs : List X) → P s → P (fold f s xs)
 fold_keeps P f step s [] holds = holds
 fold_keeps P f step s (x ∷ xs) holds = fold_keeps P f step (f s x) xs (step s x holds)
 

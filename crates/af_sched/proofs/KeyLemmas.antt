@@ -55,10 +55,10 @@ cond_key false one other same = refl
 pub keeps_started : (t : ℕ) (dags : List DagRow) (runs : List Run) → Keeps runs (started_runs t dags runs)
 keeps_started t dags runs = keeps_map (λ run. cond (starts dags runs run) (started_run t run) run) (λ run. cond_key (starts dags runs run) (started_run t run) run refl) runs
 
-keeps_finished : (t : ℕ) (dags : List DagRow) (runs : List Run) → Keeps runs (finished_runs t dags runs)
+pub keeps_finished : (t : ℕ) (dags : List DagRow) (runs : List Run) → Keeps runs (finished_runs t dags runs)
 keeps_finished t dags runs = keeps_map (λ run. finished_run t (tasks_of dags run.dag_id) run) (λ run. cond_key (ends run) (ended_run t (tasks_of dags run.dag_id) run) run refl) runs
 
-keeps_queued : (q : ℕ → ℕ → Bool) (runs : List Run) → Keeps runs (map (λ run. with_queued (q run.number) run) runs)
+pub keeps_queued : (q : ℕ → ℕ → Bool) (runs : List Run) → Keeps runs (map (λ run. with_queued (q run.number) run) runs)
 keeps_queued q runs = keeps_map (λ run. with_queued (q run.number) run) (λ run. refl) runs
 
 pub keeps_settled_too : (t : ℕ) (dags : List DagRow) (runs settled : List Run) → AllZip (SettlesIfLive t dags) (started_runs t dags runs) settled → Keeps runs settled

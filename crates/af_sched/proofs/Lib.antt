@@ -17,6 +17,7 @@ mod KeyLemmas
 mod LikeLemmas
 mod MarkedLemmas
 mod NamedLemmas
+mod NumberLemmas
 mod PassingLemmas
 mod PlanLemmas
 mod PooledLemmas

@@ -1,5 +1,5 @@
 -- Laws about ticks and claims, in words of their own.
-use Rattle.std.specs.Prelude.{ℕ, ◌≡◌, ◌≤◌, ◌↔◌, ◌+◌, ◌-◌, ◌^◌, ◌&&◌, List, [], Bool, true, false, All, Option, Some, None, MatchOption, filter, length, max, min, Contains, sum_by, zip}
+use Rattle.std.specs.Prelude.{ℕ, ◌≡◌, ◌<◌, ◌≤◌, ◌↔◌, ◌+◌, ◌-◌, ◌^◌, ◌&&◌, List, [], Bool, true, false, All, Option, Some, None, MatchOption, filter, length, max, min, Contains, sum_by, zip}
 use Rattle.af_graph.specs.Definition.{fault_of}
 use Rattle.af_graph.specs.Graph.{same_name}
 use Rattle.af_graph.specs.States.{same_state}
@@ -8,7 +8,7 @@ use Rattle.af_graph.specs.declared.task_state.TaskState.{TaskState}
 use Rattle.af_graph.specs.declared.task_state.TaskState.TheVariants.{Queued, Running}
 use Rattle.af_pool.specs.Pools.{has_pool, slots_of}
 use Rattle.af_runs.specs.Busy.{busy_of, holders_of}
-use Rattle.af_runs.specs.Runs.{AreRuns, is_finished, without_run}
+use Rattle.af_runs.specs.Runs.{AreRuns, is_finished, run_at, without_run}
 use Rattle.af_runs.specs.declared.instance.Instance.{Instance}
 use Rattle.af_runs.specs.declared.run.Run.{Run}
 use Rattle.af_sched.specs.Claims.{Claims, ClaimsNone, IsNextClaim}
@@ -61,6 +61,12 @@ EndedRunsStay =
 abbrev pub NoPointIsTakenTwice : Type 0
 NoPointIsTakenTwice =
     (catchup : Bool) (is_point : ℕ → Bool) (cursor later t u point : ℕ) → moved_cursor is_point (taken_points catchup is_point cursor t) cursor ≡ Some later → Contains (taken_points catchup is_point cursor t) point → Contains (taken_points catchup is_point later u) point → ⊥
+
+-- a tick does not lower the number that the next run gets; and a number below it that no run has before the tick, since the run
+-- that it was given to was taken out, no run has after it
+abbrev pub TickGivesNewNumbers : Type 0
+TickGivesNewNumbers =
+    (t : ℕ) (old new : StateRows) → IsTick t old new → (old.next_run ≤ new.next_run) × ((number : ℕ) → number < old.next_run → run_at old.runs number ≡ None → run_at new.runs number ≡ None)
 
 -- nothing is due at t: no point is, no run is to start or to end, the instances of running runs of unpaused DAGs are
 -- settled as they are, and none that may be queued finds room

@@ -1,4 +1,4 @@
-ghost use Rattle.af_sched.specs.Laws.{ClaimIsOne, ClaimTellsTheNext, EndedRunsStay, HeldSlotsAreThoseOfInstances, HoldersHoldAllSlots, NoPointIsTakenTwice, NothingChangesExactlyWhereNothingIsDue, QueuedStateIsOne, ReportsOfRemovedRunsFindNone, SettlingIsOne, SettledStateIsOne, SlotsAreKept, TickIsOne, TickKeepsRows};
+ghost use Rattle.af_sched.specs.Laws.{ClaimIsOne, ClaimTellsTheNext, EndedRunsStay, HeldSlotsAreThoseOfInstances, HoldersHoldAllSlots, NoPointIsTakenTwice, NothingChangesExactlyWhereNothingIsDue, QueuedStateIsOne, ReportsOfRemovedRunsFindNone, SettlingIsOne, SettledStateIsOne, SlotsAreKept, TickGivesNewNumbers, TickIsOne, TickKeepsRows};
 
 /// The trigger rules decide in one way what becomes of a run's instances, since no definition has a cycle.
 pub fn settling_is_one()
@@ -33,6 +33,11 @@ pub fn a_tick_fills_no_pool()
 /// A run that has ended keeps its state and its dates through a tick.
 pub fn ended_runs_stay()
     ensures { EndedRunsStay }
+{}
+
+/// A tick does not lower the number that the next run gets, and gives no run the number of one that was taken out.
+pub fn a_tick_gives_new_numbers()
+    ensures { TickGivesNewNumbers }
 {}
 
 /// No tick takes a point that an earlier one took.

@@ -1,9 +1,7 @@
 use Rattle.std.proofs.Common.{◌≡◌, ◌∙◌, sym, subst, ap, List, get_or}
 use Rattle.af_graph.specs.declared.task_spec.TaskSpec.{TaskSpec}
 use Rattle.af_runs.specs.declared.instance.Instance.{Instance}
-use Rattle.af_sched.specs.Claims.{is_claimable}
 use Rattle.af_sched.specs.Placed.{Placed, placed_of}
-use Rattle.af_sched.specs.Steps.{first_with}
 use Rattle.af_sched.specs.Weights.{IsAsHeavy}
 use Rattle.af_sched.proofs.HeavyLemmas.{no_lighter_stays}
 use Rattle.af_sched.proofs.PlacedLemmas.{get_or-placed_of, placed_here}
