@@ -1,15 +1,27 @@
 -- Reads, one after another.
-use Rattle.std.proofs.Common.{◌≡◌, ◌+◌, ℕ, List, [], ◌++◌, Option, Some, None, refl, sym, ap, ◌∙◌, subst, arith}
+use Rattle.std.proofs.Common.{◌≡◌, ◌+◌, ◌<◌, ◌==◌, ℕ, zero, suc, List, [], ◌∷◌, ◌++◌, Option, Some, None, refl, sym, ap, ◌∙◌, subst, arith}
 use Rattle.std.proofs.lemmas.List.{append-nil, append_assoc, length-append}
 use Rattle.std.proofs.lemmas.List.Sums.{sum_by-append}
 use Rattle.std.specs.Io.KnownBytes.{prepend_known, Consumes, Keeps, IsAtEnd}
-use Rattle.af_http.specs.Streams.{Given, Took, StaysKnown}
+use Rattle.af_http.specs.Streams.{Given, Took, StaysKnown, IsSilentLast, one_if}
+
+gave_some : (n : ℕ) → 0 ≡ one_if (n == 0) → 0 < n
+gave_some zero e = absurd (omega (arith, e))
+gave_some (suc n) e = omega arith
+
+-- reads that each gave a byte, and then others
+silent_more : (silent : ℕ) (xs ys : List ℕ) → IsSilentLast 0 xs → IsSilentLast silent ys → IsSilentLast silent (xs ++ ys)
+silent_more silent [] ys x y = y
+silent_more silent (n ∷ []) [] x y = y ∙ x
+silent_more silent (n ∷ []) (m ∷ ys) x y = (gave_some n x, y)
+silent_more silent (n ∷ m ∷ xs) ys x y = (x.0, silent_more silent (m ∷ xs) ys x.1 y)
 
 pub took_none : (g : Given) → Took 0 0 0 g g
 took_none g = record {
   sizes = [];
   sizes_are = sym (append-nil g.sizes);
   so_many = refl;
+  silent_last = refl;
   gave = omega arith;
   reads_are = omega arith;
   each_gave = omega arith;
@@ -40,6 +52,7 @@ took_more {n} {m} {ends} {failures} {a} {b} {c} x y =
       sizes = x.sizes ++ y.sizes;
       sizes_are = y.sizes_are ∙ ap (λ t. t ++ y.sizes) x.sizes_are ∙ append_assoc a.sizes x.sizes y.sizes;
       so_many = omega (arith, l, n1, n2);
+      silent_last = silent_more (ends + failures) x.sizes y.sizes x.silent_last y.silent_last;
       gave = omega (arith, s, s1, s2);
       reads_are = omega (arith, r1, r2);
       each_gave = omega (arith, g1, g2);

@@ -1,5 +1,5 @@
 -- What a reader has given and a writer has taken, from the first call to a moment.
-use Rattle.std.specs.Prelude.{◌≡◌, ◌+◌, ℕ, Bool, ◌&&◌, ◌==◌, ◌<◌, cond, nat_lt, List, ◌++◌, length, map, sum, Option, Some}
+use Rattle.std.specs.Prelude.{◌≡◌, ◌+◌, ℕ, Bool, ◌&&◌, ◌==◌, ◌<◌, cond, nat_lt, List, [], ◌∷◌, ◌++◌, length, map, sum, Option, Some}
 use Rattle.std.specs.Io.KnownBytes.{Appends}
 use Rattle.af_http.specs.Limits.{read_room}
 
@@ -49,13 +49,21 @@ StaysKnown old new = (all : List ℕ) → old ≡ Some all → new ≡ Some all
 abbrev pub IsWhole : Given → Type 0
 IsWhole g = (all : List ℕ) → g.whole ≡ Some all → all ≡ g.bytes
 
--- So many reads from one moment to another: so many of them found the end, so many failed, and each other gave a byte. Each
--- had room for as many bytes as one of a connection has, so that no message is read in many where few would do. What came is
--- what these reads gave: so the first moment is the one at which the reader had given just what was there before.
+-- These are what reads gave, one after another: each gave a byte but for the last, if one gave none.
+abbrev pub IsSilentLast : ℕ → List ℕ → Type 0
+IsSilentLast silent [] = silent ≡ 0
+IsSilentLast silent (n ∷ []) = silent ≡ one_if (n == 0)
+IsSilentLast silent (n ∷ m ∷ sizes) = (0 < n) × IsSilentLast silent (m ∷ sizes)
+
+-- So many reads from one moment to another: so many of them found the end, so many failed, and each other gave a byte; none
+-- came after one that gave none. Each had room for as many bytes as one of a connection has, so that no message is read in
+-- many where few would do. What came is what these reads gave: so the first moment is the one at which the reader had given
+-- just what was there before.
 pub record Took (count ends failures : ℕ) (old new : Given) : Type 0 where
   pub sizes : List ℕ
   pub sizes_are : new.sizes ≡ old.sizes ++ sizes
   pub so_many : length sizes ≡ count
+  pub silent_last : IsSilentLast (ends + failures) sizes
   pub gave : length new.bytes ≡ length old.bytes + sum sizes
   pub reads_are : new.reads ≡ old.reads + count
   pub each_gave : new.fruitful + ends + failures ≡ old.fruitful + count

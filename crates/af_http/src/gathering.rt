@@ -1,4 +1,4 @@
-ghost use Rattle.std.specs.Prelude.{◌≡◌, ℕ, ◌+◌, ◌<◌, ◌≤◌, List, [], ◌++◌, length};
+ghost use Rattle.std.specs.Prelude.{◌≡◌, ℕ, ◌+◌, ◌<◌, ◌≤◌, List, [], ◌++◌, length, false};
 ghost use Rattle.af_http.specs.Fronts.{front_of};
 ghost use Rattle.af_http.specs.Extents.{IsExtent, open_front};
 ghost use Rattle.af_http.specs.Limits.{head_limit, read_limit, unread_limit};
@@ -85,6 +85,7 @@ fn settled(incoming: &mut Incoming) -> Gathered
 /// Gathers a head as where there may be one read.
 fn gather_once<R: Source>(reader: &mut R, incoming: &mut Incoming, waiting: &Outgoing) -> Gathered
     requires idle { waiting.now.bytes ≡ [] }
+    requires sound { waiting.now.failed ≡ false }
     requires open { front_of incoming.old ≡ open_front incoming.old }
     requires short { length incoming.old ≤ head_limit }
     ensures holds { (more : List ℕ) × Holds (R.given reader.old) (R.given reader.new) incoming.old incoming.new more }
@@ -106,6 +107,7 @@ pub fn gather<R: Source>(
     waiting: &Outgoing,
 ) -> (Gathered, u32)
     requires idle { waiting.now.bytes ≡ [] }
+    requires sound { waiting.now.failed ≡ false }
     requires open { front_of incoming.old ≡ open_front incoming.old }
     requires short { length incoming.old ≤ head_limit }
     ensures holds { (more : List ℕ) × Holds (R.given reader.old) (R.given reader.new) incoming.old incoming.new more }
@@ -131,6 +133,7 @@ fn gather_body_once<R: Source>(
     wanted: usize,
 ) -> BodyGathered
     requires idle { waiting.now.bytes ≡ [] }
+    requires sound { waiting.now.failed ≡ false }
     requires short { length incoming.old < wanted }
     requires within { wanted ≤ unread_limit + 1 }
     ensures came { (more : List ℕ) × Fills (R.given reader.old) (R.given reader.new) incoming.old incoming.new more }
@@ -154,6 +157,7 @@ pub fn gather_body<R: Source>(
     before: u32,
 ) -> (BodyGathered, u32)
     requires idle { waiting.now.bytes ≡ [] }
+    requires sound { waiting.now.failed ≡ false }
     requires short { length incoming.old < wanted }
     requires within { wanted ≤ unread_limit + 1 }
     requires few { before ≤ read_limit }

@@ -1,4 +1,4 @@
-ghost use Rattle.std.specs.Prelude.{◌≡◌, ◌≢◌, ◌==◌, ℕ, ◌+◌, ◌<◌, ◌≤◌, List, [], ◌++◌, length, take, drop, IfOk, OnErr, Ok, true};
+ghost use Rattle.std.specs.Prelude.{◌≡◌, ◌≢◌, ◌==◌, ℕ, ◌+◌, ◌<◌, ◌≤◌, List, [], ◌++◌, length, take, drop, IfOk, OnErr, Ok, true, false};
 ghost use Rattle.af_http.specs.Limits.{incoming_room, read_room, unread_limit};
 ghost use Rattle.af_http.specs.Streams.{Took, one_if};
 ghost use Rattle.af_http.specs.Gathering.{Fills, ends_in, failures_in};
@@ -69,9 +69,10 @@ impl Incoming {
     }
 
     /// Reads once, and says whether bytes came. No other function reads, and a read may wait for the client: so none is
-    /// made while a byte waits for the writer.
+    /// made while a byte waits for the writer, nor once a write has failed.
     pub fn fill<R: Source>(&mut self, reader: &mut R, _waiting: &Outgoing) -> Result<bool, Failed>
         requires idle { _waiting.now.bytes ≡ [] }
+        requires sound { _waiting.now.failed ≡ false }
         requires few { length self.old ≤ unread_limit }
         ensures came { (more : List ℕ) × Fills (R.given reader.old) (R.given reader.new) self.old self.new more }
         ensures took { Took 1 (ends_in result) (failures_in result) (R.given reader.old) (R.given reader.new) }
