@@ -1,3 +1,4 @@
+mod bodies;
 mod limits;
 mod opening;
 mod playing;
