@@ -13,6 +13,7 @@ mod MarkingLemmas
 mod PageLemmas
 mod PlainLemmas
 mod PolicyLawLemmas
+mod PolicyRefusalLemmas
 mod PoolLemmas
 mod ReadingLemmas
 mod RowLawLemmas

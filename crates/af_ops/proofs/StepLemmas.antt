@@ -223,10 +223,40 @@ clears_instances state dag_id input effect next is changes =
     let it = clears_asked state dag_id input effect next is changes in
     record { asked = filter_of dag_id it.asked; selection = selection_of it.row.dag.tasks it.asked; of_dag = refl; differ = it.differ; next_is = it.next_is }
 
+-- all instances of a run that are cleared: its DAG was found, and this is the next state
+record ClearsWhole (state : StateRows) (dag_id run_id : List ℕ) (next : StateRows) : Type 0 where
+  pub row : DagRow
+  pub found : sched.dag_of state.dags dag_id ≡ Some row
+  pub next_is : next ≡ with_clear state (one_run dag_id run_id) (all_tasks row.dag.tasks)
+
+whole_next : (dry left : Bool) (state : StateRows) (asked : RunFilter) (selection : Selection) (next : StateRows) → (if dry || left then None else Some (with_clear state asked selection)) ≡ Some next → next ≡ with_clear state asked selection
+whole_next true left state asked selection next is = cc
+whole_next false true state asked selection next is = cc
+whole_next false false state asked selection next is = cc
+
+whole_found : (dag : Option DagRow) (run : Option Run) (state : StateRows) (dag_id run_id : List ℕ) (dry : Bool) (effect : Effect) (next : StateRows) → sched.dag_of state.dags dag_id ≡ dag
+    → (ok_or dag NoSuchDag >>= (λ row. ok_or run NoSuchRun >>= (λ it. Ok (clearing state row.dag.tasks (one_run dag_id run_id) (all_tasks row.dag.tasks) dry)))) ≡ Ok effect → effect.next ≡ Some next → ClearsWhole state dag_id run_id next
+whole_found None run state dag_id run_id dry effect next found is changes = cc
+whole_found (Some row) None state dag_id run_id dry effect next found is changes = cc
+whole_found (Some row) (Some run) state dag_id run_id dry effect next found is changes = record {
+  row = row;
+  found = found;
+  next_is = whole_next dry (are_left_by (one_run dag_id run_id) (all_tasks row.dag.tasks) state.runs) state (one_run dag_id run_id) (all_tasks row.dag.tasks) next
+      (let same : clearing state row.dag.tasks (one_run dag_id run_id) (all_tasks row.dag.tasks) dry ≡ effect = cc in ap (λ (e : Effect). e.next) same ∙ changes);
+}
+
+clears_whole : (state : StateRows) (dag_id run_id : List ℕ) (input : Result Bool BodyFault) (effect : Effect) (next : StateRows) → run_cleared state dag_id run_id input ≡ Ok effect → effect.next ≡ Some next → ClearsWhole state dag_id run_id next
+clears_whole state dag_id run_id (Err why) effect next is changes = cc
+clears_whole state dag_id run_id (Ok dry) effect next is changes =
+    whole_found (sched.dag_of state.dags dag_id) (run_of state.runs dag_id run_id) state dag_id run_id dry effect next refl is changes
+
 pub touches_chosen : ClearsTouchChosenAlone
-touches_chosen reads state dag_id input now effect next is changes =
-    let it = clears_asked state dag_id input effect next is changes in
-    (it.asked, (it.row, it.read, it.found, it.next_is, (λ k d within. chosen_alone (selection_of it.row.dag.tasks it.asked) (get_or state.runs k d))))
+touches_chosen reads state dag_id now effect next changes = (
+  (λ input is. let it = clears_asked state dag_id input effect next is changes in
+      (it.asked, (it.row, it.read, it.found, it.next_is, (λ k d within. chosen_alone (selection_of it.row.dag.tasks it.asked) (get_or state.runs k d))))),
+  (λ run_id input is. let it = clears_whole state dag_id run_id input effect next is changes in
+      (it.row, it.found, it.next_is, (λ k d within. chosen_alone (all_tasks it.row.dag.tasks) (get_or state.runs k d)))),
+)
 
 -- ---- dry runs
 dry_clear : (dag : Option DagRow) (run : Option Run) (state : StateRows) (dag_id run_id : List ℕ) (dry : Bool) (effect : Effect) → dry ≡ true

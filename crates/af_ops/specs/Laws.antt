@@ -28,7 +28,7 @@ use Rattle.af_ops.specs.declared.path_template.PathTemplate.{PathTemplate}
 use Rattle.af_ops.specs.declared.policy_op.PolicyOp.{PolicyOp}
 use Rattle.af_ops.specs.declared.policy_op.PolicyOp.TheVariants as policy_op
 use Rattle.af_ops.specs.declared.trigger.Trigger.{Trigger}
-use Rattle.af_ops.specs.Effects.{Effect, effect_of, filter_of, id_or, selection_of}
+use Rattle.af_ops.specs.Effects.{Effect, all_tasks, effect_of, filter_of, id_or, one_run, selection_of}
 use Rattle.af_ops.specs.Calls.{call_of_row}
 use Rattle.af_ops.specs.Calls as calls
 use Rattle.af_ops.specs.Endpoints.{dag_id_in, dag_of, endpoint_of}
@@ -125,14 +125,18 @@ DryRunsLeaveTheState =
     × ((dag_id : List ℕ) (asked : Clear) → asked.dry_run ≡ true → effect_of reads state (op.ClearInstances dag_id (Ok asked)) now ≡ Ok effect → effect.next ≡ None)
 
 -- a clear changes the runs of its DAG that are asked for alone, and of them the instances that are chosen: each other instance is
--- as it was
+-- as it was; a clear of one run asks for that run, and chooses all its instances
 abbrev pub ClearsTouchChosenAlone : Type 0
 ClearsTouchChosenAlone =
-    (reads : List ℕ → Bool) (state : StateRows) (dag_id : List ℕ) (input : Result Clear BodyFault) (now : ℕ) (effect : Effect) (next : StateRows)
-    → effect_of reads state (op.ClearInstances dag_id input) now ≡ Ok effect → effect.next ≡ Some next
+    (reads : List ℕ → Bool) (state : StateRows) (dag_id : List ℕ) (now : ℕ) (effect : Effect) (next : StateRows) → effect.next ≡ Some next
+    → ((input : Result Clear BodyFault) → effect_of reads state (op.ClearInstances dag_id input) now ≡ Ok effect
     → (asked : Clear) × ((row : DagRow) × (input ≡ Ok asked) × (sched.dag_of state.dags dag_id ≡ Some row)
     × (next ≡ record state { runs = map (run_after (filter_of dag_id asked) (selection_of row.dag.tasks asked)) state.runs })
-    × All (TouchesChosenAlone (selection_of row.dag.tasks asked)) state.runs)
+    × All (TouchesChosenAlone (selection_of row.dag.tasks asked)) state.runs))
+    × ((run_id : List ℕ) (input : Result Bool BodyFault) → effect_of reads state (op.ClearRun dag_id run_id input) now ≡ Ok effect
+    → (row : DagRow) × (sched.dag_of state.dags dag_id ≡ Some row)
+    × (next ≡ record state { runs = map (run_after (one_run dag_id run_id) (all_tasks row.dag.tasks)) state.runs })
+    × All (TouchesChosenAlone (all_tasks row.dag.tasks)) state.runs)
 
 -- the number that the next run gets never falls
 abbrev pub RunNumbersRise : Type 0

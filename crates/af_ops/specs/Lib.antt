@@ -17,6 +17,7 @@ pub mod PolicyBodies
 pub mod PolicyFaults
 pub mod PolicyLaws
 pub mod PolicyOps
+pub mod PolicyPerformed
 pub mod PolicyServed
 pub mod PolicyTexts
 pub mod PolicyVerdicts

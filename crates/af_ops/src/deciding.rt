@@ -1,4 +1,4 @@
-ghost use Rattle.std.specs.Prelude.{◌≡◌, ◌<◌, ◌↔◌, ℕ, List, Bool, false, true, Err, IfOk, Ok, if◌then◌else◌};
+ghost use Rattle.std.specs.Prelude.{◌≡◌, ◌<◌, ◌≤◌, ◌↔◌, ℕ, List, Bool, false, true, Err, IfErr, IfOk, Ok, if◌then◌else◌};
 ghost use Rattle.std.specs.Option.{option_copied};
 ghost use Rattle.af_policy.specs.Identity.{bearer_of};
 ghost use Rattle.af_policy.specs.Views.{held};
@@ -91,12 +91,10 @@ fn permitted<R: Reader>(
     ensures rows { state.new.rows ≡ state.old.rows }
 {
     match prepare(alloc, state, op, reader, now) {
-        Ok(prepared) => {
-            if prepared.changes() && under.seq >= limit {
-                return Err(CallFault::Op(OpFault::HistoryFull));
-            }
-            Ok(prepared)
-        }
+        Ok(prepared) => match with_room(prepared, under, limit) {
+            Ok(prepared) => Ok(prepared),
+            Err(fault) => Err(CallFault::Op(fault)),
+        },
         Err(fault) => {
             if is_full(state, under, limit, op, &fault) {
                 return Err(CallFault::Op(OpFault::HistoryFull));
@@ -104,6 +102,17 @@ fn permitted<R: Reader>(
             Err(CallFault::Op(fault))
         }
     }
+}
+
+/// What is worked out, where there is room for the entry that it wants; else a full history is told, memory or not.
+fn with_room(prepared: Prepared, under: Under, limit: u32) -> Result<Prepared, OpFault>
+    ensures ok { IfOk result (λ it. (it ≡ prepared) × (is_edit prepared.edit ≡ true → under.seq < limit)) }
+    ensures err { IfErr result (λ fault. (fault ≡ HistoryFull) × (is_edit prepared.edit ≡ true) × (limit ≤ under.seq)) }
+{
+    if prepared.changes() && under.seq >= limit {
+        return Err(OpFault::HistoryFull);
+    }
+    Ok(prepared)
 }
 
 /// Whether a fault is told as a full history: it is want of memory for a change, for whose entry there is no room, memory or not;

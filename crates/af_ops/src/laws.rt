@@ -66,7 +66,8 @@ pub fn dry_runs_leave_the_state()
     ensures { DryRunsLeaveTheState }
 {}
 
-/// A clear changes the runs of its DAG that are asked for alone, and of them the instances that are chosen.
+/// A clear changes the runs of its DAG that are asked for alone, and of them the instances that are chosen; a clear of one run changes
+/// that run alone.
 pub fn clears_touch_chosen_alone()
     ensures { ClearsTouchChosenAlone }
 {}
