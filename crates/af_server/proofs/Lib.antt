@@ -5,3 +5,5 @@ pub mod AnswerLemmas
 pub mod OneWayLemmas
 pub mod LawLemmas
 pub mod VerifiedLemmas
+pub mod VariableLemmas
+pub mod ConfigurationLemmas

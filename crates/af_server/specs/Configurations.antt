@@ -1,7 +1,7 @@
 -- What a whole configuration says, from its bytes: the roles, the users, the pools, the variables and the DAGs in this order,
 -- rows in theirs, then the access control of the DAGs, then its limits, and the first fault decides the reason (this product's
 -- own rule).
-use Rattle.std.specs.Prelude.{ℕ, ◌*◌, List, length, nat_lt, codes, is_some, ok_or, Result, Ok, Err, if◌then◌else◌}
+use Rattle.std.specs.Prelude.{ℕ, ◌*◌, List, [], ◌∷◌, length, nat_lt, codes, is_some, ok_or, Result, Ok, Err, if◌then◌else◌, ⊤}
 use Rattle.serde_json.specs.Data.{Data}
 use Rattle.serde_json.specs.Find.{as_object}
 use Rattle.af_policy.specs.Rows.{PolicyRows, has_admin}
@@ -76,6 +76,27 @@ pub record ConfigurationRows : Type 0 where
 
 abbrev pub object_or : Data → Result Data Reason
 object_or value = if is_some (as_object value) then Ok value else Err Shape
+
+-- ---- what is told before any memory is wanted
+
+-- a policy without users has nobody with the role Admin
+abbrev pub some_user : List Data → Result ⊤ Reason
+some_user [] = Err Admin
+some_user (row ∷ rows) = Ok tt
+
+-- where no role is listed, whether a user is
+abbrev pub users_begun : Data → List Data → Result ⊤ Reason
+users_begun config [] = optional_list_in (codes "users") config >>= some_user
+users_begun config (role ∷ roles) = Ok tt
+
+-- whether a JSON value is an object whose roles are a list, and which lists a role or a user
+abbrev pub begun_in : Data → Result ⊤ Reason
+begun_in value = do
+  config ← object_or value
+  roles ← optional_list_in (codes "roles") config
+  users_begun config roles
+
+-- ---- all that is told
 
 -- what a JSON value says: it has to be an object
 abbrev pub configuration_in : Data → Result ConfigurationRows Reason

@@ -1,5 +1,5 @@
 -- A variable of a configuration: `key` and `value` (Airflow 2, "Variables"; the order of the faults is this product's own rule).
-use Rattle.std.specs.Prelude.{codes, Result, Ok, Err}
+use Rattle.std.specs.Prelude.{ℕ, List, [], ◌∷◌, map, codes, Result, Ok, Err}
 use Rattle.serde_json.specs.Data.{Data}
 use Rattle.af_names.specs.Names.{row_name_grammar}
 use Rattle.af_vars.specs.Variables.{add_fault, with_variable}
@@ -25,3 +25,21 @@ placed_variable draft variable =
 
 abbrev pub variable_taken : Draft → Data → Result Draft Reason
 variable_taken draft row = variable_in row >>= placed_variable draft
+
+-- ---- variables that are put in order before they are added
+
+-- a draft with these variables
+abbrev pub with_variables : Draft → List Variable → Draft
+with_variables draft variables = record draft { state = record draft.state { variables = variables } }
+
+-- the variable that a key and a text make
+abbrev pub entry_row : List ℕ × List ℕ → Variable
+entry_row entry = record { key = entry.0; value = entry.1 }
+
+abbrev pub rows_of : List (List ℕ × List ℕ) → List Variable
+rows_of entries = map entry_row entries
+
+-- the variables with each of these, one after another
+abbrev pub with_each : List Variable → List Variable → List Variable
+with_each variables [] = variables
+with_each variables (one ∷ more) = with_each (with_variable variables one) more

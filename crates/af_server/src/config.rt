@@ -1,13 +1,12 @@
 // The configuration: a JSON object of roles, users, pools, variables, DAGs and limits.
-ghost use Rattle.std.specs.Prelude.{◌≡◌, ◌≤◌, ◌<◌, length, Err, IfOk, ok_or, is_some, true};
-ghost use Rattle.serde_json.specs.Find.{as_object};
+ghost use Rattle.std.specs.Prelude.{◌≡◌, ◌<◌, length, map, Ok, Err, IfOk, ok_or};
 ghost use Rattle.af_base.specs.JsonValue.{view};
 ghost use Rattle.af_policy.specs.Rows.{IsPolicy};
 ghost use Rattle.af_sched.specs.State.{AreRows};
 ghost use Rattle.af_base.specs.Parsed.{json_of};
 ghost use Rattle.af_base.specs.Readings.{OrMemory, seen};
 ghost use Rattle.af_server.specs.declared.reason.Reason.{Reason};
-ghost use Rattle.af_server.specs.Configurations.{configuration_in, configuration_of, longest};
+ghost use Rattle.af_server.specs.Configurations.{begun_in, configuration_in, configuration_of, longest, some_user, users_begun};
 
 mod access;
 mod dags;
@@ -24,6 +23,7 @@ mod upstream;
 mod users;
 mod variables;
 
+use crate::members::optional_list;
 use crate::reason::Reason;
 use access::sync_dags;
 use af_base::{Json, json_in};
@@ -67,7 +67,8 @@ impl Configuration {
     /// Reads a configuration. The lists are taken in order, roles, users, pools, variables and DAGs, and rows in theirs, then the
     /// access control of the DAGs, and then the limits; the first fault decides the reason. Of a row, its members are read first, in
     /// order (kind, then name, then limits), and then its own faults are looked for. `Memory` comes only of bytes that are not too
-    /// long, where a growth was refused before a fault was met.
+    /// long, where a growth was refused before a fault was met; what they say is known once they are read as JSON, which takes
+    /// memory, and from then on `of_value` says where it comes.
     pub fn read(alloc: Global, bytes: &[u8]) -> Result<Configuration, Reason>
         ensures read { OrMemory Reason.Memory (configuration_of bytes.now) result }
         ensures long { longest < length bytes.now → result ≡ Err Reason.Unreadable }
@@ -92,10 +93,21 @@ impl Configuration {
         let _dags = self.state.dags();
     }
 
-    /// Reads what a JSON value says. Of one that is no object the reason is told, memory or not.
-    pub(crate) fn of_value(alloc: Global, value: &Json<'_>) -> Result<Configuration, Reason>
+    /// Reads what a JSON value says. `Memory` comes only of an object whose roles are a list, and which lists a role or a user: else
+    /// the reason is told, memory or not.
+    #[tactic(auto, using(crate::proofs::ConfigurationLemmas::begun_decides, crate::proofs::ConfigurationLemmas::begun_is_told))]
+    pub fn of_value(alloc: Global, value: &Json<'_>) -> Result<Configuration, Reason>
         ensures read { OrMemory Reason.Memory (configuration_in (view value.now)) result }
-        ensures memory { result ≡ Err Reason.Memory → is_some (as_object (view value.now)) ≡ true }
+        ensures memory { result ≡ Err Reason.Memory → begun_in (view value.now) ≡ Ok tt }
+    {
+        match begin(value) {
+            Ok(()) => Configuration::of_object(alloc, value),
+            Err(reason) => Err(reason),
+        }
+    }
+
+    fn of_object(alloc: Global, value: &Json<'_>) -> Result<Configuration, Reason>
+        ensures { OrMemory Reason.Memory (configuration_in (view value.now)) result }
     {
         if !value.is_object() {
             return Err(Reason::Shape);
@@ -111,6 +123,36 @@ impl Configuration {
             scripts,
             limits,
         })
+    }
+}
+
+/// What is told before any memory is wanted: that the value is no object, or its roles no list; and where no role is listed, that its
+/// users are no list, or that there are none, so that nobody has Admin.
+fn begin(value: &Json<'_>) -> Result<(), Reason>
+    ensures { result ≡ begun_in (view value.now) }
+{
+    if !value.is_object() {
+        return Err(Reason::Shape);
+    }
+    let roles = optional_list(value, "roles")?;
+    begin_users(value, roles)
+}
+
+fn begin_users(config: &Json<'_>, roles: &[Json<'_>]) -> Result<(), Reason>
+    ensures { result ≡ users_begun (view config.now) (map view roles.now) }
+{
+    match roles.split_first() {
+        None => some_user(optional_list(config, "users")?),
+        Some(_) => Ok(()),
+    }
+}
+
+fn some_user(rows: &[Json<'_>]) -> Result<(), Reason>
+    ensures { result ≡ some_user (map view rows.now) }
+{
+    match rows.split_first() {
+        None => Err(Reason::Admin),
+        Some(_) => Ok(()),
     }
 }
 

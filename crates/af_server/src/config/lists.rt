@@ -13,7 +13,7 @@ use super::draft::StateDraft;
 use super::pools::add_pool;
 use super::roles::read_role;
 use super::users::read_user;
-use super::variables::add_variable;
+use super::variables::add_variables;
 use crate::members::optional_list;
 use crate::reason::Reason;
 use af_base::Json;
@@ -97,7 +97,7 @@ pub fn read_state(alloc: Global, config: &Json<'_>) -> Result<StateDraft, Reason
 {
     let mut draft = StateDraft::new(alloc)?;
     read_pools(alloc, &mut draft, config)?;
-    read_variables(alloc, &mut draft, config)?;
+    let mut draft = read_variables(alloc, draft, config)?;
     read_dags(alloc, &mut draft, config)?;
     Ok(draft)
 }
@@ -110,8 +110,8 @@ fn read_pools(alloc: Global, draft: &mut StateDraft, config: &Json<'_>) -> Resul
 }
 
 /// Adds the variables that are listed.
-fn read_variables(alloc: Global, draft: &mut StateDraft, config: &Json<'_>) -> Result<(), Reason>
-    ensures { Makes Reason.Memory (with_rows variable_taken (codes "variables") (view config.now) draft.old) draft.new result }
+fn read_variables(alloc: Global, draft: StateDraft, config: &Json<'_>) -> Result<StateDraft, Reason>
+    ensures { OrMemory Reason.Memory (with_rows variable_taken (codes "variables") (view config.now) draft) result }
 {
     add_variables(alloc, draft, optional_list(config, "variables")?)
 }
@@ -129,16 +129,6 @@ fn add_pools(alloc: Global, draft: &mut StateDraft, rows: &[Json<'_>]) -> Result
 {
     for row in rows {
         add_pool(alloc, draft, row)?;
-    }
-    Ok(())
-}
-
-/// Adds the variables of the rows.
-fn add_variables(alloc: Global, draft: &mut StateDraft, rows: &[Json<'_>]) -> Result<(), Reason>
-    ensures { Makes Reason.Memory (taking variable_taken draft.old (map view rows.now)) draft.new result }
-{
-    for row in rows {
-        add_variable(alloc, draft, row)?;
     }
     Ok(())
 }

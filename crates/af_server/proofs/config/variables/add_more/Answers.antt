@@ -1,7 +1,7 @@
 use Rattle.std.proofs.Common.{arith}
 use Rattle.af_base.proofs.TakingLemmas.{item_taken, items_taken}
 use Rattle.af_server.specs.VariableRows.{variable_taken}
-use Rattle.af_server.proofs.config.lists.add_variables.Goals as goal
+use Rattle.af_server.proofs.config.variables.add_more.Goals as goal
 
 pub loop-row-preserved : goal.loop-row-preserved
 loop-row-preserved c =
