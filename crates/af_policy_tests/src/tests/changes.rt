@@ -1,6 +1,6 @@
 //! Changes told as steps: what each makes of the policy that the one before left, or its first fault.
 use crate::tests::asserts::{all_go, holds};
-use crate::tests::openings::{policy, role_over, user};
+use crate::tests::openings::{names, policy, role_over, user};
 use crate::tests::steps::{Step, after};
 use crate::tests::words::{
     ADAM, ADAMS, ADMIN, ANOTHER, BAD_CAN_FLY, BAD_FLY, BAD_LARGE_READ, BOB, BOBS, CAN_CREATE,
@@ -10,7 +10,8 @@ use crate::tests::words::{
     POOLS, PUBLIC, ROLE_7, ROLE_IN_USE, SEA, SKY, SMALL_DAGS, TOO_MANY, UNKNOWN_SKY, VERA, VERAS,
     VIEWER, X, Y,
 };
-use af_policy::{Policy, PolicyDraft};
+use af_names::UserName;
+use af_policy::{Policy, PolicyDraft, User};
 use af_role::{ResourceKind, Role};
 use std::alloc::Global;
 use std::test::Fail;
@@ -169,6 +170,48 @@ const CROWDED: &[(Step, &str)] = &[
 fn a_policy_has_4096_roles_at_most(rt: HostRuntime) -> Result<(), Fail> {
     let mut policy = crowded(rt.alloc(), 4090)?;
     let fault = first_fault(rt.alloc(), &mut policy, CROWDED)?;
+    all_go(&rt, fault);
+    Ok(())
+}
+
+/// The user of a number below 65,536 times 256, whose digest has its three lower bytes behind its first.
+fn member(alloc: Global, number: u32) -> Result<User, Fail> {
+    let name = format!(in alloc; "user {number}")?;
+    let mut digest: [u8; 32] = [255; 32];
+    let bytes = number.to_be_bytes();
+    digest[1] = bytes[1];
+    digest[2] = bytes[2];
+    digest[3] = bytes[3];
+    let name = UserName::parse(alloc, name.as_str())?;
+    Ok(User::new(name, digest, names(alloc, &[VIEWER])?))
+}
+
+/// A policy of so many users beside adam, the one Admin.
+fn peopled(alloc: Global, users: u32) -> Result<Policy, Fail> {
+    let mut draft = PolicyDraft::new(alloc)?;
+    for number in 0..users {
+        draft.add_user(alloc, member(alloc, number)?)?;
+    }
+    draft.add_user(alloc, user(alloc, ADAM, ADAMS, [ADMIN].as_slice())?)?;
+    Ok(draft.finish(alloc)?)
+}
+
+/// What is told where there is room for one user more.
+const PEOPLED: &[(Step, &str)] = &[
+    (Step::AddUser(CY, ANOTHER, &[VIEWER]), DONE),
+    (Step::AddUser(EVE, BOBS, &[VIEWER]), TOO_MANY),
+    (Step::AddUser(EVE, BOBS, &[SKY]), UNKNOWN_SKY),
+    (Step::AddUser(CY, BOBS, &[VIEWER]), EXISTS),
+    (Step::AddUser(EVE, ANOTHER, &[VIEWER]), EXISTS),
+    (Step::SetRoles(CY, &[OP]), DONE),
+    (Step::DropUser(CY), DONE),
+    (Step::AddUser(EVE, BOBS, &[VIEWER]), DONE),
+];
+
+#[test]
+fn a_policy_has_65536_users_at_most(rt: HostRuntime) -> Result<(), Fail> {
+    let mut policy = peopled(rt.alloc(), 65534)?;
+    let fault = first_fault(rt.alloc(), &mut policy, PEOPLED)?;
     all_go(&rt, fault);
     Ok(())
 }
