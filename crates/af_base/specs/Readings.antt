@@ -14,12 +14,12 @@ abbrev pub seen : {X Y E : Type 0} → (X → Y) → Result X E → Result Y E
 seen f (Ok x) = Ok (f x)
 seen f (Err fault) = Err fault
 
--- what is read where memory suffices, or want of memory
+-- what is read where memory suffices, or out of memory
 abbrev pub OrMemory : {X E : Type 0} → E → Result X E → Result X E → Type 0
 OrMemory memory expected (Ok x) = expected ≡ Ok x
 OrMemory memory expected (Err fault) = (expected ≡ Err fault) ⊎ (fault ≡ memory)
 
--- what is made in place where memory suffices, or want of memory
+-- what is made in place where memory suffices, or out of memory
 abbrev pub Makes : {S E : Type 0} → E → Result S E → S → Result ⊤ E → Type 0
 Makes memory expected made (Ok done) = expected ≡ Ok made
 Makes memory expected made (Err fault) = (expected ≡ Err fault) ⊎ (fault ≡ memory)

@@ -159,7 +159,7 @@ none_some p q = let e = sym p ∙ q in cc
 some_one : {o : Option Ended} {a b : Ended} → o ≡ Some a → o ≡ Some b → a ≡ b
 some_one {a = a} {b = b} p q = let e : Some a ≡ Some b = sym p ∙ q in cc
 
--- a fault that is no want of memory is that of the definition
+-- a fault that is not out of memory is that of the definition
 fault_is : (r : Result Call RouteFault) (f : RouteFault) → wants_memory (reply.Fault f) ≡ false → IsRouted r (Err f) → r ≡ Err f
 fault_is r fault.NoPath fine it = it
 fault_is r (fault.BadMethod methods) fine it = it

@@ -99,7 +99,7 @@ problem_body s detail = compact_text (fault_data s detail)
 abbrev pub problem : Status → Option Methods → List ℕ → Told
 problem s allow detail = record { status = s; allow = allow; version = None; seq = None; body = Some (problem_body s detail) }
 
--- want of memory, with nothing done, and with the change done and no memory for its reply: fixed texts, after which the connection closes
+-- out of memory, with nothing done, and with the change done and no memory for its reply: fixed texts, after which the connection closes
 unfoldable pub memory_text : List ℕ
 memory_text = answer_text (problem status.Unavailable None (codes "out of memory")) false true
 

@@ -36,7 +36,7 @@ module _ {S : Type 0} (answers : S → Option (List ℕ) → Call → Served →
       → answers old token call (served.Shown x) a → answers old token other (served.Shown y) b → (x ≡ y) × (a ≡ b)
 
   -- What the service tells of a call, and how that leaves it, is what this function says, where it has the memory to; and of a call whose
-  -- body was not read, for want of memory, the function says what it says of the whole one, or nothing.
+  -- body was not read, for lack of memory, the function says what it says of the whole one, or nothing.
   pub record TellsBy (told : S → Option (List ℕ) → Call → Option (Shown × S)) : Type 0 where
     pub tells :
         (old : S) (token : Option (List ℕ)) (call : Call) (shown : Shown) (new : S)

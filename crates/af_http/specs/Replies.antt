@@ -19,7 +19,7 @@ abbrev pub told_by : Shown → Told
 told_by shown =
     record { status = shown.status; allow = None; version = shown.version; seq = shown.seq; body = cond (is_empty shown.status) None shown.body }
 
--- The bytes of a reply, without its body after a HEAD. Want of memory has fixed ones.
+-- The bytes of a reply, without its body after a HEAD. Out of memory has fixed ones.
 abbrev pub reply_text : Reply → Bool → Bool → List ℕ
 reply_text (reply.Fault fault.NoPath) head_only closes =
     answer_text (problem status.NotFound None (codes "no such path")) head_only closes
@@ -30,7 +30,7 @@ reply_text (reply.Served (served.Shown shown)) head_only closes = answer_text (t
 reply_text (reply.Served served.NothingDone) head_only closes = memory_text
 reply_text (reply.Served served.ReplyLost) head_only closes = lost_text
 
--- it tells a want of memory
+-- it tells out of memory
 abbrev pub wants_memory : Reply → Bool
 wants_memory (reply.Fault fault.NoPath) = false
 wants_memory (reply.Fault (fault.BadMethod allow)) = false

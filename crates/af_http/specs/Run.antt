@@ -32,7 +32,7 @@ abbrev pub exchanges_text : ℕ → List Exchange → List ℕ
 exchanges_text count [] = []
 exchanges_text count (x ∷ xs) = exchange_text count x ++ exchanges_text (count + 1) xs
 
--- how the connection ends after a request, if it does: for want of memory, or because it closes
+-- how the connection ends after a request, if it does: for lack of memory, or because it closes
 abbrev pub end_by : Bool → Bool → Option Ended
 end_by wants closes = cond wants (Some end.NoMemory) (cond closes (Some end.Closed) None)
 
@@ -64,7 +64,7 @@ Ends exchanges ended text rest closing end.Closed =
 Ends exchanges ended text rest closing (end.Refused status) =
     (refusal : Refusal) × AllGoOn 0 exchanges × IsRefused rest refusal × (ended ≡ at_end refusal) × (closing ≡ refusal_text refusal)
     × (status ≡ status_of refusal)
--- want of memory at the opening, before anything was read, or for a request
+-- out of memory at the opening, before anything was read, or for a request
 Ends exchanges ended text rest closing end.NoMemory =
     (IsUnopened exchanges text closing ⊎ (LastEnds 0 exchanges end.NoMemory × (closing ≡ []))) × (ended ≡ false)
 -- a read that failed, or too many reads for one request: all requests that are whole have been answered
@@ -111,7 +111,7 @@ write_faults (end.Refused status) = 0
 write_faults end.Turns = 0
 write_faults end.NoMemory = 0
 
--- the text for want of memory was written, and the connection ended for that; or a write of it failed
+-- the text for lack of memory was written, and the connection ended for that; or a write of it failed
 abbrev pub IsMemoryText : Taken → Taken → Ended → Type 0
 IsMemoryText old new end.NoMemory = Grew old new × Writes old new memory_text false
 IsMemoryText old new end.WriteFault = Grew old new × Writes old new memory_text true

@@ -9,7 +9,7 @@ pub fn one_request()
 {}
 
 /// A service answers in one way where what it tells of a call, and how that leaves it, are those of a function: also of a call
-/// whose body was not read for want of memory, of which that function says what it says of the whole one, or nothing.
+/// whose body was not read for lack of memory, of which that function says what it says of the whole one, or nothing.
 pub fn one_answer<S: Service>()
     ensures { OneAnswer S.answers }
 {}

@@ -65,7 +65,7 @@ pub fn bad_method_body() -> &'static [u8]
     b"{\"detail\":\"method not allowed\",\"status\":405,\"title\":\"Method Not Allowed\",\"type\":\"about:blank\"}"
 }
 
-/// The whole text for want of memory, with nothing done.
+/// The whole text for lack of memory, with nothing done.
 pub fn memory_text() -> &'static [u8]
     ensures text { result.now ≡ memory_text }
     ensures some { 0 < length result.now }
@@ -73,7 +73,7 @@ pub fn memory_text() -> &'static [u8]
     b"HTTP/1.1 503 Service Unavailable\r\nContent-Type: application/problem+json\r\nContent-Length: 90\r\nConnection: close\r\n\r\n{\"detail\":\"out of memory\",\"status\":503,\"title\":\"Service Unavailable\",\"type\":\"about:blank\"}"
 }
 
-/// The whole text for want of memory, with the change done and its reply lost.
+/// The whole text for lack of memory, with the change done and its reply lost.
 pub fn lost_text() -> &'static [u8]
     ensures text { result.now ≡ lost_text }
     ensures some { 0 < length result.now }

@@ -136,7 +136,7 @@ pub fn refuse<W: Sink>(writer: &mut W, outgoing: &mut Outgoing, refusal: Refusal
     put_answer(writer, outgoing, &answer, refusal.head_only(), true);
 }
 
-/// Whether the reply tells a want of memory.
+/// Whether the reply tells out of memory.
 pub fn wants_memory(reply: &Reply) -> bool
     ensures { result ≡ wants_memory reply.now }
 {

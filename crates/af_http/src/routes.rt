@@ -252,7 +252,7 @@ impl Routes {
         }
     }
 
-    /// What a method, a target and a body ask for, or why they ask for nothing. Want of memory is told only where they ask for
+    /// What a method, a target and a body ask for, or why they ask for nothing. Out of memory is told only where they ask for
     /// something.
     pub fn read_call(
         &mut self,

@@ -19,7 +19,7 @@ use Rattle.af_ops.specs.Verdicts.{Verdict, Changes, Refuses, done, opened, recor
 
 -- what is said of an operation that is not refused, where memory is wanted for it, or that it is refused
 module _ (asked : Op) (limit : ℕ) (under : Under) (state : StateRows) where
-  -- its own fault, which is no want of memory
+  -- its own fault, which is not out of memory
   pub own_fault : (effect : Result Effect OpFault) (fault : OpFault) → (fault ≡ OutOfMemory → ⊥) → MemoryLast OutOfMemory effect (Err fault) → IsDecided asked state (done limit under effect) (Err (why.Op fault))
   own_fault effect fault other (inl is) = inl (ap (done limit under) is)
   own_fault effect fault other (inr wants) = absurd (other wants.1)
@@ -90,7 +90,7 @@ module _ (asked : Op) (limit : ℕ) (under : Under) (state : StateRows) where
 none_some : {X : Type 0} {x : X} → None ≡ Some x → ⊥
 none_some same = cc
 
--- want of memory may be served of each verdict
+-- out of memory may be served of each verdict
 pub without_memory : (asked : Op) (it : Verdict) (old : StandingRows) (gave : Served) (new : StandingRows) → IsServed asked (Refuses OutOfMemory) old gave new → IsServed asked it old gave new
 without_memory asked it old (served.Shown shown) new is = absurd (none_some is.0)
 without_memory asked it old served.NothingDone new is = is

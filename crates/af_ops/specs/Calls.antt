@@ -65,7 +65,7 @@ call_of_row endpoint.DeleteUser parts query body = option_map (λ name. Policy (
 call_of_row endpoint.GetMe parts query body = Some (Policy policy_op.Me)
 call_of_row endpoint.SyncDag parts query body = option_map (λ dag_id. Policy (sync_asked dag_id body)) (dag_id_in parts)
 
--- the same, whose body was not read for want of memory
+-- the same, whose body was not read for lack of memory
 abbrev pub unread : Call → Call
 unread (State it) = State (operations.unread it)
 unread (Entries asked) = Entries asked

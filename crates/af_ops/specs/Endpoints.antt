@@ -213,7 +213,7 @@ are_names method template.User parts = is_some (account_name_in parts)
 are_names method template.Me parts = true
 are_names method template.Sync parts = is_some (dag_id_in parts)
 
--- the same operation, whose body was not read for want of memory
+-- the same operation, whose body was not read for lack of memory
 abbrev pub unread : Op → Op
 unread op.Version = op.Version
 unread (op.ListDags asked) = op.ListDags asked

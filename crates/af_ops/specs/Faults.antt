@@ -18,7 +18,7 @@ use Rattle.af_ops.specs.Rows.{Problem}
 abbrev pub fault_of : Status → List ℕ → Option Problem
 fault_of status detail = Some record { status = status; detail = detail }
 
--- the status of a fault of an operation; of want of memory that of the fixed text with which the connection then ends
+-- the status of a fault of an operation; of out of memory that of the fixed text with which the connection then ends
 abbrev pub op_status : OpFault → Status
 op_status (fault.BadParameter it) = status.BadRequest
 op_status fault.BadBody = status.BadRequest
@@ -38,7 +38,7 @@ op_status fault.InUse = status.Conflict
 op_status fault.HistoryFull = status.InsufficientStorage
 op_status fault.OutOfMemory = status.Unavailable
 
--- the fault of an operation; of want of memory nothing is told here, for the connection then ends with a fixed text
+-- the fault of an operation; of out of memory nothing is told here, for the connection then ends with a fixed text
 abbrev pub problem_of : Op → CallFault → Option Problem
 problem_of asked why.Unauthenticated = fault_of status.Unauthorized (codes "authentication required")
 problem_of asked (why.Denied need) = fault_of status.Forbidden (codes "missing permission " ++ need_text need (dag_of asked))

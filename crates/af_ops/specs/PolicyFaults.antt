@@ -1,4 +1,4 @@
--- What is told of a fault of an operation on the policy: its status and its detail. Of want of memory nothing is told here, for the
+-- What is told of a fault of an operation on the policy: its status and its detail. Of out of memory nothing is told here, for the
 -- connection then ends with a fixed text.
 use Rattle.std.specs.Prelude.{ℕ, List, [], ◌++◌, Option, None, codes, decimal}
 use Rattle.af_role.specs.Needs.{need_text}

@@ -68,7 +68,7 @@ users_asked asked = page_asked reading.Users read.Users asked
 abbrev pub made : Change → PolicyOp
 made change = policy_op.Change (Made change)
 
--- the same change, whose body was not read for want of memory; what has no body stays
+-- the same change, whose body was not read for lack of memory; what has no body stays
 abbrev pub unread_change : Change → PolicyOp
 unread_change (AddRole input) = policy_op.Unread kind.AddRole
 unread_change (SetRole input) = policy_op.Unread kind.SetRole
@@ -82,7 +82,7 @@ abbrev pub unread_ask : Ask → PolicyOp
 unread_ask (Made change) = unread_change change
 unread_ask (Bad kind input) = policy_op.Unread kind
 
--- the same operation, whose body was not read for want of memory
+-- the same operation, whose body was not read for lack of memory
 abbrev pub unread : PolicyOp → PolicyOp
 unread policy_op.Me = policy_op.Me
 unread (policy_op.Read asked) = policy_op.Read asked

@@ -27,7 +27,7 @@ name_of (pool_op.Get name) = name
 name_of (pool_op.Change name input) = name
 name_of (pool_op.Delete name) = name
 
--- the same operation, whose body was not read for want of memory
+-- the same operation, whose body was not read for lack of memory
 abbrev pub unread : PoolOp → PoolOp
 unread (pool_op.List asked) = pool_op.List asked
 unread (pool_op.Add input) = pool_op.Add (Err OutOfMemory)

@@ -57,7 +57,7 @@ CanDo state (edit.VariableRemoved key) = change_fault state.rows.variables key �
 abbrev pub IsExact : StateRows → Edit → Type 0
 IsExact state it = (is_edit it ≡ false) ↔ (edited it state ≡ state)
 
--- what is done where memory suffices, or want of memory in place of what would be done, never of another fault
+-- what is done where memory suffices, or out of memory in place of what would be done, never of another fault
 abbrev pub MemoryLast : {X E : Type 0} → E → Result X E → Result X E → Type 0
 MemoryLast memory expected (Ok x) = expected ≡ Ok x
 MemoryLast memory expected (Err fault) = (expected ≡ Err fault) ⊎ (IsOk expected × (fault ≡ memory))

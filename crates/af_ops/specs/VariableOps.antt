@@ -27,7 +27,7 @@ key_of (variable_op.Get key) = key
 key_of (variable_op.Change key input) = key
 key_of (variable_op.Delete key) = key
 
--- the same operation, whose body was not read for want of memory
+-- the same operation, whose body was not read for lack of memory
 abbrev pub unread : VariableOp → VariableOp
 unread (variable_op.List asked) = variable_op.List asked
 unread (variable_op.Add input) = variable_op.Add (Err OutOfMemory)

@@ -1,5 +1,5 @@
 // Reading the access control of a DAG: an object of names of roles, with a list of texts for each. Each reader takes what is told of a
-// value of another kind, of a name that is none and of want of memory, so that bodies and configurations may read alike.
+// value of another kind, of a name that is none and of out of memory, so that bodies and configurations may read alike.
 ghost use Rattle.std.specs.Prelude.{◌≡◌, [], map, IfOk, OnOk};
 ghost use Rattle.serde_json.specs.Data.{put};
 ghost use Rattle.af_base.specs.JsonValue.{members_view, view};

@@ -25,7 +25,7 @@ use af_sched::State;
 use std::alloc::Global;
 
 /// Decides an operation that is not open, under a policy, and works out what it does, with all the memory for that. It changes
-/// nothing but that spare room may grow. A change is refused where there are as many entries as the limit. Want of memory is
+/// nothing but that spare room may grow. A change is refused where there are as many entries as the limit. Out of memory is
 /// told only of an operation that is permitted and not refused.
 pub fn decide(
     alloc: Global,
@@ -115,7 +115,7 @@ fn with_room(prepared: Prepared, under: Under, limit: u32) -> Result<Prepared, O
     Ok(prepared)
 }
 
-/// Whether a fault is told as a full history: it is want of memory for a change, for whose entry there is no room, memory or not;
+/// Whether a fault is told as a full history: it is out of memory for a change, for whose entry there is no room, memory or not;
 /// but of one that chooses instances the want is told.
 fn is_full(state: &State, under: Under, limit: u32, op: &Op, fault: &OpFault) -> bool
     ensures { (reads : List ℕ → Bool) (now : ℕ) → MemoryLast OutOfMemory (effect_of reads state.now.rows op.now now) (Err fault.now)
@@ -140,7 +140,7 @@ fn chooses(op: &Op) -> bool
     matches!(op, Op::ClearRun(_, _, _) | Op::ClearInstances(_, _))
 }
 
-/// Whether it is want of memory.
+/// Whether it is out of memory.
 fn is_want(fault: &OpFault) -> bool
     ensures { (result ≡ true) ↔ (fault.now ≡ OutOfMemory) }
 {

@@ -1,4 +1,4 @@
-// The names that stand in the parts of a path, decoded. Want of memory is told of a name alone.
+// The names that stand in the parts of a path, decoded. Out of memory is told of a name alone.
 ghost use Rattle.std.specs.Prelude.{◌≡◌, IfOk, IsErr, IsSome, is_some, map, string_bytes};
 ghost use Rattle.af_ops.specs.Endpoints.{account_name_in, dag_id_in, first_in, instance_ids_in, is_all, row_name_in, run_id_in, run_ids_in, task_id_in};
 
@@ -15,7 +15,7 @@ pub(crate) fn is_all(parts: &[String]) -> bool
     }
 }
 
-/// Whether the first part of a path is the id of a DAG. Want of memory is told of a name alone.
+/// Whether the first part of a path is the id of a DAG. Out of memory is told of a name alone.
 pub(crate) fn is_dag_id(alloc: Global, parts: &[String]) -> bool
     ensures { result ≡ is_some (dag_id_in (map (λ part. string_bytes part) parts.now)) }
 {
@@ -36,7 +36,7 @@ pub(crate) fn dag_id_in(alloc: Global, parts: &[String]) -> Result<Option<DagId>
     first_name(alloc, parts)
 }
 
-/// Whether the second part of a path is the id of a run. Want of memory is told of a name alone.
+/// Whether the second part of a path is the id of a run. Out of memory is told of a name alone.
 pub(crate) fn is_run_id(alloc: Global, parts: &[String]) -> bool
     ensures { result ≡ is_some (run_id_in (map (λ part. string_bytes part) parts.now)) }
 {
@@ -87,7 +87,7 @@ pub(crate) fn run_ids_in(
     }
 }
 
-/// Whether the third part of a path is the id of a task. Want of memory is told of a name alone.
+/// Whether the third part of a path is the id of a task. Out of memory is told of a name alone.
 pub(crate) fn is_task_id(alloc: Global, parts: &[String]) -> bool
     ensures { result ≡ is_some (task_id_in (map (λ part. string_bytes part) parts.now)) }
 {
@@ -138,7 +138,7 @@ pub(crate) fn instance_ids_in(
     }
 }
 
-/// Whether the first part of a path is the name of a pool, which is spelled as the key of a variable is. Want of memory is told
+/// Whether the first part of a path is the name of a pool, which is spelled as the key of a variable is. Out of memory is told
 /// of a name alone.
 pub(crate) fn is_row_name(alloc: Global, parts: &[String]) -> bool
     ensures { result ≡ is_some (row_name_in (map (λ part. string_bytes part) parts.now)) }
@@ -152,7 +152,7 @@ pub(crate) fn is_row_name(alloc: Global, parts: &[String]) -> bool
     }
 }
 
-/// Whether the first part of a path is the name of a role, which is spelled as that of a user is. Want of memory is told of a name
+/// Whether the first part of a path is the name of a role, which is spelled as that of a user is. Out of memory is told of a name
 /// alone.
 pub(crate) fn is_account_name(alloc: Global, parts: &[String]) -> bool
     ensures { result ≡ is_some (account_name_in (map (λ part. string_bytes part) parts.now)) }

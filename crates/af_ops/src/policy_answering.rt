@@ -17,7 +17,7 @@ use af_policy::{ReadFault, SubmitFault, Versions};
 use std::alloc::{AllocError, Global};
 
 /// Answers an operation on the policy for who holds the token, under the latest version, and makes the version that it asks for. The
-/// text of the reply is made before that, so no reply is lost. Want of memory comes last (`perform_policy`): where the operation is
+/// text of the reply is made before that, so no reply is lost. Out of memory comes last (`perform_policy`): where the operation is
 /// refused, memory is wanted for the text of the refusal alone.
 pub fn answer_policy(
     alloc: Global,

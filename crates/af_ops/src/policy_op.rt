@@ -13,7 +13,7 @@ pub enum PolicyOp {
     Read(PolicyRead),
     /// A change that is asked for, or what is wrong with its body.
     Change(Ask),
-    /// A change of a kind, whose body was not read for want of memory.
+    /// A change of a kind, whose body was not read for lack of memory.
     Unread(ChangeKind),
 }
 

@@ -1,4 +1,4 @@
-// What is told of operations on the policy: faults, and what is done. `AllocError` is given where the fault is want of memory, of which
+// What is told of operations on the policy: faults, and what is done. `AllocError` is given where the fault is out of memory, of which
 // nothing is told, and else only where a growth was refused.
 ghost use Rattle.std.specs.Prelude.{◌≡◌, Some, IfOk, option_map};
 ghost use Rattle.af_ops.specs.PolicyFaults.{change_problem, me_problem, read_problem, submit_problem, unread_problem};
@@ -52,7 +52,7 @@ pub(crate) fn shown_read_fault(
     }
 }
 
-/// What is told of why a change makes no version, under the version of that number. `AllocError` where the fault is want of memory, of
+/// What is told of why a change makes no version, under the version of that number. `AllocError` where the fault is out of memory, of
 /// which nothing is told, and else only where a growth was refused.
 pub fn shown_submit_fault(
     alloc: Global,

@@ -19,7 +19,7 @@ use af_names::{DagId, Instant, RunId, TaskId};
 use af_role::Need;
 use std::alloc::{AllocError, Global};
 
-/// What is told of a fault that was decided under a policy. `AllocError` where the fault is want of memory, of which nothing is
+/// What is told of a fault that was decided under a policy. `AllocError` where the fault is out of memory, of which nothing is
 /// told, and else only where a growth was refused.
 pub fn shown_fault(
     alloc: Global,
@@ -54,7 +54,7 @@ fn shown_op_fault(alloc: Global, op: &Op, fault: OpFault, under: Under) -> Resul
     shown_problem(alloc, under, status, detail.as_str())
 }
 
-/// The status that a fault of an operation is told with; that of want of memory is the fixed text's, which is told without a detail.
+/// The status that a fault of an operation is told with; that of out of memory is the fixed text's, which is told without a detail.
 fn op_status(fault: &OpFault) -> Status
     ensures { result ≡ op_status fault.now }
 {

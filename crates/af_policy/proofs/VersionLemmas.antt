@@ -34,7 +34,7 @@ ok_told comes later fault told = ⊎_elim (λ e. sym e) (λ e. cc) told
 pub full_when : (versions : VersionRows) (policy : PolicyRows) → versions.last ≤ length versions.earlier → within versions (Ok policy) ≡ Err Full
 full_when versions policy none_left = ap (λ b. cond b (Err Full) (Ok policy)) (le-leb versions.last (length versions.earlier) none_left)
 
--- ---- want of memory
+-- ---- out of memory
 
 -- it is told of a change alone that tells it
 pub refused_memory : (fault : ChangeFault) → refused_by fault ≡ OutOfMemory → fault ≡ change.OutOfMemory

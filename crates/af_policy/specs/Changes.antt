@@ -183,7 +183,7 @@ abbrev pub wants_memory : Result PolicyRows ChangeFault → Bool
 wants_memory (Ok policy) = true
 wants_memory (Err fault) = has_text fault
 
--- where want of memory may be told in the place of what follows: a policy or a text is made, or texts of permissions are read
+-- where out of memory may be told in the place of what follows: a policy or a text is made, or texts of permissions are read
 abbrev pub may_want_memory : PolicyRows → Change → Bool
 may_want_memory policy (AddRole input) = true
 may_want_memory policy (SetRole input) = true

@@ -23,7 +23,7 @@ use Rattle.af_policy.specs.declared.policy_reply.PolicyReply.TheVariants as repl
 use Rattle.af_policy.specs.declared.read_fault.ReadFault.{ReadFault}
 use Rattle.af_policy.specs.declared.read_fault.ReadFault.TheVariants.{Unauthenticated, Denied, BadBody, NoSuchRole, NoSuchUser}
 
--- a result is what is expected, or it tells want of memory in the place of what would be done; a refusal that is expected
+-- a result is what is expected, or it tells out of memory in the place of what would be done; a refusal that is expected
 -- is told, memory or not
 abbrev pub MemoryLast : {X E : Type 0} → E → Result X E → Result X E → Type 0
 MemoryLast memory expected (Ok x) = expected ≡ Ok x
@@ -67,7 +67,7 @@ abbrev pub user_told : Option UserRow → Result PolicyReply ReadFault
 user_told None = Err NoSuchUser
 user_told (Some user) = Ok (reply.User (shown_user user))
 
--- where want of memory may be told: the rows of a page are listed, or a user's roles are put in order
+-- where out of memory may be told: the rows of a page are listed, or a user's roles are put in order
 abbrev pub reading_wants : PolicyRead → Bool
 reading_wants (Roles span) = true
 reading_wants (Role name) = false

@@ -25,7 +25,7 @@ change_told later (SetUser patch) = user_reply later patch.name
 change_told later (DropUser name) = Some Gone
 change_told later (SyncDag access) = Some Synced
 
--- where want of memory may be told: a user's roles are put in order
+-- where out of memory may be told: a user's roles are put in order
 abbrev pub telling_wants : Change → Bool
 telling_wants (AddRole input) = false
 telling_wants (SetRole input) = false

@@ -18,7 +18,7 @@ abbrev pub asked_kind : Ask → ChangeKind
 asked_kind (Made change) = kind_of change
 asked_kind (Bad kind input) = kind
 
--- want of memory is told as such
+-- out of memory is told as such
 abbrev pub refused_by : ChangeFault → SubmitFault
 refused_by (change.BadAction text) = Refused (change.BadAction text)
 refused_by (change.PairNotAllowed text) = Refused (change.PairNotAllowed text)
@@ -53,7 +53,7 @@ asked_by policy ask (Some user) = unless_lacked policy ask (missing policy user 
 abbrev pub decided : PolicyRows → Option (List ℕ) → Ask → Result PolicyRows SubmitFault
 decided policy token ask = asked_by policy ask (bearer_of policy token)
 
--- where want of memory may be told in the place of what follows: the author lacks nothing, the body is a change, and that
+-- where out of memory may be told in the place of what follows: the author lacks nothing, the body is a change, and that
 -- change may want memory
 abbrev pub permitted_wants : PolicyRows → Ask → Bool
 permitted_wants policy (Bad kind input) = false

@@ -9,7 +9,7 @@ use af_names::{DagId, RoleName, UserName};
 use std::alloc::Global;
 
 impl Policy {
-    /// Who brings a token, and what that user has. The faults are told in the order of `MeFault`, want of memory only where
+    /// Who brings a token, and what that user has. The faults are told in the order of `MeFault`, out of memory only where
     /// no other applies.
     pub fn me(&self, alloc: Global, token: Option<&[u8]>) -> Result<Me<'_>, MeFault>
         ensures { MemoryLast MeFault.OutOfMemory (me_of self.now (option_copied token.entry)) result }
@@ -39,7 +39,7 @@ impl Policy {
         Ok(Me { user, permissions })
     }
 
-    /// What is told of this policy to the bearer of a token. The faults are told in the order of `ReadFault`, want of memory
+    /// What is told of this policy to the bearer of a token. The faults are told in the order of `ReadFault`, out of memory
     /// only where no other applies, and never of one role.
     pub fn read(
         &self,

@@ -69,7 +69,7 @@ impl Versions {
     }
 
     /// Makes a version of the latest by the change that the bearer of a token asks for, and gives its number. The faults
-    /// are told in the order of `SubmitFault`; after one there is no further version. Want of memory is told only where the
+    /// are told in the order of `SubmitFault`; after one there is no further version. Out of memory is told only where the
     /// change is permitted and may want it, and then also in the place of `Full`, since the policy is made first.
     pub fn submit(
         &mut self,

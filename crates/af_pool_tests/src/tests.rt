@@ -24,7 +24,7 @@ use Step::{Add, Remove, RemoveAmongDags, Set};
 /// A step on the pool of a name, and what it answers.
 type Row<'a> = (Step, &'a str, Result<(), PoolFault>);
 
-/// What a step answers. Want of memory ends the test.
+/// What a step answers. Out of memory ends the test.
 fn taken(
     pools: &mut Pools,
     name: PoolName,

@@ -11,7 +11,7 @@ use af_names::{DagId, Instant, RunId};
 use std::alloc::Global;
 use std::marker::Model;
 
-/// Runs that are to be added to others, which are lent. Contracts see them as the rows of the others, their own rows and
+/// Runs that are to be added to others, which are borrowed. Contracts see them as the rows of the others, their own rows and
 /// the number that the next one gets.
 #[derive(Drop)]
 pub struct Additions<'a> {

@@ -281,7 +281,7 @@ const TWO: &[Row<'static>] = &[
     (2, "a", "r2", RunState::Queued),
 ];
 
-/// Whether a run that is refused for want of memory leaves two runs as they were.
+/// Whether a run that is refused for lack of memory leaves two runs as they were.
 fn is_refused_or_added(runs: &mut Runs, new: NewRun) -> bool {
     runs.add_run(new) != Err(RunFault::OutOfMemory) || has_rows(runs.rows(), TWO)
 }

@@ -72,7 +72,7 @@ impl DagTable {
         self.rows.as_slice()
     }
 
-    /// The DAGs, lent, where they are by id.
+    /// The DAGs, borrowed, where they are by id.
     pub(crate) fn by_id(&self) -> Dags<'_>
         requires { AreInOrder self.now }
         ensures { result ≡ self.now }

@@ -9,7 +9,7 @@ use af_graph::TaskSpec;
 use af_names::DagId;
 use std::marker::Model;
 
-/// The DAGs of a state, lent: in byte order of their ids, each id once. Contracts see them as that list of rows.
+/// The DAGs of a state, borrowed: in byte order of their ids, each id once. Contracts see them as that list of rows.
 #[derive(Drop)]
 pub(crate) struct Dags<'a> {
     rows: &'a [DagRow],

@@ -90,7 +90,7 @@ impl State {
         self.by_id().get(dag_id)
     }
 
-    /// The DAGs, lent.
+    /// The DAGs, borrowed.
     fn by_id(&self) -> Dags<'_>
         ensures { result ≡ self.now.rows.dags }
     {

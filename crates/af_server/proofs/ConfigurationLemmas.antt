@@ -46,7 +46,7 @@ with_policy config policy =
 pub begun_decides : (value : Data) (reason : Reason) → begun_in value ≡ Err reason → configuration_in value ≡ Err reason
 begun_decides value reason is = from_object reason with_policy (object_or value) is
 
--- ---- it is never want of memory
+-- ---- it is never out of memory
 
 list_told : (list : Option (List Data)) → seen (λ (it : Option (List Data)). unwrap_or it []) (ok_or (option_and_then (λ (x : List Data). Some (Some x)) list) Shape) ≡ Err Memory → ⊥
 list_told None is = absurd (cc)
@@ -73,6 +73,6 @@ object_told value false is = absurd (cc)
 begun_is_never_memory : (value : Data) → begun_in value ≡ Err Memory → ⊥
 begun_is_never_memory value is = object_told value (is_some (as_object value)) is
 
--- so what is told then is no want of memory
+-- so what is told then is not out of memory
 pub begun_is_told : (value : Data) (reason : Reason) → begun_in value ≡ Err reason → reason ≡ Memory → begun_in value ≡ Ok tt
 begun_is_told value reason is memory = absurd (begun_is_never_memory value (is ∙ ap (λ (it : Reason). Err it) memory))

@@ -94,7 +94,7 @@ read_is wanted call (inr is) read =
     let same : call ≡ unread wanted = some_same is in
     same ∙ call_whole wanted (ap call_was_read (sym same) ∙ read)
 
--- ---- what is read, or want of memory
+-- ---- what is read, or out of memory
 
 by_read : (expected : Result Call RouteFault) (call : Call) (b : Bool) → call_was_read call ≡ b → IsAsked expected call → OrMemory OutOfMemory (call_or expected) (if b then Ok call else Err OutOfMemory)
 by_read (Ok wanted) call true read asked = ap (λ (it : Call). call_or (Ok it)) (sym (read_is wanted call asked read))

@@ -135,7 +135,7 @@ policy_was_read (policy_op.Read asked) = true
 policy_was_read (policy_op.Change ask) = true
 policy_was_read (policy_op.Unread kind) = false
 
--- whether nothing of a call was left unread for want of memory
+-- whether nothing of a call was left unread for lack of memory
 abbrev pub call_was_read : Call → Bool
 call_was_read (State it) = op_was_read it
 call_was_read (Entries asked) = true

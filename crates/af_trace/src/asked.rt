@@ -134,7 +134,7 @@ fn read_whole(call: Call) -> Result<Call, TraceFault>
     }
 }
 
-/// Whether nothing of a call was left unread for want of memory.
+/// Whether nothing of a call was left unread for lack of memory.
 fn call_was_read(call: &Call) -> bool
     ensures { result ≡ call_was_read call.now }
 {

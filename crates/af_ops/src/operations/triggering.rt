@@ -131,7 +131,7 @@ fn conflict(date: Instant, fault: RunFault) -> OpFault
     }
 }
 
-/// Why a run is not added whose id can not be made for want of memory: what would be told of it, and else that want.
+/// Why a run is not added whose id can not be made for lack of memory: what would be told of it, and else out of memory.
 fn unmade_fault(state: &State, dag_id: &DagId, run_id: &str, date: Instant) -> OpFault
     ensures { MemoryLast OutOfMemory (free_id state.now.rows dag_id.now run_id.now date) (Err result) }
 {

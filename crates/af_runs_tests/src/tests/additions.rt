@@ -91,7 +91,7 @@ fn additions_are_appended(rt: HostRuntime) -> Result<(), Fail> {
     Ok(())
 }
 
-/// Ends the test where additions are not as before: none, after the run that is lent.
+/// Ends the test where additions are not as before: none, after the run that is borrowed.
 fn are_none(rt: &impl Abort, additions: Additions<'_>) {
     holds(rt, additions.rows().is_empty(), "as before");
     let (added, last) = additions.into_rows();

@@ -219,7 +219,7 @@ fn queued_in(state: &State) -> usize {
     count
 }
 
-/// Whether a claim, or want of memory for it, leaves as many queued instances as it is to leave.
+/// Whether a claim, or out of memory for it, leaves as many queued instances as it is to leave.
 fn claims_one(alloc: Global, state: &mut State, moment: &str) -> Result<bool, Fail> {
     match state.claim(alloc, at(moment)?) {
         Ok(claim) => Ok(claim.is_some() && queued_in(state) == 1),
@@ -231,7 +231,7 @@ const SIXTEEN_RUNS: &[Step] = &[Step::Runs(16, 2), Step::Cursor(SIXTEEN_HOURS_LA
 
 const NO_RUNS: &[Step] = &[Step::Runs(0, 0), Step::Cursor(NEW_YEAR)];
 
-/// What is seen after a tick, or after want of memory for it.
+/// What is seen after a tick, or after out of memory for it.
 fn after_tick(alloc: Global, state: &mut State, moment: &str) -> Result<&'static [Step], Fail> {
     match state.tick(alloc, at(moment)?) {
         Ok(_) => Ok(SIXTEEN_RUNS),

@@ -48,7 +48,7 @@ fn taken(alloc: Global, variables: &mut Variables, key: VarKey, step: Step) -> R
     }
 }
 
-/// What a step answers. A fault that was told beforehand is answered too; want of memory ends the test.
+/// What a step answers. A fault that was told beforehand is answered too; out of memory ends the test.
 fn answered(told: Told) -> Result<Result<(), VariableFault>, Fail> {
     match told {
         (_, Err(VariableFault::OutOfMemory)) => Err(VariableFault::OutOfMemory.into()),

@@ -26,7 +26,7 @@ with_lists value policy draft is_object is_policy is_draft =
     ∙ ap (λ (r : Result PolicyRows Reason). r >>= (λ policy. draft_in value >>= (λ draft. synced_in value policy >>= with_limits value draft))) is_policy
     ∙ ap (λ (r : Result Draft Reason). r >>= (λ draft. synced_in value policy >>= with_limits value draft)) is_draft
 
--- a fault of the access control, or want of memory there
+-- a fault of the access control, or out of memory there
 not_synced : (value : Data) (policy : PolicyRows) (draft : Draft) (fault : Reason) → configuration_in value ≡ (synced_in value policy >>= with_limits value draft) → (synced_in value policy ≡ Err fault) ⊎ (fault ≡ Memory) → (configuration_in value ≡ Err fault) ⊎ (fault ≡ Memory)
 not_synced value policy draft fault parts (inl is) = inl (parts ∙ ap (λ (r : Result PolicyRows Reason). r >>= with_limits value draft) is)
 not_synced value policy draft fault parts (inr memory) = inr memory
