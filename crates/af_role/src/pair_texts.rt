@@ -1,4 +1,4 @@
-ghost use Rattle.std.specs.Prelude.{◌≡◌, ◌⊎◌, Ok, Err, IfOk, IfErr};
+ghost use Rattle.std.specs.Prelude.{◌≡◌, ◌⊎◌, ◌<◌, length, Ok, Err, IfOk, IfErr};
 ghost use Rattle.std.specs.Option.{option_copied};
 ghost use Rattle.af_role.specs.PairTexts.{bad_pair_action, pairs_read, pairs_read_at};
 
@@ -7,11 +7,12 @@ use std::alloc::Global;
 
 /// The set of these permissions. The faults in order, where several apply: the first text that is none of the four
 /// actions; the first permission that is not there, since its resource is not known or does not carry its action.
-/// `OutOfMemory` only where a growth was refused.
+/// `OutOfMemory` only where a growth was refused, and of no texts never.
 pub fn read_pairs(alloc: Global, texts: &[PairText]) -> Result<Permissions, PairFault>
     ensures ok { IfOk result (λ permissions. pairs_read texts.now ≡ Ok permissions) }
     ensures refused { IfErr (pairs_read texts.now) (λ fault. (result ≡ Err fault) ⊎ (result ≡ Err PairFault.OutOfMemory)) }
     ensures fault { IfErr result (λ fault. (pairs_read texts.now ≡ Err fault) ⊎ (fault ≡ PairFault.OutOfMemory)) }
+    ensures memory { result ≡ Err PairFault.OutOfMemory → 0 < length texts.now }
 {
     if let Some(text) = bad_action(texts) {
         return Err(PairFault::BadAction(text.copied(alloc)?));
@@ -34,6 +35,7 @@ fn read_each(alloc: Global, texts: &[PairText]) -> Result<Permissions, PairFault
     ensures ok { IfOk result (λ permissions. pairs_read_at texts.now ≡ Ok permissions) }
     ensures refused { IfErr (pairs_read_at texts.now) (λ fault. (result ≡ Err fault) ⊎ (result ≡ Err PairFault.OutOfMemory)) }
     ensures fault { IfErr result (λ fault. (pairs_read_at texts.now ≡ Err fault) ⊎ (fault ≡ PairFault.OutOfMemory)) }
+    ensures memory { result ≡ Err PairFault.OutOfMemory → 0 < length texts.now }
 {
     let mut permissions = Permissions::new(alloc);
     for text in texts {

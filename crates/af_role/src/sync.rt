@@ -1,6 +1,6 @@
-ghost use Rattle.std.specs.Prelude.{◌≡◌, ◌⊎◌, ◌||◌, ◌&&◌, false, not, Ok, Err, IfOk, IfErr, OnOk, OnErr, map};
+ghost use Rattle.std.specs.Prelude.{◌≡◌, ◌⊎◌, ◌||◌, ◌&&◌, true, false, not, Ok, Err, IfOk, IfErr, OnOk, OnErr, map};
 ghost use Rattle.std.specs.List.{list_any};
-ghost use Rattle.std.specs.Option.{option_copied};
+ghost use Rattle.std.specs.Option.{is_some, option_copied};
 ghost use Rattle.af_role.specs.Access.{has_role, is_about, is_admin_name, kept_pairs, names_role, synced, synced_role, unknown_role};
 
 use crate::{AccessControl, Permissions, Role, SyncFault};
@@ -8,7 +8,7 @@ use af_names::{DagId, RoleName};
 use std::alloc::{AllocError, Global};
 
 /// Takes over a DAG's access control: takes the permissions on that DAG alone from each role but Admin, and then adds those
-/// that are listed. Where there is no access control the roles stay. After a fault they are as before.
+/// that are listed. Where there is no access control the roles stay, and no memory is wanted. After a fault they are as before.
 pub fn sync_access(
     alloc: Global,
     roles: &mut Vec<Role>,
@@ -18,6 +18,7 @@ pub fn sync_access(
     ensures ok { OnOk result (synced roles.old.items dag.now (option_copied access.entry) ≡ Ok roles.new.items) }
     ensures refused { IfErr (synced roles.old.items dag.now (option_copied access.entry)) (λ fault. (result ≡ Err fault) ⊎ (result ≡ Err SyncFault.OutOfMemory)) }
     ensures fault { IfErr result (λ fault. (synced roles.old.items dag.now (option_copied access.entry) ≡ Err fault) ⊎ (fault ≡ SyncFault.OutOfMemory)) }
+    ensures memory { result ≡ Err SyncFault.OutOfMemory → is_some (option_copied access.entry) ≡ true }
     ensures err { OnErr result (roles.new ≡ roles.old) }
 {
     let Some(access) = access else {
