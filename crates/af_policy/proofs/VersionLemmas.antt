@@ -2,8 +2,6 @@
 use Rattle.std.proofs.Common.{◌≡◌, ◌⊎◌, ◌≤◌, ℕ, length, true, cond, nat_le, le-leb, List, [], ◌∷◌, ◌++◌, Option, Some, None, Result, Ok, Err, refl, sym, ap, subst, ◌∙◌, ⊎_elim}
 use Rattle.af_policy.specs.Rows.{PolicyRows}
 use Rattle.af_policy.specs.declared.submit_fault.SubmitFault.TheVariants.{Full, OutOfMemory}
-use Rattle.af_policy.specs.declared.change.Change.{Change}
-use Rattle.af_policy.specs.declared.change.Change.TheVariants.{AddRole, SetRole, DropRole, AddUser, SetUser, DropUser, SyncDag}
 use Rattle.af_policy.specs.declared.change_fault.ChangeFault.{ChangeFault}
 use Rattle.af_policy.specs.declared.change_fault.ChangeFault.TheVariants as change
 use Rattle.af_policy.specs.declared.ask.Ask.{Ask}
@@ -50,22 +48,12 @@ refused_memory change.LastAdmin e = cc
 refused_memory change.TooMany e = cc
 refused_memory change.OutOfMemory e = refl
 
--- a change that makes a policy wants memory
-made_wants : (policy later : PolicyRows) (c : Change) → changed policy c ≡ Ok later → may_want_memory policy c ≡ true
-made_wants policy later (AddRole input) e = refl
-made_wants policy later (SetRole input) e = refl
-made_wants policy later (DropRole name) e = ap wants_memory e
-made_wants policy later (AddUser user) e = ap wants_memory e
-made_wants policy later (SetUser patch) e = ap wants_memory e
-made_wants policy later (DropUser name) e = ap wants_memory e
-made_wants policy later (SyncDag access) e = ap wants_memory e
-
 permitted_made : (policy later : PolicyRows) (ask : Ask) → permitted policy ask ≡ Ok later → permitted_wants policy ask ≡ true
 permitted_made policy later (Bad kind input) e = cc
 permitted_made policy later (Made c) e = made (changed policy c) refl e
   where
     made : (r : Result PolicyRows ChangeFault) → changed policy c ≡ r → made_or_refused r ≡ Ok later → may_want_memory policy c ≡ true
-    made (Ok p) is f = made_wants policy p c is
+    made (Ok p) is f = ap wants_memory is
     made (Err fault) is f = cc
 
 asked_made : (policy later : PolicyRows) (ask : Ask) (user : Option (List ℕ)) → asked_by policy ask user ≡ Ok later → asked_wants policy ask user ≡ true

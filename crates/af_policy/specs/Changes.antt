@@ -183,12 +183,6 @@ abbrev pub wants_memory : Result PolicyRows ChangeFault → Bool
 wants_memory (Ok policy) = true
 wants_memory (Err fault) = has_text fault
 
--- where out of memory may be told in the place of what follows: a policy or a text is made, or texts of permissions are read
+-- where out of memory may be told in the place of what follows: a policy or a text is made
 abbrev pub may_want_memory : PolicyRows → Change → Bool
-may_want_memory policy (AddRole input) = true
-may_want_memory policy (SetRole input) = true
-may_want_memory policy (DropRole name) = wants_memory (role_dropped policy name)
-may_want_memory policy (AddUser user) = wants_memory (user_added policy user)
-may_want_memory policy (SetUser patch) = wants_memory (user_set policy patch)
-may_want_memory policy (DropUser name) = wants_memory (user_dropped policy name)
-may_want_memory policy (SyncDag access) = wants_memory (dag_synced policy access.dag access.access)
+may_want_memory policy change = wants_memory (changed policy change)

@@ -18,7 +18,7 @@ impl Policy {
     }
 
     /// The policy after a change, or the first fault of `ChangeFault` that applies; this one stays as it is. A fault without
-    /// a text is told whether there is memory or not, but where a role's permissions are read, which comes first.
+    /// a text is told whether there is memory or not.
     pub fn changed(&self, alloc: Global, change: &Change) -> Result<Policy, ChangeFault>
         ensures told { (result ≡ changed self.now change.now) ⊎ (result ≡ Err ChangeFault.OutOfMemory) }
         ensures memory { result ≡ Err ChangeFault.OutOfMemory → may_want_memory self.now change.now ≡ true }

@@ -1,5 +1,5 @@
 -- The first text that is no permission, found while texts are read one by one.
-use Rattle.std.proofs.Common.{◌≡◌, ℕ, suc, ◌+◌, ◌<◌, length, take, drop, get_or, List, [], ◌∷◌, ◌++◌, Bool, true, false, not, cond, Option, Some, None, Err, refl, sym, ap, ◌∙◌, drop-cons}
+use Rattle.std.proofs.Common.{◌≡◌, ℕ, suc, ◌+◌, ◌<◌, length, take, drop, get_or, List, [], ◌∷◌, ◌++◌, Bool, true, false, not, cond, Option, Some, None, Err, sym, ap, ◌∙◌, drop-cons}
 use Rattle.std.specs.List.{cons_option, filter_map, find}
 use Rattle.std.specs.Option.{is_some, option_or}
 use Rattle.std.proofs.lemmas.List.{take-append-drop}

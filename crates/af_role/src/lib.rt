@@ -26,7 +26,7 @@ pub use need::Need;
 pub use pair::Pair;
 pub use pair_fault::PairFault;
 pub use pair_text::{PairText, PairTexts};
-pub use pair_texts::read_pairs;
+pub use pair_texts::{check_pairs, read_pairs};
 pub use permissions::Permissions;
 pub use resource::{Resource, ResourceKind};
 pub use role::Role;

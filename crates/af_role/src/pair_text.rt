@@ -34,6 +34,16 @@ impl PairText {
         Action::read(self.action.as_str()).is_some()
     }
 
+    /// Whether it is a permission, whether there is memory to read it or not.
+    pub(crate) fn is_pair(&self, alloc: Global) -> bool
+        ensures { result ≡ is_some (pair_read self.now) }
+    {
+        match Action::read(self.action.as_str()) {
+            Some(action) => Resource::is_carrier(alloc, self.resource.as_str(), action),
+            None => false,
+        }
+    }
+
     /// The permission. None where a text is no action or no resource, or the resource does not carry the action.
     pub(crate) fn read(&self, alloc: Global) -> Result<Option<Pair>, AllocError>
         ensures { IfOk result (λ pair. pair ≡ pair_read self.now) }

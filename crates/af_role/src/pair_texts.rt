@@ -1,6 +1,6 @@
 ghost use Rattle.std.specs.Prelude.{◌≡◌, ◌⊎◌, ◌<◌, length, Ok, Err, IfOk, IfErr};
 ghost use Rattle.std.specs.Option.{option_copied};
-ghost use Rattle.af_role.specs.PairTexts.{bad_pair_action, pairs_read, pairs_read_at};
+ghost use Rattle.af_role.specs.PairTexts.{bad_pair_action, pairs_read, pairs_read_at, refused_pair};
 
 use crate::{PairFault, PairText, Permissions, Text};
 use std::alloc::Global;
@@ -18,6 +18,28 @@ pub fn read_pairs(alloc: Global, texts: &[PairText]) -> Result<Permissions, Pair
         return Err(PairFault::BadAction(text.copied(alloc)?));
     }
     read_each(alloc, texts)
+}
+
+/// The first fault that `read_pairs` tells of these permissions. `OutOfMemory` is told in the place of a fault alone,
+/// whose text takes memory.
+pub fn check_pairs(alloc: Global, texts: &[PairText]) -> Result<(), PairFault>
+    ensures accepted { IfOk (pairs_read texts.now) (λ _. result ≡ Ok tt) }
+    ensures refused { IfErr (pairs_read texts.now) (λ fault. (result ≡ Err fault) ⊎ (result ≡ Err PairFault.OutOfMemory)) }
+{
+    if let Some(text) = bad_action(texts) {
+        return Err(PairFault::BadAction(text.copied(alloc)?));
+    }
+    match refused_pair(alloc, texts) {
+        Some(text) => Err(PairFault::NotAllowed(text.copied(alloc)?)),
+        None => Ok(()),
+    }
+}
+
+/// The first that is no permission, whether there is memory to read them or not.
+fn refused_pair(alloc: Global, texts: &[PairText]) -> Option<&PairText>
+    ensures { option_copied result ≡ refused_pair texts.now }
+{
+    texts.iter().find(|text| !text.is_pair(alloc))
 }
 
 /// The first text that is none of the four actions.

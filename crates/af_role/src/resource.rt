@@ -5,8 +5,10 @@ ghost use Rattle.std.specs.Cmp.{partial_order_from_own_ties};
 ghost use Rattle.std.specs.Cmp.Rules.{comparing};
 ghost use Rattle.std.specs.Ordering.{as_partial_cmp, nat_cmp, on};
 ghost use Rattle.af_names.specs.Names.{id_grammar, named};
+ghost use Rattle.af_role.specs.PairTexts.{pair_of_both};
 ghost use Rattle.af_role.specs.Resources.{dag_named, kind_of, kind_rank, kind_text, resource_cmp, resource_id, resource_of, resource_rank, resource_text, rest_after, same_kind, same_resource};
 
+use crate::Action;
 use af_names::{DagId, NameError};
 use std::alloc::{AllocError, Global};
 use std::cmp::Ordering;
@@ -124,6 +126,16 @@ impl Resource {
         }
     }
 
+    /// Whether a text is that of a resource which carries an action, whether there is memory to read it or not.
+    pub(crate) fn is_carrier(alloc: Global, text: &str, action: Action) -> bool
+        ensures { result ≡ is_some (pair_of_both (Some action) (resource_of text.now)) }
+    {
+        match rest_after(text, "DAG:") {
+            Some(id) => action != Action::Create && is_dag_id(alloc, id),
+            None => ResourceKind::read(text).is_some(),
+        }
+    }
+
     /// The same resource again. `AllocError` only where a growth was refused.
     pub fn copied(&self, alloc: Global) -> Result<Resource, AllocError>
         ensures { IfOk result (λ resource. resource ≡ self.now) }
@@ -153,6 +165,16 @@ impl Resource {
             Resource::Kind(_) => "",
             Resource::Dag(dag) => dag.as_str(),
         }
+    }
+}
+
+/// Whether a text is the id of a DAG, whether there is memory to read it or not.
+fn is_dag_id(alloc: Global, id: &str) -> bool
+    ensures { result ≡ is_some (dag_named (named id_grammar id.now)) }
+{
+    match DagId::parse(alloc, id) {
+        Ok(_) | Err(NameError::OutOfMemory) => true,
+        Err(_) => false,
     }
 }
 

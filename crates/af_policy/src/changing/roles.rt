@@ -1,4 +1,4 @@
-ghost use Rattle.std.specs.Prelude.{◌≡◌, ◌⊎◌, ◌<◌, length, true, false, Ok, Err};
+ghost use Rattle.std.specs.Prelude.{◌≡◌, ◌⊎◌, ◌<◌, length, true, false, is_ok, Ok, Err, IfOk};
 ghost use Rattle.af_role.specs.PairTexts.{pairs_read};
 ghost use Rattle.af_policy.specs.Rows.{has_role, most_roles, role_in_use, with_role, without_role};
 ghost use Rattle.af_policy.specs.Changes.{after_pairs, is_default, role_added, role_dropped, role_set, wants_memory};
@@ -6,35 +6,47 @@ ghost use Rattle.af_policy.specs.Changes.{after_pairs, is_default, role_added, r
 use crate::draft::MOST_ROLES;
 use crate::{ChangeFault, Policy, RoleInput};
 use af_names::RoleName;
-use af_role::{Permissions, Role, read_pairs};
+use af_role::{Permissions, Role, check_pairs, read_pairs};
 use std::alloc::Global;
 
 impl Policy {
     /// The policy with a further role.
     pub(super) fn add_role(&self, alloc: Global, input: &RoleInput) -> Result<Policy, ChangeFault>
-        ensures { (result ≡ after_pairs (pairs_read input.now.actions) (role_added self.now input.now.name)) ⊎ (result ≡ Err ChangeFault.OutOfMemory) }
+        ensures told { (result ≡ after_pairs (pairs_read input.now.actions) (role_added self.now input.now.name)) ⊎ (result ≡ Err ChangeFault.OutOfMemory) }
+        ensures memory { result ≡ Err ChangeFault.OutOfMemory → wants_memory (after_pairs (pairs_read input.now.actions) (role_added self.now input.now.name)) ≡ true }
     {
-        let permissions = read_pairs(alloc, input.actions.as_slice())?;
+        check_pairs(alloc, input.actions.as_slice())?;
         if self.tables.roles.has(&input.name) {
             return Err(ChangeFault::Exists);
         }
         if self.tables.roles.len() >= MOST_ROLES {
             return Err(ChangeFault::TooMany);
         }
-        self.with_role(alloc, &input.name, permissions)
+        self.with_input(alloc, input)
     }
 
     /// The policy with other permissions of a role.
     pub(super) fn set_role(&self, alloc: Global, input: &RoleInput) -> Result<Policy, ChangeFault>
-        ensures { (result ≡ after_pairs (pairs_read input.now.actions) (role_set self.now input.now.name)) ⊎ (result ≡ Err ChangeFault.OutOfMemory) }
+        ensures told { (result ≡ after_pairs (pairs_read input.now.actions) (role_set self.now input.now.name)) ⊎ (result ≡ Err ChangeFault.OutOfMemory) }
+        ensures memory { result ≡ Err ChangeFault.OutOfMemory → wants_memory (after_pairs (pairs_read input.now.actions) (role_set self.now input.now.name)) ≡ true }
     {
-        let permissions = read_pairs(alloc, input.actions.as_slice())?;
+        check_pairs(alloc, input.actions.as_slice())?;
         if !self.tables.roles.has(&input.name) {
             return Err(ChangeFault::NoSuchRole);
         }
         if is_default(&input.name) {
             return Err(ChangeFault::DefaultRole);
         }
+        self.with_input(alloc, input)
+    }
+
+    /// The policy with a role of these permissions, where each is there.
+    fn with_input(&self, alloc: Global, input: &RoleInput) -> Result<Policy, ChangeFault>
+        requires room { (has_role self.now.roles input.now.name ≡ true) ⊎ (length self.now.roles < most_roles) }
+        requires read { is_ok (pairs_read input.now.actions) ≡ true }
+        ensures { IfOk (pairs_read input.now.actions) (λ pairs. (result ≡ Ok (record { users = self.now.users; roles = with_role self.now.roles (record { name = input.now.name; pairs = pairs }) })) ⊎ (result ≡ Err ChangeFault.OutOfMemory)) }
+    {
+        let permissions = read_pairs(alloc, input.actions.as_slice())?;
         self.with_role(alloc, &input.name, permissions)
     }
 

@@ -1,4 +1,4 @@
-use Rattle.std.proofs.Common.{◌≡◌, inl, refl}
+use Rattle.std.proofs.Common.{inl, refl}
 use Rattle.af_role.proofs.PairTextLemmas.{allowed_more, read_more, read_refused}
 use Rattle.af_role.proofs.pair_texts.read_each.Goals as goal
 

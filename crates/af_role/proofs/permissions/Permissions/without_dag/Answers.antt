@@ -1,4 +1,4 @@
-use Rattle.std.proofs.Common.{◌≡◌, [], not, map, ap, ◌∙◌}
+use Rattle.std.proofs.Common.{[], not, ap, ◌∙◌}
 use Rattle.std.specs.List.{filter}
 use Rattle.std.specs.Map.Iter.{deref}
 use Rattle.std.proofs.lemmas.Map.Iter.{iter_end}
