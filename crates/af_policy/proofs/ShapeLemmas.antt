@@ -62,16 +62,10 @@ module _ {T : Type 0} (n m : Node T) (arc : Arc (Node T) Global) where
       ∙ ap (λ rs. rs ++ own T n (on_right_of T n)) first
       ∙ node_on_left is e
 
-  -- rows put before those on the left stand before all
-  pub put_first : (out-Node T n).left ≡ Some arc → m ≡ arc.value → (x : T) (xs : List T) → (x ∷ (xs ++ rows m)) ++ own T n (on_right_of T n) ≡ x ∷ (xs ++ rows n)
-  put_first is e x xs =
-      ap (λ rs. x ∷ rs) (append_assoc xs (rows m) (own T n (on_right_of T n)))
-      ∙ ap (λ rs. x ∷ (xs ++ rs)) (node_on_left is e)
-
-pub put_first_alone : {T : Type 0} (n : Node T) (x : T) (xs : List T) → (out-Node T n).left ≡ None → (x ∷ (xs ++ [])) ++ own T n (on_right_of T n) ≡ x ∷ (xs ++ rows n)
-put_first_alone {T} n x xs is =
-    ap (λ rs. x ∷ (rs ++ own T n (on_right_of T n))) (append_nil xs)
-    ∙ ap (λ l. x ∷ (xs ++ (link_rows l ++ own T n (on_right_of T n)))) (sym is)
+-- rows put before those on the left stand before all
+pub put_first : {T : Type 0} (n : Node T) (x : T) (xs : List T) → (x ∷ (xs ++ on_left_of T n)) ++ own T n (on_right_of T n) ≡ x ∷ (xs ++ rows n)
+put_first {T} n x xs =
+    ap (λ rs. x ∷ rs) (append_assoc xs (on_left_of T n) (own T n (on_right_of T n)))
     ∙ ap (λ rs. x ∷ (xs ++ rs)) (rows_of_node T n)
 
 pub first_of_none : {T : Type 0} (n : Node T) → (out-Node T n).left ≡ None → own T n (on_right_of T n) ≡ rows n
@@ -233,8 +227,5 @@ put_back old front now behind rest place low is_front is_behind last is_rest =
     ∙ ap (λ rs. rs ++ drop place old) (sym last ∙ is_front)
     ∙ take-append-drop place old
 
-pub put_apart : {T : Type 0} (old front now behind rest above after : List T) (place : ℕ) (low : T) → front ≡ take place old → behind ≡ drop place old → front ≡ now ++ low ∷ [] → above ≡ behind → rest ≡ now → rest ++ low ∷ (above ++ after) ≡ old ++ after
-put_apart old front now behind rest above after place low is_front is_behind last is_above is_rest =
-    ap (λ rs. rs ++ low ∷ (above ++ after)) is_rest
-    ∙ sym (append_assoc now (low ∷ above) after)
-    ∙ ap (λ rs. rs ++ after) (put_back old front now behind above place low is_front is_behind last is_above)
+pub put_apart : {T : Type 0} (old now above after : List T) (low : T) → now ++ low ∷ above ≡ old → now ++ low ∷ (above ++ after) ≡ old ++ after
+put_apart old now above after low is = sym (append_assoc now (low ∷ above) after) ∙ ap (λ rs. rs ++ after) is

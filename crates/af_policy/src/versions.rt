@@ -1,4 +1,4 @@
-ghost use Rattle.std.specs.Prelude.{◌≡◌, ◌⊎◌, ◌<◌, ◌≤◌, [], length, true, nat_le, slice_get, None, Some, Ok, Err, IfOk, OnOk, OnErr};
+ghost use Rattle.std.specs.Prelude.{◌≡◌, ◌⊎◌, ◌<◌, ◌≤◌, [], ◌∷◌, ◌++◌, length, true, nat_le, slice_get, None, Some, Ok, Err, IfOk, OnOk, OnErr};
 ghost use Rattle.std.specs.Option.{option_copied};
 ghost use Rattle.af_policy.specs.Versions.{Follows, IsHistory, all_versions, asked_by, asked_wants, decided, decided_wants, permitted, permitted_wants, submitted, told_as, with_version};
 ghost use Rattle.af_policy.specs.Reads.{MemoryLast, me_of, read_of, reading_wants};
@@ -144,11 +144,20 @@ impl Versions {
         ensures ok { OnOk result (self.new ≡ with_version self.old policy) }
         ensures err { OnErr result (self.new ≡ self.old) }
     {
-        let before = self.latest.copy()?;
-        self.earlier.push(before)?;
+        push_copy(&mut self.earlier, &self.latest)?;
         self.latest = policy;
         Ok(())
     }
+}
+
+/// Puts a policy once more behind others. `AllocError` only where a growth was refused; they are then as before.
+fn push_copy(policies: &mut Vec<Policy>, policy: &Policy) -> Result<(), AllocError>
+    ensures ok { OnOk result (policies.new.items ≡ policies.old.items ++ policy.now ∷ []) }
+    ensures err { OnErr result (policies.new.items ≡ policies.old.items) }
+{
+    let copy = policy.copy()?;
+    policies.push(copy)?;
+    Ok(())
 }
 
 impl Policy {

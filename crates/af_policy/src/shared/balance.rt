@@ -158,6 +158,7 @@ pub(crate) fn glued<T: Row>(alloc: Global, node: &Node<T>) -> Result<Link<T>, Al
 }
 
 /// The part with a node of these rows before all others.
+#[tactic(auto, using(crate::proofs::ShapeLemmas::put_first))]
 pub(crate) fn with_first<T: Row>(
     alloc: Global,
     link: &Link<T>,
@@ -168,35 +169,9 @@ pub(crate) fn with_first<T: Row>(
 {
     match link {
         Some(node) => {
-            let made = first_of_node(alloc, node, low, rest)?;
-            Ok(made)
+            let left = with_first(alloc, &node.left, low, rest)?;
+            on_left(alloc, node, Some(left))
         }
-        None => {
-            let made = joined(alloc, low, rest, None, None)?;
-            Ok(made)
-        }
-    }
-}
-
-/// The node with one of these rows before all others.
-fn first_of_node<T: Row>(
-    alloc: Global,
-    node: &Node<T>,
-    low: T,
-    rest: Rest<T>,
-) -> Result<Arc<Node<T>>, AllocError>
-    ensures { IfOk result (λ made. rows made.value ≡ low ∷ (rest ++ rows node.now)) }
-{
-    match &node.left {
-        Some(left) => {
-            let left = first_of_node(alloc, left, low, rest)?;
-            let made = on_left(alloc, node, Some(left))?;
-            Ok(made)
-        }
-        None => {
-            let left = joined(alloc, low, rest, None, None)?;
-            let made = on_left(alloc, node, Some(left))?;
-            Ok(made)
-        }
+        None => joined(alloc, low, rest, None, None),
     }
 }

@@ -36,7 +36,7 @@ pub(crate) fn built<T: Row>(
 }
 
 /// The last rows of a list, so many, which are taken off it: the first of them, and the others. None where the list is empty.
-fn taken_off<T: Row>(
+pub(crate) fn taken_off<T: Row>(
     alloc: Global,
     rows: &mut Vec<T>,
     count: usize,

@@ -5,6 +5,7 @@ ghost use Rattle.af_policy.specs.SharedTrees.{rows, link_rows};
 
 use crate::shared::Row;
 use crate::shared::balance::{balanced, glued, on_left, on_right, with_first};
+use crate::shared::building::taken_off;
 use crate::shared::node::{Link, Node, copied, joined};
 use crate::shared::rest::Rest;
 use crate::shared::run::{is_past, rows_again, rows_behind, rows_with, rows_without};
@@ -110,6 +111,7 @@ fn spread<T: Row>(
 }
 
 /// A row and those behind it between two parts, in two nodes.
+#[tactic(auto, using(crate::proofs::ShapeLemmas::put_apart))]
 fn halved<T: Row>(
     alloc: Global,
     low: T,
@@ -117,18 +119,16 @@ fn halved<T: Row>(
     left: Link<T>,
     right: &Link<T>,
 ) -> Result<Arc<Node<T>>, AllocError>
-    requires { 1 < length behind.items }
+    requires { 0 < length behind.items }
     ensures { IfOk result (λ made. rows made.value ≡ link_rows left ++ low ∷ (behind.items ++ link_rows right.now)) }
 {
     let mut behind = behind;
-    let upper = behind.split_off(behind.len() / 2)?;
-    let above = Rest::new(alloc, upper)?;
-    match behind.pop() {
-        Some(middle) => {
+    let count = behind.len() / 2 + 1;
+    match taken_off(alloc, &mut behind, count)? {
+        Some((middle, above)) => {
             let right = with_first(alloc, right, middle, above)?;
             let rest = Rest::new(alloc, behind)?;
-            let made = balanced(alloc, low, rest, left, Some(right))?;
-            Ok(made)
+            balanced(alloc, low, rest, left, Some(right))
         }
         None => unreachable!(),
     }

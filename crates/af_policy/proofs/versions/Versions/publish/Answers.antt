@@ -7,7 +7,7 @@ pub invariant_of-self-2 : goal.invariant_of-self-2
 invariant_of-self-2 c =
     let earlier = c.self.inside.earlier.items
     in let latest = c.self.inside.latest
-    in let e : c.push.new.self.items ≡ earlier ++ latest ∷ [] = c.in_ok-push.ensures.items ∙ ap (λ policy. earlier ++ policy ∷ []) c.in_ok-before.ensures
+    in let e : c.push_copy.new.policies.items ≡ earlier ++ latest ∷ [] = c.in_ok-push_copy.ensures.ok
     in let room : length earlier < c.self.inside.last = subst (λ (versions : VersionRows). length versions.earlier < versions.last) (sym c.self.view_is) c.requires.room
     in let follows : Follows latest c.args.policy = subst (λ (versions : VersionRows). Follows versions.latest c.args.policy) (sym c.self.view_is) c.requires.follows
     in (
