@@ -27,7 +27,7 @@ fn is_nested(alloc: Global, open: &str, close: &str, depth: usize) -> Result<boo
 }
 
 /// What opens, what closes, how deep, and whether that is JSON.
-const NESTED: [(&str, &str, usize, bool); 8] = [
+const NESTED: &[(&str, &str, usize, bool)] = &[
     ("[", "]", 126, true),
     ("{\"a\":", "}", 126, true),
     ("[[],", "]", 126, true),
@@ -41,8 +41,8 @@ const NESTED: [(&str, &str, usize, bool); 8] = [
 #[test]
 fn nesting_and_its_limit(rt: HostRuntime) -> Result<(), Fail> {
     for (open, close, depth, wanted) in NESTED {
-        let is_nested = is_nested(rt.alloc(), open, close, depth)?;
-        holds(&rt, is_nested == wanted, open);
+        let is_nested = is_nested(rt.alloc(), open, close, *depth)?;
+        holds(&rt, is_nested == *wanted, open);
     }
     Ok(())
 }

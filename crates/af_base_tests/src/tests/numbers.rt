@@ -5,7 +5,7 @@ use std::alloc::Global;
 use std::test::Fail;
 
 /// A JSON text, and the number that it is without and with a sign, if it is one.
-const NUMBERS: [(&str, Option<u64>, Option<i64>); 14] = [
+const NUMBERS: &[(&str, Option<u64>, Option<i64>)] = &[
     ("0", Some(0), Some(0)),
     ("-0", None, None),
     ("-1", None, Some(-1)),
@@ -60,7 +60,7 @@ fn is_number(
 #[test]
 fn numbers_and_their_range(rt: HostRuntime) -> Result<(), Fail> {
     for (text, unsigned, signed) in NUMBERS {
-        let (is_unsigned, is_signed) = is_number(rt.alloc(), text, unsigned, signed)?;
+        let (is_unsigned, is_signed) = is_number(rt.alloc(), text, *unsigned, *signed)?;
         holds(&rt, is_unsigned, text);
         holds(&rt, is_signed, text);
     }

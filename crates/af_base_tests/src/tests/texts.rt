@@ -5,7 +5,7 @@ use std::alloc::Global;
 use std::test::Fail;
 
 /// A JSON text, and the text that it is, if it is one.
-const TEXTS: [(&str, Option<&str>); 7] = [
+const TEXTS: &[(&str, Option<&str>)] = &[
     ("\"\"", Some("")),
     ("\"a b\"", Some("a b")),
     (
@@ -40,7 +40,7 @@ fn is_text(alloc: Global, text: &str, wanted: Option<&str>) -> Result<bool, Fail
 #[test]
 fn texts_and_their_escapes(rt: HostRuntime) -> Result<(), Fail> {
     for (text, wanted) in TEXTS {
-        let is_text = is_text(rt.alloc(), text, wanted)?;
+        let is_text = is_text(rt.alloc(), text, *wanted)?;
         holds(&rt, is_text, text);
     }
     are_refused(&rt, rt.alloc(), HALVES)
