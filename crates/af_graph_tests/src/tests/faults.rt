@@ -36,7 +36,7 @@ type Row = (
     (&'static str, &'static str),
 );
 
-const FAULTS: [Row; 9] = [
+const FAULTS: &[Row] = &[
     (&[], 1, ("none", "")),
     (&[("x", &["y"]), ("y", &["x"])], 1, ("cycle", "x")),
     (

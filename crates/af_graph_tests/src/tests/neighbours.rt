@@ -6,7 +6,7 @@ use std::alloc::Global;
 use std::process::Abort;
 use std::test::Fail;
 
-const DIAMOND: [(&str, &[&str]); 4] = [
+const DIAMOND: &[(&str, &[&str])] = &[
     ("join", &["right", "left", "right"]),
     ("right", &["start"]),
     ("left", &["start"]),
@@ -14,7 +14,7 @@ const DIAMOND: [(&str, &[&str]); 4] = [
 ];
 
 fn diamond(alloc: Global) -> Result<Dag, Fail> {
-    Ok(Dag::new(alloc, spec(alloc, &DIAMOND, 1)?)?)
+    Ok(Dag::new(alloc, spec(alloc, DIAMOND, 1)?)?)
 }
 
 fn has_neighbours(rt: &impl Abort, dag: &Dag) {

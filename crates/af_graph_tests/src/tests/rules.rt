@@ -12,7 +12,7 @@ const U: TaskState = TaskState::UpstreamFailed;
 const K: TaskState = TaskState::Skipped;
 
 /// A rule, the states upstream, and what is told of them.
-const RULES: [(Rule, &[TaskState], Verdict); 33] = [
+const RULES: &[(Rule, &[TaskState], Verdict)] = &[
     (Rule::AllSuccess, &[S, F], Verdict::UpstreamFailed),
     (Rule::AllSuccess, &[U, NONE], Verdict::UpstreamFailed),
     (Rule::AllSuccess, &[K, NONE], Verdict::Skipped),
@@ -53,7 +53,7 @@ const RULES: [(Rule, &[TaskState], Verdict); 33] = [
 ];
 
 /// Those rules of which nothing upstream is ready.
-const OF_NONE: [Rule; 4] = [
+const OF_NONE: &[Rule] = &[
     Rule::AllFailed,
     Rule::OneSuccess,
     Rule::OneFailed,

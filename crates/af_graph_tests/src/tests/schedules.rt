@@ -54,7 +54,7 @@ const END: &str = "9998-12-31T23:59:59Z";
 /// Points, a start date, what is asked at which moment, and what is answered, in microseconds.
 type Row = (Points, &'static str, Call, &'static str, Option<u64>);
 
-const MOMENTS: [Row; 13] = [
+const MOMENTS: &[Row] = &[
     (
         MONTHS,
         JANUARY,

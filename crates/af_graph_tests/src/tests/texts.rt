@@ -1,7 +1,7 @@
 use super::asserts::holds;
 use af_graph::{Rule, TaskState};
 
-const STATES: [(&str, TaskState); 9] = [
+const STATES: &[(&str, TaskState)] = &[
     ("none", TaskState::NoStatus),
     ("scheduled", TaskState::Scheduled),
     ("queued", TaskState::Queued),
@@ -13,7 +13,7 @@ const STATES: [(&str, TaskState); 9] = [
     ("up_for_retry", TaskState::UpForRetry),
 ];
 
-const RULES: [(&str, Rule); 11] = [
+const RULES: &[(&str, Rule)] = &[
     ("all_success", Rule::AllSuccess),
     ("all_failed", Rule::AllFailed),
     ("all_done", Rule::AllDone),
@@ -27,7 +27,7 @@ const RULES: [(&str, Rule); 11] = [
     ("always", Rule::Always),
 ];
 
-const NEITHER: [&str; 5] = ["", "Success", "success ", "no_status", "dummy"];
+const NEITHER: &[&str] = &["", "Success", "success ", "no_status", "dummy"];
 
 fn is_text_of_state(text: &str, state: TaskState) -> bool {
     TaskState::read(text) == Some(state) && state.as_str() == text
@@ -40,14 +40,14 @@ fn is_text_of_rule(text: &str, rule: Rule) -> bool {
 #[test]
 fn names_of_states(rt: HostRuntime) {
     for (text, state) in STATES {
-        holds(&rt, is_text_of_state(text, state), text);
+        holds(&rt, is_text_of_state(text, *state), text);
     }
 }
 
 #[test]
 fn names_of_rules(rt: HostRuntime) {
     for (text, rule) in RULES {
-        holds(&rt, is_text_of_rule(text, rule), text);
+        holds(&rt, is_text_of_rule(text, *rule), text);
     }
 }
 
