@@ -1,9 +1,14 @@
 -- The text of an instant has no byte that wants an escape: its year has four digits, and all else of it two.
-use Rattle.std.proofs.Common.{◌≡◌, ◌≤◌, ◌<◌, ◌+◌, ◌*◌, ◌/◌, ◌%◌, ◌==◌, ◌||◌, ℕ, zero, suc, Bool, true, false, List, [], ◌∷◌, ◌++◌, refl, pos, arith, nat_lt, if◌then◌else◌}
+use Rattle.std.proofs.Common.{◌≡◌, ◌≤◌, ◌<◌, ◌+◌, ◌*◌, ◌/◌, ◌%◌, ◌==◌, ◌||◌, ℕ, zero, suc, Bool, true, false, List, [], ◌∷◌, ◌++◌, refl, ◌∙◌, ℤ, pos, ◌+ℤ◌, to_z, of_z, w16, arith, nat_lt, if◌then◌else◌}
 use Rattle.std.specs.List.{list_all}
 use Rattle.std.specs.Prelude.{codes}
 use Rattle.std.proofs.lemmas.Bool.{ltb-true, ltb-false}
-use Rattle.jiff_core.specs.Calendar.{days_in_month, is_leap_year}
+use Rattle.jiff_core.proofs.SignedLemmas.{signed_arith}
+use Rattle.jiff_core.specs.declared.civil.date.Date.{Date}
+use Rattle.jiff_core.specs.Calendar.{days_in_month, is_leap_year, IsYear}
+use Rattle.jiff_core.specs.Date.{epoch_day}
+use Rattle.jiff_fmt.proofs.TextLemmas.{year_back}
+use Rattle.af_names.proofs.CivilDayLemmas.{civil_day_is}
 use Rattle.jiff_fmt.specs.Text.{pad2}
 use Rattle.json.specs.Run.{is_plain}
 use Rattle.af_names.specs.CivilDays.{CivilDay, civil_day, next_day}
@@ -101,3 +106,25 @@ instants_are_plain micros bound =
     (two_then (clock / 1_000_000 % 60) _ (omega arith)
     (fraction_then (clock % 1_000_000) (omega arith))))))))))))) in
     whole.is
+
+-- ---- the calendar's date of a day
+
+pub record IsDateOf (number : ℕ) (date : Date) : Type 0 where
+  pub year : to_z w16 (of_z w16 date.year) ≡ pos (civil_day number).year
+  pub month : date.month ≡ (civil_day number).month
+  pub day : date.day ≡ (civil_day number).day
+  pub few : (civil_day number).year < 10_000
+
+pub date_of : (number : ℕ) (date : Date) → number ≤ 2_932_896 → epoch_day date +ℤ pos 4_371_587 ≡ pos (number + 4_371_587) → IsDateOf number date
+date_of number date calendar counted =
+    let at : epoch_day date ≡ pos number = omega (arith, signed_arith, counted) in
+    let civil = civil_day_is date number at calendar in
+    record {
+      year = year_back date.year date.year_in ∙ civil.year;
+      month = civil.month;
+      day = civil.day;
+      few = below date.year (civil_day number).year civil.year date.year_in;
+    }
+  where
+    below : (z : ℤ) (y : ℕ) → z ≡ pos y → IsYear z → y < 10_000
+    below z y is year = omega (arith, signed_arith)

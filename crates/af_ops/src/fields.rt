@@ -25,8 +25,18 @@ impl Text {
         requires plain { list_all is_plain value.now ≡ true }
         ensures { OnOk result (Adds later self.old self.new ((name.now, string value.now) ∷ [])) }
     {
+        self.plain_bytes(later, name, value.as_bytes())
+    }
+
+    /// A text of these bytes, none of which wants an escape.
+    #[inline(always)]
+    fn plain_bytes(&mut self, later: bool, name: &str, value: &[u8]) -> Result<(), AllocError>
+        requires name { IsTrue (is_name name.now) }
+        requires plain { list_all is_plain value.now ≡ true }
+        ensures { OnOk result (Adds later self.old self.new ((name.now, string value.now) ∷ [])) }
+    {
         self.reserve(value.len() + (name.len() + 16))?;
-        self.push_text_member(later, name.as_bytes(), value.as_bytes());
+        self.push_text_member(later, name.as_bytes(), value);
         Ok(())
     }
 
@@ -136,7 +146,7 @@ impl Text {
     {
         match value {
             None => self.null(later, name),
-            Some(instant) => self.plain(later, name, InstantText::of(instant).as_str()),
+            Some(instant) => self.plain_bytes(later, name, InstantText::of(instant).as_bytes()),
         }
     }
 
@@ -153,7 +163,7 @@ impl Text {
         ensures { OnOk result (Adds later self.old self.new ((name.now, instant_data (Some value)) ∷ [])) }
     {
         if value == at_hand.instant() {
-            return self.plain(later, name, at_hand.as_str());
+            return self.plain_bytes(later, name, at_hand.as_bytes());
         }
         self.instant(later, name, Some(value))
     }

@@ -18,6 +18,7 @@ mod endpoint;
 mod fields;
 mod input_fault;
 mod instance_text;
+mod instant_digits;
 mod instant_text;
 pub mod laws;
 mod me_text;

@@ -49,6 +49,41 @@ fn a_member_of_each_kind(rt: HostRuntime) -> Result<(), Fail> {
     Ok(())
 }
 
+/// Instants, and the member that tells each.
+const INSTANTS: [(&str, &[u8]); 5] = [
+    (
+        "1970-01-01T00:00:00Z",
+        br#""at":"1970-01-01T00:00:00+00:00""#,
+    ),
+    (
+        "2024-02-29T23:59:59.999999Z",
+        br#""at":"2024-02-29T23:59:59.999999+00:00""#,
+    ),
+    (
+        "2100-03-01T09:05:07.0001Z",
+        br#""at":"2100-03-01T09:05:07.000100+00:00""#,
+    ),
+    (
+        "2000-01-01T01:00:00.5+02:30",
+        br#""at":"1999-12-31T22:30:00.500000+00:00""#,
+    ),
+    (
+        "9998-12-31T23:59:59.999999Z",
+        br#""at":"9998-12-31T23:59:59.999999+00:00""#,
+    ),
+];
+
+#[test]
+fn instants_as_they_are_told(rt: HostRuntime) -> Result<(), Fail> {
+    for (text, told) in INSTANTS {
+        let mut out = Text::with_room(rt.alloc(), 0)?;
+        out.instant(false, "at", Some(Instant::read(text)?))?;
+        let bytes = out.into_bytes();
+        holds(&rt, bytes.as_slice() == told, text);
+    }
+    Ok(())
+}
+
 #[test]
 fn a_part_that_is_no_name(rt: HostRuntime) -> Result<(), Fail> {
     for part in ["", "~", "a b", "a:b"] {

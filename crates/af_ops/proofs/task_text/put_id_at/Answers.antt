@@ -1,4 +1,3 @@
-use Rattle.std.proofs.Common.{◌≡◌, true}
 use Rattle.af_ops.proofs.TextLemmas.{ids_are_plain}
 use Rattle.af_ops.proofs.task_text.put_id_at.Goals as goal
 

@@ -10,5 +10,5 @@ same n m is = grind (arith, nat_tests)
 
 pub returns-then-eq : goal.returns-then-eq
 returns-then-eq c =
-    subst (λ (text : List ℕ). OnOk c.plain.result (Adds c.args.later c.args.self.now c.plain.new.self ((c.args.name.now, string text) ∷ [])))
-    (c.as_str.ensures.text ∙ ap isoformat (sym (same c.args.value c.instant.result (sym c.if-eq.ensures) ∙ c.instant.ensures))) c.plain.ensures
+    subst (λ (text : List ℕ). OnOk c.plain_bytes.result (Adds c.args.later c.args.self.now c.plain_bytes.new.self ((c.args.name.now, string text) ∷ [])))
+    (c.as_bytes.ensures.text ∙ ap isoformat (sym (same c.args.value c.instant.result (sym c.if-eq.ensures) ∙ c.instant.ensures))) c.plain_bytes.ensures
