@@ -64,7 +64,7 @@ def main():
     options.add_argument("--entries", type=int, default=1_000_000, help="how many entries; 1,000,000")
     args = options.parse_args()
     if args.build or not os.path.exists(PROGRAMS[0]):
-        build("ledger", "af_audit af_graph af_listing af_names af_ops af_policy af_sched sha2")
+        build("ledger", "af_audit af_graph af_listing af_names af_ops af_policy af_sched json sha2")
         if args.build:
             return
     build_plain("ledger_baseline")

@@ -12,6 +12,7 @@ use af_ops::{
     Call, Endpoint, Method, PATH_TEMPLATES, PathTemplate, Segment, are_names, endpoint_at,
     methods_at, read_row,
 };
+use json::Scratch;
 use matchit::Router;
 use memchr::memchr;
 use std::alloc::{AllocError, Global};
@@ -24,6 +25,8 @@ pub struct Routes {
     router: Router<PathTemplate>,
     /// The parts of the path that is read.
     parts: Parts,
+    /// Where texts of a body with escapes are spelled out.
+    scratch: Scratch,
 }
 
 /// What stands before the first slash, and from it on. It is near, so the bytes are looked at one by one.
@@ -129,10 +132,11 @@ fn read(
     parts: &[String],
     query: &[u8],
     body: &[u8],
+    scratch: &mut Scratch,
 ) -> Result<Call, RouteFault>
     ensures { IsRouted (read endpoint (map (λ part. string_bytes part) parts.now) query.now body.now) result }
 {
-    match read_row(alloc, endpoint, parts, query, body) {
+    match read_row(alloc, endpoint, parts, query, body, scratch) {
         Ok(Some(call)) => Ok(call),
         Ok(None) => Err(RouteFault::NoPath),
         Err(_) => Err(RouteFault::OutOfMemory),
@@ -148,11 +152,12 @@ fn named(
     parts: &[String],
     query: &[u8],
     body: &[u8],
+    scratch: &mut Scratch,
 ) -> Result<Call, RouteFault>
     ensures { IsRouted (named method.now query.now body.now template (map (λ part. string_bytes part) parts.now)) result }
 {
     match endpoint_of(method, template) {
-        Some(endpoint) => read(alloc, endpoint, parts, query, body),
+        Some(endpoint) => read(alloc, endpoint, parts, query, body, scratch),
         None if are_names(alloc, Method::named(method), template, parts) => Err(
             RouteFault::BadMethod(methods_at(template)),
         ),
@@ -195,6 +200,7 @@ impl Routes {
             alloc,
             router,
             parts,
+            scratch: Scratch::new(alloc),
         })
     }
 
@@ -271,6 +277,7 @@ impl Routes {
                 self.parts.as_slice(),
                 query,
                 body,
+                &mut self.scratch,
             ),
             None => Err(RouteFault::NoPath),
         }

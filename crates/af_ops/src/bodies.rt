@@ -1,4 +1,5 @@
-// Reading the members of a request's body. A member that is null counts as absent.
+// Reading the members of a request's body. A member that is null counts as absent. Texts with escapes are spelled out in `scratch`,
+// which is kept from body to body: what it held before is not looked at.
 ghost use Rattle.std.specs.Prelude.{◌≡◌, ⊤, Err, Ok, [], map, true, unwrap_or};
 ghost use Rattle.af_base.specs.JsonValue.{view};
 ghost use Rattle.serde_json.specs.Find.{as_bool};
@@ -18,11 +19,10 @@ use std::alloc::Global;
 
 /// Reads whether a DAG is to be paused. The first fault decides: `BadBody` where the bytes are no JSON object, `BadMember`
 /// where `is_paused` is no truth value; `OutOfMemory` only where a growth was refused.
-pub fn read_pause(alloc: Global, bytes: &[u8]) -> Result<bool, BodyFault>
+pub fn read_pause(alloc: Global, bytes: &[u8], scratch: &mut Scratch) -> Result<bool, BodyFault>
     ensures { OrMemory BodyFault.OutOfMemory (pause_in bytes.now) result }
 {
-    let mut scratch = Scratch::new(alloc);
-    let body = body_in(alloc, bytes, &mut scratch)?;
+    let body = body_in(alloc, bytes, scratch)?;
     let it = Member::IsPaused;
     required_truth(&body, name_of(it), BodyFault::BadMember(it))
 }
@@ -30,11 +30,14 @@ pub fn read_pause(alloc: Global, bytes: &[u8]) -> Result<bool, BodyFault>
 /// Reads what triggers a run. The first fault decides: `BadBody` where the bytes are no JSON object, then `BadMember` of
 /// `dag_run_id`, of `logical_date` or else of `execution_date`, and of `conf`, where they are there and of another kind or
 /// value; `OutOfMemory` only where a growth was refused.
-pub fn read_trigger(alloc: Global, bytes: &[u8]) -> Result<Trigger, BodyFault>
+pub fn read_trigger(
+    alloc: Global,
+    bytes: &[u8],
+    scratch: &mut Scratch,
+) -> Result<Trigger, BodyFault>
     ensures { OrMemory BodyFault.OutOfMemory (trigger_in bytes.now) result }
 {
-    let mut scratch = Scratch::new(alloc);
-    let body = body_in(alloc, bytes, &mut scratch)?;
+    let body = body_in(alloc, bytes, scratch)?;
     let dag_run_id = optional_run_id(alloc, &body, Member::DagRunId)?;
     let logical_date = date_in(&body)?;
     optional_empty(&body, Member::Conf)?;
@@ -46,32 +49,29 @@ pub fn read_trigger(alloc: Global, bytes: &[u8]) -> Result<Trigger, BodyFault>
 
 /// Reads what a run is marked. The first fault decides: `BadBody` where the bytes are no JSON object, `BadMember` where `state`
 /// is none of `success`, `failed` and `queued`; `OutOfMemory` only where a growth was refused.
-pub fn read_mark(alloc: Global, bytes: &[u8]) -> Result<Mark, BodyFault>
+pub fn read_mark(alloc: Global, bytes: &[u8], scratch: &mut Scratch) -> Result<Mark, BodyFault>
     ensures { OrMemory BodyFault.OutOfMemory (mark_in bytes.now) result }
 {
-    let mut scratch = Scratch::new(alloc);
-    let body = body_in(alloc, bytes, &mut scratch)?;
+    let body = body_in(alloc, bytes, scratch)?;
     required_mark(&body, Member::State)
 }
 
 /// Reads whether a clear of a run is only to be told. The first fault decides: `BadBody` where the bytes are no JSON object,
 /// `BadMember` where `dry_run` is there and no truth value; `OutOfMemory` only where a growth was refused.
-pub fn read_clear_run(alloc: Global, bytes: &[u8]) -> Result<bool, BodyFault>
+pub fn read_clear_run(alloc: Global, bytes: &[u8], scratch: &mut Scratch) -> Result<bool, BodyFault>
     ensures { OrMemory BodyFault.OutOfMemory (clear_run_in bytes.now) result }
 {
-    let mut scratch = Scratch::new(alloc);
-    let body = body_in(alloc, bytes, &mut scratch)?;
+    let body = body_in(alloc, bytes, scratch)?;
     truth_or_true(&body, Member::DryRun)
 }
 
 /// Reads which instances are to be cleared. The first fault decides: `BadBody` where the bytes are no JSON object, then
 /// `BadMember` of `dry_run`, `only_failed`, `task_ids`, `dag_run_id`, `start_date` and `end_date`, where they are there and of
 /// another kind or value; `OutOfMemory` only where a growth was refused.
-pub fn read_clear(alloc: Global, bytes: &[u8]) -> Result<Clear, BodyFault>
+pub fn read_clear(alloc: Global, bytes: &[u8], scratch: &mut Scratch) -> Result<Clear, BodyFault>
     ensures { OrMemory BodyFault.OutOfMemory (clear_in bytes.now) result }
 {
-    let mut scratch = Scratch::new(alloc);
-    let body = body_in(alloc, bytes, &mut scratch)?;
+    let body = body_in(alloc, bytes, scratch)?;
     clear_of(alloc, &body)
 }
 

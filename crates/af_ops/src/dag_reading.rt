@@ -8,6 +8,7 @@ use crate::call::Call;
 use crate::op::Op;
 use crate::parts::{dag_id_in, instance_ids_in, is_all, run_ids_in};
 use af_listing::Window;
+use json::Scratch;
 use std::alloc::{AllocError, Global};
 
 /// A page of the DAGs.
@@ -33,6 +34,7 @@ pub(crate) fn pause_dag(
     alloc: Global,
     parts: &[String],
     body: &[u8],
+    scratch: &mut Scratch,
 ) -> Result<Option<Call>, AllocError>
     ensures ok { IfOk result (λ found. IsRead (call_of_row PauseDag (map (λ part. string_bytes part) parts.now) [] body.now) found) }
     ensures memory { IsErr result → IsSome (call_of_row PauseDag (map (λ part. string_bytes part) parts.now) [] body.now) }
@@ -40,7 +42,7 @@ pub(crate) fn pause_dag(
     let Some(dag_id) = dag_id_in(alloc, parts)? else {
         return Ok(None);
     };
-    Ok(Some(Call::State(Op::PauseDag(dag_id, read_pause(alloc, body)))))
+    Ok(Some(Call::State(Op::PauseDag(dag_id, read_pause(alloc, body, scratch)))))
 }
 
 /// The tasks of a DAG.
@@ -78,6 +80,7 @@ pub(crate) fn trigger_run(
     alloc: Global,
     parts: &[String],
     body: &[u8],
+    scratch: &mut Scratch,
 ) -> Result<Option<Call>, AllocError>
     ensures ok { IfOk result (λ found. IsRead (call_of_row TriggerRun (map (λ part. string_bytes part) parts.now) [] body.now) found) }
     ensures memory { IsErr result → IsSome (call_of_row TriggerRun (map (λ part. string_bytes part) parts.now) [] body.now) }
@@ -85,7 +88,7 @@ pub(crate) fn trigger_run(
     let Some(dag_id) = dag_id_in(alloc, parts)? else {
         return Ok(None);
     };
-    Ok(Some(Call::State(Op::TriggerRun(dag_id, read_trigger(alloc, body)))))
+    Ok(Some(Call::State(Op::TriggerRun(dag_id, read_trigger(alloc, body, scratch)))))
 }
 
 /// One run.
@@ -104,6 +107,7 @@ pub(crate) fn mark_run(
     alloc: Global,
     parts: &[String],
     body: &[u8],
+    scratch: &mut Scratch,
 ) -> Result<Option<Call>, AllocError>
     ensures ok { IfOk result (λ found. IsRead (call_of_row MarkRun (map (λ part. string_bytes part) parts.now) [] body.now) found) }
     ensures memory { IsErr result → IsSome (call_of_row MarkRun (map (λ part. string_bytes part) parts.now) [] body.now) }
@@ -111,7 +115,7 @@ pub(crate) fn mark_run(
     let Some((dag_id, run_id)) = run_ids_in(alloc, parts)? else {
         return Ok(None);
     };
-    Ok(Some(Call::State(Op::MarkRun(dag_id, run_id, read_mark(alloc, body)))))
+    Ok(Some(Call::State(Op::MarkRun(dag_id, run_id, read_mark(alloc, body, scratch)))))
 }
 
 /// A run is deleted.
@@ -130,6 +134,7 @@ pub(crate) fn clear_run(
     alloc: Global,
     parts: &[String],
     body: &[u8],
+    scratch: &mut Scratch,
 ) -> Result<Option<Call>, AllocError>
     ensures ok { IfOk result (λ found. IsRead (call_of_row ClearRun (map (λ part. string_bytes part) parts.now) [] body.now) found) }
     ensures memory { IsErr result → IsSome (call_of_row ClearRun (map (λ part. string_bytes part) parts.now) [] body.now) }
@@ -137,7 +142,7 @@ pub(crate) fn clear_run(
     let Some((dag_id, run_id)) = run_ids_in(alloc, parts)? else {
         return Ok(None);
     };
-    Ok(Some(Call::State(Op::ClearRun(dag_id, run_id, read_clear_run(alloc, body)))))
+    Ok(Some(Call::State(Op::ClearRun(dag_id, run_id, read_clear_run(alloc, body, scratch)))))
 }
 
 /// A page of the instances of a run.
@@ -171,6 +176,7 @@ pub(crate) fn clear_instances(
     alloc: Global,
     parts: &[String],
     body: &[u8],
+    scratch: &mut Scratch,
 ) -> Result<Option<Call>, AllocError>
     ensures ok { IfOk result (λ found. IsRead (call_of_row ClearInstances (map (λ part. string_bytes part) parts.now) [] body.now) found) }
     ensures memory { IsErr result → IsSome (call_of_row ClearInstances (map (λ part. string_bytes part) parts.now) [] body.now) }
@@ -178,5 +184,5 @@ pub(crate) fn clear_instances(
     let Some(dag_id) = dag_id_in(alloc, parts)? else {
         return Ok(None);
     };
-    Ok(Some(Call::State(Op::ClearInstances(dag_id, read_clear(alloc, body)))))
+    Ok(Some(Call::State(Op::ClearInstances(dag_id, read_clear(alloc, body, scratch)))))
 }

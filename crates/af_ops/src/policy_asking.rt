@@ -9,6 +9,7 @@ use crate::policy_op::PolicyOp;
 use af_listing::Window;
 use af_names::{DagId, RoleName, UserName};
 use af_policy::{Ask, BadInput, Change, ChangeKind, Parameter, PolicyRead, ReadKind, Span};
+use json::Scratch;
 use std::alloc::Global;
 
 /// A page of the roles, or why there is none.
@@ -42,50 +43,65 @@ fn span_of(window: &Window) -> Span
 }
 
 /// A role is added.
-pub(crate) fn role_added(alloc: Global, body: &[u8]) -> PolicyOp
+pub(crate) fn role_added(alloc: Global, body: &[u8], scratch: &mut Scratch) -> PolicyOp
     ensures { (result ≡ role_added body.now) ⊎ (result ≡ unread (role_added body.now)) }
 {
-    match read_role(alloc, body) {
+    match read_role(alloc, body, scratch) {
         Ok(input) => PolicyOp::Change(Ask::Made(Change::AddRole(input))),
         Err(fault) => refused(ChangeKind::AddRole, fault),
     }
 }
 
 /// A role gets other permissions.
-pub(crate) fn role_changed(alloc: Global, name: RoleName, body: &[u8]) -> PolicyOp
+pub(crate) fn role_changed(
+    alloc: Global,
+    name: RoleName,
+    body: &[u8],
+    scratch: &mut Scratch,
+) -> PolicyOp
     ensures { (result ≡ role_changed name body.now) ⊎ (result ≡ unread (role_changed name body.now)) }
 {
-    match read_role_set(alloc, name, body) {
+    match read_role_set(alloc, name, body, scratch) {
         Ok(input) => PolicyOp::Change(Ask::Made(Change::SetRole(input))),
         Err(fault) => refused(ChangeKind::SetRole, fault),
     }
 }
 
 /// A user is added.
-pub(crate) fn user_added(alloc: Global, body: &[u8]) -> PolicyOp
+pub(crate) fn user_added(alloc: Global, body: &[u8], scratch: &mut Scratch) -> PolicyOp
     ensures { (result ≡ user_added body.now) ⊎ (result ≡ unread (user_added body.now)) }
 {
-    match read_user(alloc, body) {
+    match read_user(alloc, body, scratch) {
         Ok(user) => PolicyOp::Change(Ask::Made(Change::AddUser(user))),
         Err(fault) => refused(ChangeKind::AddUser, fault),
     }
 }
 
 /// A user gets another token or other roles.
-pub(crate) fn user_changed(alloc: Global, name: UserName, body: &[u8]) -> PolicyOp
+pub(crate) fn user_changed(
+    alloc: Global,
+    name: UserName,
+    body: &[u8],
+    scratch: &mut Scratch,
+) -> PolicyOp
     ensures { (result ≡ user_changed name body.now) ⊎ (result ≡ unread (user_changed name body.now)) }
 {
-    match read_patch(alloc, name, body) {
+    match read_patch(alloc, name, body, scratch) {
         Ok(patch) => PolicyOp::Change(Ask::Made(Change::SetUser(patch))),
         Err(fault) => refused(ChangeKind::SetUser, fault),
     }
 }
 
 /// The access control of a DAG is taken over.
-pub(crate) fn sync_asked(alloc: Global, dag_id: DagId, body: &[u8]) -> PolicyOp
+pub(crate) fn sync_asked(
+    alloc: Global,
+    dag_id: DagId,
+    body: &[u8],
+    scratch: &mut Scratch,
+) -> PolicyOp
     ensures { (result ≡ sync_asked dag_id body.now) ⊎ (result ≡ unread (sync_asked dag_id body.now)) }
 {
-    match read_dag_access(alloc, dag_id, body) {
+    match read_dag_access(alloc, dag_id, body, scratch) {
         Ok(access) => PolicyOp::Change(Ask::Made(Change::SyncDag(access))),
         Err(fault) => refused(ChangeKind::SyncDag, fault),
     }

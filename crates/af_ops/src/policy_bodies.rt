@@ -20,11 +20,14 @@ use json::Scratch;
 use std::alloc::Global;
 
 /// Reads a role that is to be added: `name`, then `actions`. The first fault decides.
-pub(crate) fn read_role(alloc: Global, bytes: &[u8]) -> Result<RoleInput, InputFault>
+pub(crate) fn read_role(
+    alloc: Global,
+    bytes: &[u8],
+    scratch: &mut Scratch,
+) -> Result<RoleInput, InputFault>
     ensures { OrMemory InputFault.OutOfMemory (role_in bytes.now) result }
 {
-    let mut scratch = Scratch::new(alloc);
-    let body = body_in(alloc, bytes, &mut scratch)?;
+    let body = body_in(alloc, bytes, scratch)?;
     let name = required_name(alloc, &body, Member::Name)?;
     let actions = read_actions(alloc, &body)?;
     Ok(RoleInput { name, actions })
@@ -35,21 +38,24 @@ pub(crate) fn read_role_set(
     alloc: Global,
     name: RoleName,
     bytes: &[u8],
+    scratch: &mut Scratch,
 ) -> Result<RoleInput, InputFault>
     ensures { OrMemory InputFault.OutOfMemory (role_set_in name bytes.now) result }
 {
-    let mut scratch = Scratch::new(alloc);
-    let body = body_in(alloc, bytes, &mut scratch)?;
+    let body = body_in(alloc, bytes, scratch)?;
     let actions = read_actions(alloc, &body)?;
     Ok(RoleInput { name, actions })
 }
 
 /// Reads a user who is to be added: `username`, then `roles`, then `token_sha256`. The first fault decides.
-pub(crate) fn read_user(alloc: Global, bytes: &[u8]) -> Result<User, InputFault>
+pub(crate) fn read_user(
+    alloc: Global,
+    bytes: &[u8],
+    scratch: &mut Scratch,
+) -> Result<User, InputFault>
     ensures { OrMemory InputFault.OutOfMemory (user_in bytes.now) result }
 {
-    let mut scratch = Scratch::new(alloc);
-    let body = body_in(alloc, bytes, &mut scratch)?;
+    let body = body_in(alloc, bytes, scratch)?;
     let name: UserName = required_name(alloc, &body, Member::Username)?;
     let roles = read_roles(alloc, &body)?;
     let digest = required_digest(&body)?;
@@ -61,11 +67,11 @@ pub(crate) fn read_patch(
     alloc: Global,
     name: UserName,
     bytes: &[u8],
+    scratch: &mut Scratch,
 ) -> Result<UserPatch, InputFault>
     ensures { OrMemory InputFault.OutOfMemory (patch_in name bytes.now) result }
 {
-    let mut scratch = Scratch::new(alloc);
-    let body = body_in(alloc, bytes, &mut scratch)?;
+    let body = body_in(alloc, bytes, scratch)?;
     let roles = optional_roles(alloc, &body)?;
     let digest = optional_digest(&body)?;
     Ok(UserPatch {
@@ -80,11 +86,11 @@ pub(crate) fn read_dag_access(
     alloc: Global,
     dag: DagId,
     bytes: &[u8],
+    scratch: &mut Scratch,
 ) -> Result<DagAccess, InputFault>
     ensures { OrMemory InputFault.OutOfMemory (dag_access_in dag bytes.now) result }
 {
-    let mut scratch = Scratch::new(alloc);
-    let body = body_in(alloc, bytes, &mut scratch)?;
+    let body = body_in(alloc, bytes, scratch)?;
     let access = optional_access(alloc, &body)?;
     Ok(DagAccess { dag, access })
 }

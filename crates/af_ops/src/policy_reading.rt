@@ -11,6 +11,7 @@ use crate::policy_asking::{
 use crate::policy_op::PolicyOp;
 use af_listing::Window;
 use af_policy::{Ask, Change, PolicyRead};
+use json::Scratch;
 use std::alloc::{AllocError, Global};
 
 /// A page of the roles.
@@ -21,10 +22,10 @@ pub(crate) fn list_roles(query: &[u8]) -> Call
 }
 
 /// A role is added.
-pub(crate) fn add_role(alloc: Global, body: &[u8]) -> Call
+pub(crate) fn add_role(alloc: Global, body: &[u8], scratch: &mut Scratch) -> Call
     ensures { IsRead (call_of_row AddRole [] [] body.now) (Some result) }
 {
-    Call::Policy(role_added(alloc, body))
+    Call::Policy(role_added(alloc, body, scratch))
 }
 
 /// One role.
@@ -43,6 +44,7 @@ pub(crate) fn change_role(
     alloc: Global,
     parts: &[String],
     body: &[u8],
+    scratch: &mut Scratch,
 ) -> Result<Option<Call>, AllocError>
     ensures ok { IfOk result (λ found. IsRead (call_of_row ChangeRole (map (λ part. string_bytes part) parts.now) [] body.now) found) }
     ensures memory { IsErr result → IsSome (call_of_row ChangeRole (map (λ part. string_bytes part) parts.now) [] body.now) }
@@ -50,7 +52,7 @@ pub(crate) fn change_role(
     let Some(name) = first_name(alloc, parts)? else {
         return Ok(None);
     };
-    Ok(Some(Call::Policy(role_changed(alloc, name, body))))
+    Ok(Some(Call::Policy(role_changed(alloc, name, body, scratch))))
 }
 
 /// A role is deleted.
@@ -72,10 +74,10 @@ pub(crate) fn list_users(query: &[u8]) -> Call
 }
 
 /// A user is added.
-pub(crate) fn add_user(alloc: Global, body: &[u8]) -> Call
+pub(crate) fn add_user(alloc: Global, body: &[u8], scratch: &mut Scratch) -> Call
     ensures { IsRead (call_of_row AddUser [] [] body.now) (Some result) }
 {
-    Call::Policy(user_added(alloc, body))
+    Call::Policy(user_added(alloc, body, scratch))
 }
 
 /// One user.
@@ -94,6 +96,7 @@ pub(crate) fn change_user(
     alloc: Global,
     parts: &[String],
     body: &[u8],
+    scratch: &mut Scratch,
 ) -> Result<Option<Call>, AllocError>
     ensures ok { IfOk result (λ found. IsRead (call_of_row ChangeUser (map (λ part. string_bytes part) parts.now) [] body.now) found) }
     ensures memory { IsErr result → IsSome (call_of_row ChangeUser (map (λ part. string_bytes part) parts.now) [] body.now) }
@@ -101,7 +104,7 @@ pub(crate) fn change_user(
     let Some(name) = first_name(alloc, parts)? else {
         return Ok(None);
     };
-    Ok(Some(Call::Policy(user_changed(alloc, name, body))))
+    Ok(Some(Call::Policy(user_changed(alloc, name, body, scratch))))
 }
 
 /// A user is deleted.
@@ -120,6 +123,7 @@ pub(crate) fn sync_dag(
     alloc: Global,
     parts: &[String],
     body: &[u8],
+    scratch: &mut Scratch,
 ) -> Result<Option<Call>, AllocError>
     ensures ok { IfOk result (λ found. IsRead (call_of_row SyncDag (map (λ part. string_bytes part) parts.now) [] body.now) found) }
     ensures memory { IsErr result → IsSome (call_of_row SyncDag (map (λ part. string_bytes part) parts.now) [] body.now) }
@@ -127,5 +131,5 @@ pub(crate) fn sync_dag(
     let Some(dag_id) = dag_id_in(alloc, parts)? else {
         return Ok(None);
     };
-    Ok(Some(Call::Policy(sync_asked(alloc, dag_id, body))))
+    Ok(Some(Call::Policy(sync_asked(alloc, dag_id, body, scratch))))
 }

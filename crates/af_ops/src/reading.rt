@@ -22,10 +22,11 @@ use crate::row_reading::{
     get_variable, list_pools, list_variables,
 };
 use af_listing::Window;
+use json::Scratch;
 use std::alloc::{AllocError, Global};
 
 /// What a row of the table stands for, where the parts of the path, decoded, are these; none where a part is no name of its kind. A listing reads its window from the query, but that of tasks, which is not paged. Where there is no memory to
-/// read the body, the operation says so in place of its input, and is decided without it. `AllocError` only where a growth was
+/// read the body, the operation says so in place of its input, and is decided without it. Texts of the body with escapes are spelled out in `scratch`, which is kept from call to call: what it held before is not looked at. `AllocError` only where a growth was
 /// refused for a name, and all parts are names of their kinds.
 pub fn read_row(
     alloc: Global,
@@ -33,6 +34,7 @@ pub fn read_row(
     parts: &[String],
     query: &[u8],
     body: &[u8],
+    scratch: &mut Scratch,
 ) -> Result<Option<Call>, AllocError>
     ensures ok { IfOk result (λ found. IsRead (call_of_row endpoint (map (λ part. string_bytes part) parts.now) query.now body.now) found) }
     ensures memory { IsErr result → IsSome (call_of_row endpoint (map (λ part. string_bytes part) parts.now) query.now body.now) }
@@ -41,40 +43,40 @@ pub fn read_row(
         Endpoint::Version => Ok(Some(Call::State(Op::Version))),
         Endpoint::ListDags => Ok(Some(list_dags(query))),
         Endpoint::GetDag => get_dag(alloc, parts),
-        Endpoint::PauseDag => pause_dag(alloc, parts, body),
+        Endpoint::PauseDag => pause_dag(alloc, parts, body, scratch),
         Endpoint::ListTasks => list_tasks(alloc, parts),
         Endpoint::ListRuns => list_runs(alloc, parts, query),
-        Endpoint::TriggerRun => trigger_run(alloc, parts, body),
+        Endpoint::TriggerRun => trigger_run(alloc, parts, body, scratch),
         Endpoint::GetRun => get_run(alloc, parts),
-        Endpoint::MarkRun => mark_run(alloc, parts, body),
+        Endpoint::MarkRun => mark_run(alloc, parts, body, scratch),
         Endpoint::DeleteRun => delete_run(alloc, parts),
-        Endpoint::ClearRun => clear_run(alloc, parts, body),
+        Endpoint::ClearRun => clear_run(alloc, parts, body, scratch),
         Endpoint::ListInstances => list_instances(alloc, parts, query),
         Endpoint::GetInstance => get_instance(alloc, parts),
-        Endpoint::ClearInstances => clear_instances(alloc, parts, body),
+        Endpoint::ClearInstances => clear_instances(alloc, parts, body, scratch),
         Endpoint::ListPools => Ok(Some(list_pools(query))),
-        Endpoint::AddPool => Ok(Some(add_pool(alloc, body))),
+        Endpoint::AddPool => Ok(Some(add_pool(alloc, body, scratch))),
         Endpoint::GetPool => get_pool(alloc, parts),
-        Endpoint::ChangePool => change_pool(alloc, parts, body),
+        Endpoint::ChangePool => change_pool(alloc, parts, body, scratch),
         Endpoint::DeletePool => delete_pool(alloc, parts),
         Endpoint::ListVariables => Ok(Some(list_variables(query))),
-        Endpoint::AddVariable => Ok(Some(add_variable(alloc, body))),
+        Endpoint::AddVariable => Ok(Some(add_variable(alloc, body, scratch))),
         Endpoint::GetVariable => get_variable(alloc, parts),
-        Endpoint::ChangeVariable => change_variable(alloc, parts, body),
+        Endpoint::ChangeVariable => change_variable(alloc, parts, body, scratch),
         Endpoint::DeleteVariable => delete_variable(alloc, parts),
         Endpoint::ListEntries => Ok(Some(Call::Entries(Window::read(query)))),
         Endpoint::ListRoles => Ok(Some(list_roles(query))),
-        Endpoint::AddRole => Ok(Some(add_role(alloc, body))),
+        Endpoint::AddRole => Ok(Some(add_role(alloc, body, scratch))),
         Endpoint::GetRole => get_role(alloc, parts),
-        Endpoint::ChangeRole => change_role(alloc, parts, body),
+        Endpoint::ChangeRole => change_role(alloc, parts, body, scratch),
         Endpoint::DeleteRole => delete_role(alloc, parts),
         Endpoint::ListUsers => Ok(Some(list_users(query))),
-        Endpoint::AddUser => Ok(Some(add_user(alloc, body))),
+        Endpoint::AddUser => Ok(Some(add_user(alloc, body, scratch))),
         Endpoint::GetUser => get_user(alloc, parts),
-        Endpoint::ChangeUser => change_user(alloc, parts, body),
+        Endpoint::ChangeUser => change_user(alloc, parts, body, scratch),
         Endpoint::DeleteUser => delete_user(alloc, parts),
         Endpoint::GetMe => Ok(Some(Call::Policy(PolicyOp::Me))),
-        Endpoint::SyncDag => sync_dag(alloc, parts, body),
+        Endpoint::SyncDag => sync_dag(alloc, parts, body, scratch),
     }
 }
 

@@ -19,11 +19,10 @@ use std::alloc::Global;
 
 /// Reads a pool that is to be added. The first fault decides: `BadBody` where the bytes are no JSON object, then `BadMember` where
 /// `name` is no name of a pool, and where `slots` is no number from 0 to 1,000,000; `OutOfMemory` only where a growth was refused.
-pub fn read_pool(alloc: Global, bytes: &[u8]) -> Result<Pool, BodyFault>
+pub fn read_pool(alloc: Global, bytes: &[u8], scratch: &mut Scratch) -> Result<Pool, BodyFault>
     ensures { OrMemory BodyFault.OutOfMemory (pool_in bytes.now) result }
 {
-    let mut scratch = Scratch::new(alloc);
-    let body = body_in(alloc, bytes, &mut scratch)?;
+    let body = body_in(alloc, bytes, scratch)?;
     let name = required_name(alloc, &body, Member::Name)?;
     let slots = required_slots(&body, Member::Slots)?;
     Ok(Pool { name, slots })
@@ -31,21 +30,23 @@ pub fn read_pool(alloc: Global, bytes: &[u8]) -> Result<Pool, BodyFault>
 
 /// Reads the slots that a pool is to have. The first fault decides: `BadBody` where the bytes are no JSON object, `BadMember`
 /// where `slots` is no number from 0 to 1,000,000; `OutOfMemory` only where a growth was refused.
-pub fn read_slots(alloc: Global, bytes: &[u8]) -> Result<u32, BodyFault>
+pub fn read_slots(alloc: Global, bytes: &[u8], scratch: &mut Scratch) -> Result<u32, BodyFault>
     ensures { OrMemory BodyFault.OutOfMemory (slots_in bytes.now) result }
 {
-    let mut scratch = Scratch::new(alloc);
-    let body = body_in(alloc, bytes, &mut scratch)?;
+    let body = body_in(alloc, bytes, scratch)?;
     required_slots(&body, Member::Slots)
 }
 
 /// Reads a variable that is to be added. The first fault decides: `BadBody` where the bytes are no JSON object, then `BadMember`
 /// where `key` is no key of a variable, and where `value` is no text; `OutOfMemory` only where a growth was refused.
-pub fn read_variable(alloc: Global, bytes: &[u8]) -> Result<Variable, BodyFault>
+pub fn read_variable(
+    alloc: Global,
+    bytes: &[u8],
+    scratch: &mut Scratch,
+) -> Result<Variable, BodyFault>
     ensures { OrMemory BodyFault.OutOfMemory (variable_in bytes.now) result }
 {
-    let mut scratch = Scratch::new(alloc);
-    let body = body_in(alloc, bytes, &mut scratch)?;
+    let body = body_in(alloc, bytes, scratch)?;
     let key = required_name(alloc, &body, Member::Key)?;
     let value = required_value(alloc, &body, Member::Value)?;
     Ok(Variable { key, value })
@@ -53,11 +54,10 @@ pub fn read_variable(alloc: Global, bytes: &[u8]) -> Result<Variable, BodyFault>
 
 /// Reads the text that a variable is to hold. The first fault decides: `BadBody` where the bytes are no JSON object, `BadMember`
 /// where `value` is no text; `OutOfMemory` only where a growth was refused.
-pub fn read_value(alloc: Global, bytes: &[u8]) -> Result<VarText, BodyFault>
+pub fn read_value(alloc: Global, bytes: &[u8], scratch: &mut Scratch) -> Result<VarText, BodyFault>
     ensures { OrMemory BodyFault.OutOfMemory (value_in bytes.now) result }
 {
-    let mut scratch = Scratch::new(alloc);
-    let body = body_in(alloc, bytes, &mut scratch)?;
+    let body = body_in(alloc, bytes, scratch)?;
     required_value(alloc, &body, Member::Value)
 }
 

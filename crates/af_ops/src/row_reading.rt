@@ -10,6 +10,7 @@ use crate::pool_op::PoolOp;
 use crate::row_bodies::{read_pool, read_slots, read_value, read_variable};
 use crate::variable_op::VariableOp;
 use af_listing::Window;
+use json::Scratch;
 use std::alloc::{AllocError, Global};
 
 /// A page of the pools.
@@ -20,10 +21,10 @@ pub(crate) fn list_pools(query: &[u8]) -> Call
 }
 
 /// A pool is added.
-pub(crate) fn add_pool(alloc: Global, body: &[u8]) -> Call
+pub(crate) fn add_pool(alloc: Global, body: &[u8], scratch: &mut Scratch) -> Call
     ensures { IsRead (call_of_row AddPool [] [] body.now) (Some result) }
 {
-    Call::State(Op::Pool(PoolOp::Add(read_pool(alloc, body))))
+    Call::State(Op::Pool(PoolOp::Add(read_pool(alloc, body, scratch))))
 }
 
 /// One pool.
@@ -42,6 +43,7 @@ pub(crate) fn change_pool(
     alloc: Global,
     parts: &[String],
     body: &[u8],
+    scratch: &mut Scratch,
 ) -> Result<Option<Call>, AllocError>
     ensures ok { IfOk result (λ found. IsRead (call_of_row ChangePool (map (λ part. string_bytes part) parts.now) [] body.now) found) }
     ensures memory { IsErr result → IsSome (call_of_row ChangePool (map (λ part. string_bytes part) parts.now) [] body.now) }
@@ -49,7 +51,7 @@ pub(crate) fn change_pool(
     let Some(name) = first_name(alloc, parts)? else {
         return Ok(None);
     };
-    Ok(Some(Call::State(Op::Pool(PoolOp::Change(name, read_slots(alloc, body))))))
+    Ok(Some(Call::State(Op::Pool(PoolOp::Change(name, read_slots(alloc, body, scratch))))))
 }
 
 /// A pool is deleted.
@@ -71,10 +73,10 @@ pub(crate) fn list_variables(query: &[u8]) -> Call
 }
 
 /// A variable is added.
-pub(crate) fn add_variable(alloc: Global, body: &[u8]) -> Call
+pub(crate) fn add_variable(alloc: Global, body: &[u8], scratch: &mut Scratch) -> Call
     ensures { IsRead (call_of_row AddVariable [] [] body.now) (Some result) }
 {
-    Call::State(Op::Variable(VariableOp::Add(read_variable(alloc, body))))
+    Call::State(Op::Variable(VariableOp::Add(read_variable(alloc, body, scratch))))
 }
 
 /// One variable.
@@ -93,6 +95,7 @@ pub(crate) fn change_variable(
     alloc: Global,
     parts: &[String],
     body: &[u8],
+    scratch: &mut Scratch,
 ) -> Result<Option<Call>, AllocError>
     ensures ok { IfOk result (λ found. IsRead (call_of_row ChangeVariable (map (λ part. string_bytes part) parts.now) [] body.now) found) }
     ensures memory { IsErr result → IsSome (call_of_row ChangeVariable (map (λ part. string_bytes part) parts.now) [] body.now) }
@@ -100,7 +103,7 @@ pub(crate) fn change_variable(
     let Some(key) = first_name(alloc, parts)? else {
         return Ok(None);
     };
-    Ok(Some(Call::State(Op::Variable(VariableOp::Change(key, read_value(alloc, body))))))
+    Ok(Some(Call::State(Op::Variable(VariableOp::Change(key, read_value(alloc, body, scratch))))))
 }
 
 /// A variable is deleted.

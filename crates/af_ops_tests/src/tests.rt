@@ -25,6 +25,7 @@ use af_ops::{Call, Endpoint, Op, Served, Shown, Standing, read_row};
 use af_policy::Policy;
 use af_sched::{DagRow, State};
 use instances::task;
+use json::Scratch;
 use std::alloc::Global;
 use std::test::Fail;
 use told::{Sent, Told, sent_bytes, told_as};
@@ -76,7 +77,8 @@ fn op(alloc: Global, endpoint: Endpoint, part: &str, body: &[u8]) -> Result<Opti
     for text in part.split('/') {
         parts.push(String::from_str(alloc, text)?)?;
     }
-    match read_row(alloc, endpoint, parts.as_slice(), b"", body)? {
+    let mut scratch = Scratch::new(alloc);
+    match read_row(alloc, endpoint, parts.as_slice(), b"", body, &mut scratch)? {
         Some(Call::State(op)) => Ok(Some(op)),
         Some(_) => Err(Fail::new("no operation on the state")),
         None => Ok(None),

@@ -3,6 +3,7 @@ use af_graph::{Dag, DagSpec, Points, Rule, Schedule, TaskIds, TaskSpec, TaskSpec
 use af_names::{DagId, Instant, PoolName, Preset, TaskId};
 use af_ops::{Call, Endpoint, Op, read_row};
 use af_sched::{DagRow, State};
+use json::Scratch;
 use std::alloc::Global;
 use std::test::Fail;
 
@@ -133,7 +134,8 @@ pub fn op_at(alloc: Global, endpoint: Endpoint, names: &[&str], body: &str) -> R
 }
 
 fn read(alloc: Global, endpoint: Endpoint, parts: &[String], body: &str) -> Result<Op, Fail> {
-    match read_row(alloc, endpoint, parts, b"", body.as_bytes())? {
+    let mut scratch = Scratch::new(alloc);
+    match read_row(alloc, endpoint, parts, b"", body.as_bytes(), &mut scratch)? {
         Some(Call::State(op)) => Ok(op),
         Some(_) => Err(Fail::new("no operation on the state")),
         None => Err(Fail::new("a part is no name")),

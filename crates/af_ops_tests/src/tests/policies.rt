@@ -7,6 +7,7 @@ use super::user_rows::{SYNCS, USERS_CHANGED};
 use super::users::policy;
 use af_ops::{Call, Endpoint, PolicyOp, Served, Shown, Status, answer_policy, read_row};
 use af_policy::{ChangeKind, Versions};
+use json::Scratch;
 use std::alloc::Global;
 use std::test::Fail;
 
@@ -31,7 +32,8 @@ fn asked(
     body: &[u8],
 ) -> Result<PolicyOp, Fail> {
     let parts = vec![in alloc; String::from_str(alloc, part)?]?;
-    match read_row(alloc, endpoint, parts.as_slice(), query, body)? {
+    let mut scratch = Scratch::new(alloc);
+    match read_row(alloc, endpoint, parts.as_slice(), query, body, &mut scratch)? {
         Some(Call::Policy(op)) => Ok(op),
         _ => Err(Fail::new("nothing is asked of the policy")),
     }

@@ -4,6 +4,7 @@ use af_names::{DagId, Instant, PoolName, Preset, TaskId};
 use af_ops::{Call, Endpoint, read_row};
 use af_plane::Plane;
 use af_sched::{DagRow, State};
+use json::Scratch;
 use std::alloc::Global;
 use std::test::Fail;
 
@@ -82,7 +83,15 @@ pub fn call(alloc: Global, endpoint: Endpoint, part: &str, body: &str) -> Result
     if !part.is_empty() {
         parts.push(String::from_str(alloc, part)?)?;
     }
-    match read_row(alloc, endpoint, parts.as_slice(), b"", body.as_bytes())? {
+    let mut scratch = Scratch::new(alloc);
+    match read_row(
+        alloc,
+        endpoint,
+        parts.as_slice(),
+        b"",
+        body.as_bytes(),
+        &mut scratch,
+    )? {
         Some(call) => Ok(call),
         None => Err(Fail::new("a part is no name")),
     }

@@ -5,6 +5,7 @@ use af_names::{Instant, TaskId};
 use af_ops::{Body, Call, Endpoint, PolicyOp, Shown, Status, read_row};
 use af_sched::Outcome;
 use af_world::{Step, TryReport, check_trace};
+use json::Scratch;
 use std::alloc::Global;
 use std::test::Fail;
 
@@ -24,7 +25,15 @@ fn parts_of(alloc: Global, texts: &[&str]) -> Result<Vec<String>, Fail> {
 /// What is asked for.
 fn call(alloc: Global, endpoint: Endpoint, texts: &[&str], body: &str) -> Result<Call, Fail> {
     let parts = parts_of(alloc, texts)?;
-    match read_row(alloc, endpoint, parts.as_slice(), b"", body.as_bytes())? {
+    let mut scratch = Scratch::new(alloc);
+    match read_row(
+        alloc,
+        endpoint,
+        parts.as_slice(),
+        b"",
+        body.as_bytes(),
+        &mut scratch,
+    )? {
         Some(call) => Ok(call),
         None => Err(Fail::new("a part is no name")),
     }
