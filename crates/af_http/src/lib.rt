@@ -13,6 +13,7 @@ mod gathering;
 mod handled;
 mod incoming;
 pub mod laws;
+mod likely;
 mod lines;
 mod message;
 mod outgoing;

@@ -6,6 +6,7 @@ ghost use Rattle.af_http.specs.Parts.{IsFit, IsFound, IsLeftOut, IsPut, part_cou
 ghost use Rattle.af_http.specs.Routes.{IsRouted, before, endpoint_of, has_form, named, onward, call_of, parts_in, path_of, template_of, query_of, read, stands_for};
 
 use crate::fit::Fit;
+use crate::likely::Likely;
 use crate::parts::Parts;
 use crate::route_fault::RouteFault;
 use af_ops::{
@@ -13,16 +14,15 @@ use af_ops::{
     methods_at, read_row,
 };
 use json::Scratch;
-use matchit::Router;
 use memchr::memchr;
 use std::alloc::{AllocError, Global};
 
-/// The table of paths, with room for the parts of one. A router finds the likely one; that it has the path's form is tested, so
-/// what is found does not depend on the router.
+/// The table of paths, with room for the parts of one. A router finds the likely one, or that of a path before; that it has the path's form
+/// is tested, so what is found depends on neither.
 #[derive(Drop)]
 pub struct Routes {
     alloc: Global,
-    router: Router<PathTemplate>,
+    likely: Likely,
     /// The parts of the path that is read.
     parts: Parts,
     /// Where texts of a body with escapes are spelled out.
@@ -180,35 +180,17 @@ fn parted(target: &[u8]) -> (&[u8], &[u8])
     }
 }
 
-/// A router of all paths of the table.
-fn router_of_templates(alloc: Global) -> Result<Router<PathTemplate>, AllocError> {
-    let mut router = Router::new(alloc);
-    for template in PATH_TEMPLATES {
-        if router.insert(template.text(), template).is_err() {
-            return Err(AllocError);
-        }
-    }
-    Ok(router)
-}
-
 impl Routes {
     /// The table. It is made once for a connection.
     pub fn new(alloc: Global) -> Result<Routes, AllocError> {
-        let router = router_of_templates(alloc)?;
+        let likely = Likely::new(alloc)?;
         let parts = Parts::new(alloc)?;
         Ok(Routes {
             alloc,
-            router,
+            likely,
             parts,
             scratch: Scratch::new(alloc),
         })
-    }
-
-    /// The path of the table that the router takes this for.
-    fn likely(&self, path: &[u8]) -> Option<PathTemplate> {
-        let text = str::from_utf8(path).ok()?;
-        let found = self.router.at(text).ok()?;
-        Some(*found.value)
     }
 
     /// The path of the table that has this form, looked for from the first on.
@@ -234,14 +216,28 @@ impl Routes {
     fn find(&mut self, path: &[u8]) -> Option<PathTemplate>
         ensures { IsFound path.now self.new.parts result }
     {
-        if let Some(template) = self.likely(path) {
+        if let Some(template) = self.likely.again(path) {
             match self.read_parts(template, path) {
                 Fit::Fits => return Some(template),
                 Fit::Unfit => return None,
                 Fit::Other => {}
             }
         }
-        self.search(path)
+        self.find_routed(path)
+    }
+
+    /// The same where no path before tells it: what the router finds is tried.
+    fn find_routed(&mut self, path: &[u8]) -> Option<PathTemplate>
+        ensures { IsFound path.now self.new.parts result }
+    {
+        match self.likely.routed(path) {
+            Some(template) => match self.read_parts(template, path) {
+                Fit::Fits => Some(template),
+                Fit::Unfit => None,
+                Fit::Other => self.search(path),
+            },
+            None => self.search(path),
+        }
     }
 
     /// The same where the router did not find it: each path of the table is tried.
