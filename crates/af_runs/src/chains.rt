@@ -5,14 +5,14 @@ ghost use Rattle.std.specs.List.Sorted.{IsStrictlySortedBy};
 ghost use Rattle.std.specs.Ordering.{nat_cmp};
 ghost use Rattle.af_runs.specs.Chains.{AreChains, HasRoom, last_of, out};
 
+use indexmap::IndexMap;
 use std::alloc::{AllocError, Global};
-use std::collections::HashMap;
 
 /// For each code the numbers of the rows of that code, from the last one back to the first. A number is above 0.
 #[derive(Drop)]
 pub(crate) struct Chains {
     /// By code, the number of the last row of that code.
-    last: HashMap<u64, u64>,
+    last: IndexMap<u64, u64>,
     /// At the place of each row the number of the last row of its code before it, 0 where there is none.
     earlier: Vec<u64>,
 }
@@ -23,16 +23,20 @@ impl Chains {
         ensures { AreChains [] result }
     {
         Chains {
-            last: HashMap::new(alloc),
+            last: IndexMap::new(alloc),
             earlier: Vec::new(alloc),
         }
     }
 
-    /// The number of the last row of a code, 0 where there is none.
-    pub(crate) fn last(&self, code: u64) -> u64
-        ensures { result ≡ last_of self.now code }
+    /// The number of the last row of a code, 0 where there is none, and a place where that row is likely to stand: where it does
+    /// if no row was taken out and each row has a code of its own, since codes are kept in the order in which they came.
+    pub(crate) fn last(&self, code: u64) -> (u64, usize)
+        ensures { result.0 ≡ last_of self.now code }
     {
-        self.last.get(&code).copied().unwrap_or(0)
+        match self.last.get_full(&code) {
+            Some((likely, _, number)) => (*number, likely),
+            None => (0, 0),
+        }
     }
 
     /// The number of the last row before the one at this place that has its code, 0 where there is none.
@@ -81,9 +85,9 @@ impl Chains {
         ensures len { vec_len self.new.earlier + 1 ≡ vec_len self.old.earlier }
     {
         let before = take_out(&mut self.earlier, place, number);
-        if self.last(code) == number {
+        if self.last(code).0 == number {
             if before == 0 {
-                let _last = self.last.remove(&code);
+                let _last = self.last.swap_remove(&code);
             } else if let Some(last) = self.last.get_mut(&code) {
                 *last = before;
             }
@@ -92,7 +96,7 @@ impl Chains {
 }
 
 /// Puts a number at a code, where there is room for one more, and tells that which was there, 0 where there was none.
-fn put(numbers: &mut HashMap<u64, u64>, code: u64, number: u64) -> u64
+fn put(numbers: &mut IndexMap<u64, u64>, code: u64, number: u64) -> u64
     requires { 0 < spare numbers.old }
     ensures before { result ≡ unwrap_or (get nat_eq numbers.old code) 0 }
     ensures numbers { (other : ℕ) → get nat_eq numbers.new other ≡ (if nat_eq code other then Some number else get nat_eq numbers.old other) }

@@ -23,6 +23,18 @@ pub(crate) fn place_of(rows: &[Run], last: u64, number: u64) -> Option<usize>
     Some((number - 1) as usize)
 }
 
+/// Where the row of the run of this number stands, which is likely to be this place. Whether it is, is read off the row there: so
+/// that row is read before the number is known.
+fn place_near(rows: &[Run], last: u64, number: u64, likely: usize) -> Option<usize>
+    requires { AreRuns rows.now (last + 1) }
+    ensures { MatchOption result (StandsNowhere rows.now number) (StandsAt rows.now number) }
+{
+    if likely < rows.len() && rows[likely].number == number {
+        return Some(likely);
+    }
+    place_of(rows, last, number)
+}
+
 /// Where the row of the run of this number stands, by a binary search. The row stands at most where it would if no number
 /// before it had been taken out, and at least where it would if none after it had been: the search goes between the two.
 fn search(rows: &[Run], last: u64, number: u64) -> Option<usize>
@@ -59,9 +71,9 @@ pub(crate) fn find_place(
     ensures { MatchOption result (IsMetNowhere wanted.now rows.now) (IsMetAt wanted.now rows.now) }
 {
     let code = wanted.code();
-    let mut number = chains.last(code);
+    let (mut number, likely) = chains.last(code);
     while number != 0 {
-        let Some(place) = place_of(rows, last, number) else {
+        let Some(place) = place_near(rows, last, number, likely) else {
             return None;
         };
         if wanted.is_met(&rows[place]) {

@@ -8,8 +8,8 @@ use Rattle.af_runs.proofs.chains.Chains.remove.Goals as goal
 pub returns-then-before-eq0-clause-rows : goal.returns-then-before-eq0-clause-rows
 returns-then-before-eq0-clause-rows c = λ rows are within here above order.
     AreChains-remove rows c.args.place c.args.number c.args.code within here above order c.args.self.now are c.take_out-before.result c.take_out-before.ensures.value _
-    (last-here rows c.args.place c.args.number c.args.code within here above order c.args.self.now are c.take_out-before.result c.take_out-before.ensures.value (record { last = c.remove-last.new.self; earlier = c.take_out-before.new.numbers }) (sym c.last.ensures ∙ c.if-last-number.true)
-    (λ q. ap (λ (found : Option ℕ). unwrap_or found 0) (c.remove-last.ensures.updates.0 q) ∙ took_found (c.args.code == q) (get nat_eq c.args.self.now.last q) ∙ ap (λ (n : ℕ). cond (c.args.code == q) n (last_of c.args.self.now q)) (sym c.if-before-eq0.true)))
+    (last-here rows c.args.place c.args.number c.args.code within here above order c.args.self.now are c.take_out-before.result c.take_out-before.ensures.value (record { last = c.swap_remove-last.new.self; earlier = c.take_out-before.new.numbers }) (sym c.last.ensures ∙ c.if-last-number.true)
+    (λ q. ap (λ (found : Option ℕ). unwrap_or found 0) (c.swap_remove-last.ensures.updates.0 q) ∙ took_found (c.args.code == q) (get nat_eq c.args.self.now.last q) ∙ ap (λ (n : ℕ). cond (c.args.code == q) n (last_of c.args.self.now q)) (sym c.if-before-eq0.true)))
     c.take_out-before.ensures.items
 
 pub returns-in-Some-clause-rows : goal.returns-in-Some-clause-rows
