@@ -73,10 +73,11 @@ impl Plane {
         with(sum, self.runs.len() as u64 + 1)
     }
 
-    /// The numbers of the runs of these names.
+    /// The numbers and dates of the runs of these names.
     fn find(&self, dag: usize) -> u64 {
         let dag = &self.dags[self.places[&*dag_id(dag)]];
-        self.names.iter().map(|it| dag.by_id[it.as_str()] as u64 + 1).sum()
+        let place = |it: &String| dag.by_id[it.as_str()];
+        self.names.iter().map(place).map(|it| it as u64 + 1 + self.runs[it].date).sum()
     }
 
     /// What is told of a page of the runs of a DAG.

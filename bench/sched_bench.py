@@ -4,6 +4,7 @@
   python3 bench/sched_bench.py                    processor time; some minutes
   python3 bench/sched_bench.py --count            instructions, counted by valgrind; other work on the machine doesn't touch them
   python3 bench/sched_bench.py --only tick        the loads with one of these words in their names
+  python3 bench/sched_bench.py --starts 8         the programs are started eight times for each load
   python3 bench/sched_bench.py --build            proves and builds the program of bench/sched/ anew, and measures nothing
 
 No request reaches the scheduler yet, so a program of its own plays the loads, bench/sched/, over the proved crates af_sched and
@@ -124,18 +125,20 @@ def same(load, turn, told):
         fail(f"the programs differ in round {turn} of {load.name}: {told[0]} and {told[1]}")
 
 
-def measure(load, rounds, programs):
-    """A line of the table."""
-    both, pairs = [Player(it, load.opening) for it in programs], []
-    same(load, "none", [it.round(load.before)[0] for it in both])
-    for turn in range(min(rounds, load.most)):
-        told, spent = [None, None], [0, 0]
-        for place in (0, 1) if turn % 2 == 0 else (1, 0):
-            told[place], spent[place] = both[place].round(load.lines(turn))
-        same(load, turn, told)
-        pairs.append(spent)
-    for it in both:
-        it.end()
+def measure(load, rounds, programs, starts=1):
+    """A line of the table. Where memory lies differs from start to start, and what look-ups cost with it: so programs can be started more than once."""
+    pairs = []
+    for _ in range(starts):
+        both = [Player(it, load.opening) for it in programs]
+        same(load, "none", [it.round(load.before)[0] for it in both])
+        for turn in range(min(rounds, load.most)):
+            told, spent = [None, None], [0, 0]
+            for place in (0, 1) if turn % 2 == 0 else (1, 0):
+                told[place], spent[place] = both[place].round(load.lines(turn))
+            same(load, turn, told)
+            pairs.append(spent)
+        for it in both:
+            it.end()
     by = load.number * (1_000 if load.unit == "us" else 1)
     ours, theirs = (statistics.median(it[place] for it in pairs) / by for place in (0, 1))
     low, middle, high = quartiles([a / b for a, b in pairs])
@@ -161,6 +164,7 @@ def options_of(words):
     options = argparse.ArgumentParser(description=words, formatter_class=argparse.RawDescriptionHelpFormatter)
     options.add_argument("--build", action="store_true", help="prove and build the program, and measure nothing")
     options.add_argument("--rounds", type=int, default=31, help="1 to 1,000; 31")
+    options.add_argument("--starts", type=int, default=1, help="how often the programs are started, for so many rounds each; 1")
     options.add_argument("--count", action="store_true", help="instructions, by valgrind, in place of times")
     options.add_argument("--only", default="", metavar="WORDS", help="the loads with one of these words in their names")
     return options
@@ -169,10 +173,10 @@ def options_of(words):
 def tell(args, every, programs):
     """The table of these loads."""
     every = [it for it in every if any(word in it.name for word in args.only.split(","))]
-    print(f"{'Instructions' if args.count else f'Processor time, {args.rounds} rounds,'} by operation; load {os.getloadavg()[0]:.1f}.\n")
+    print(f"{'Instructions' if args.count else f'Processor time, {args.starts} by {args.rounds} rounds,'} by operation; load {os.getloadavg()[0]:.1f}.\n")
     print(f"{'':<46} {'afplane':>12} {'baseline':>12}")
     for it in every:
-        print(count(it, programs) if args.count else measure(it, args.rounds, programs), flush=True)
+        print(count(it, programs) if args.count else measure(it, args.rounds, programs, args.starts), flush=True)
 
 
 def main():
