@@ -4,7 +4,7 @@ use af_role::{Role, default_roles};
 use std::alloc::{AllocError, Global};
 
 /// The default roles, each with all its permissions.
-const ROLES: [(&str, &str); 5] = [
+const ROLES: &[(&str, &str)] = &[
     ("Public", ""),
     (
         "Viewer",

@@ -6,7 +6,7 @@ use std::alloc::Global;
 /// An action, a resource, whether it may be had of one DAG, and how it is written alone and about the DAG b.1.
 type Row = (Action, ResourceKind, bool, &'static str, &'static str);
 
-const NEEDS: [Row; 4] = [
+const NEEDS: &[Row] = &[
     (
         Action::Read,
         ResourceKind::Dags,

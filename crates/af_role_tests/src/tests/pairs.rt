@@ -8,7 +8,7 @@ use std::test::Fail;
 type Given = &'static [(&'static str, &'static str)];
 
 /// Permissions as they are given, and which set they are, or the fault that is told.
-const READ: [(Given, &str); 7] = [
+const READ: &[(Given, &str)] = &[
     (&[], ""),
     (
         &[

@@ -4,7 +4,7 @@ use af_role::{Action, Actions, Pair, Permissions, Resource};
 use std::alloc::{AllocError, Global};
 
 /// Texts of actions and resources.
-const TEXTS: [(&str, &str); 11] = [
+const TEXTS: &[(&str, &str)] = &[
     ("can_read", "DAG:b"),
     ("can_read", "Users"),
     ("can_create", "DAG:b"),
@@ -47,7 +47,7 @@ const LISTED: &str = "DAGs.can_read,Users.can_read,DAG:B.can_read,DAG:b.can_read
 
 #[test]
 fn permissions_stand_in_order_and_once(rt: HostRuntime) -> Result<(), AllocError> {
-    let permissions = permissions_of(rt.alloc(), &TEXTS)?;
+    let permissions = permissions_of(rt.alloc(), TEXTS)?;
     holds(&rt, permissions.len() == 5, "five pairs");
     let text = listed(rt.alloc(), &permissions)?;
     holds(&rt, text.as_str() == LISTED, "in order");
@@ -55,7 +55,7 @@ fn permissions_stand_in_order_and_once(rt: HostRuntime) -> Result<(), AllocError
 }
 
 /// An action, and whether it is in the set.
-const IN_SET: [(Action, bool); 4] = [
+const IN_SET: &[(Action, bool)] = &[
     (Action::Create, false),
     (Action::Read, true),
     (Action::Edit, false),
@@ -66,6 +66,6 @@ const IN_SET: [(Action, bool); 4] = [
 fn sets_of_actions_keep_what_is_put_in(rt: HostRuntime) {
     let set = Actions::none().with(Action::Read).with(Action::Delete);
     for (action, among) in IN_SET {
-        holds(&rt, set.has(action) == among, "each action");
+        holds(&rt, set.has(*action) == *among, "each action");
     }
 }

@@ -10,14 +10,14 @@ use std::test::Fail;
 type Access = &'static [(&'static str, &'static [&'static str])];
 
 /// The roles before each sync.
-const ROLES: [(&str, &[(&str, &str)]); 3] = [
+const ROLES: &[(&str, &[(&str, &str)])] = &[
     ("Admin", &[("can_edit", "DAGs"), ("can_read", "DAG:b")]),
     ("one", &[("can_edit", "DAG:b"), ("can_read", "DAG:c")]),
     ("two", &[]),
 ];
 
 /// The access control of the DAG b, what a sync tells, and what the roles then list.
-const SYNCS: [(Option<Access>, &str, &str); 9] = [
+const SYNCS: &[(Option<Access>, &str, &str)] = &[
     (
         None,
         "done",
