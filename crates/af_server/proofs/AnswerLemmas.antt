@@ -1,5 +1,5 @@
 -- What is told of a call, and what that leaves, is one function of the call, whether its body was read or not.
-use Rattle.std.proofs.Common.{◌≡◌, ◌∙◌, refl, ap, subst, ℕ, List, [], Bool, true, false}
+use Rattle.std.proofs.Common.{◌≡◌, ◌⊎◌, ◌∙◌, inl, inr, refl, ap, subst, ℕ, List, [], Bool, true, false}
 use Rattle.std.specs.Prelude.{Option, Some, None, option_map, Result, Ok, Err, codes, ◌++◌, map, if◌then◌else◌}
 use Rattle.af_role.specs.Needs.{need_text}
 use Rattle.af_role.specs.Pairs.{PairRow}
@@ -15,16 +15,13 @@ use Rattle.af_policy.specs.declared.bad_input.BadInput.TheVariants as input
 use Rattle.af_policy.specs.declared.change.Change.TheVariants.{AddRole, SetRole, DropRole, AddUser, SetUser, DropUser, SyncDag}
 use Rattle.af_ops.specs.declared.answer.OpFault.{OpFault}
 use Rattle.af_ops.specs.declared.answer.OpFault.TheVariants.{OutOfMemory}
-use Rattle.af_ops.specs.declared.body_fault.BodyFault.TheVariants as body_fault
 use Rattle.af_ops.specs.declared.endpoint.Endpoint.{Endpoint}
 use Rattle.af_ops.specs.declared.op.Op.{Op}
 use Rattle.af_ops.specs.declared.op.Op.TheVariants as op
 use Rattle.af_ops.specs.declared.policy_op.PolicyOp.{PolicyOp}
 use Rattle.af_ops.specs.declared.policy_op.PolicyOp.TheVariants as asks
-use Rattle.af_ops.specs.declared.pool_op.PoolOp.TheVariants as pool_op
 use Rattle.af_ops.specs.declared.shown_answer.Shown.{Shown}
 use Rattle.af_ops.specs.declared.status.Status.TheVariants as status
-use Rattle.af_ops.specs.declared.variable_op.VariableOp.TheVariants as variable_op
 use Rattle.af_ops.specs.Effects.{Effect, effect_of}
 use Rattle.af_ops.specs.Endpoints.{dag_of, endpoint_of, unread}
 use Rattle.af_ops.specs.Faults.{fault_of}
@@ -36,6 +33,7 @@ use Rattle.af_ops.specs.Served.{answer_of, problem_told}
 use Rattle.af_ops.specs.Table as table
 use Rattle.af_ops.specs.Table.{is_open}
 use Rattle.af_ops.specs.Verdicts.{Verdict, Lacks, dag_ids, done, judged, opened, permitted}
+use Rattle.af_ops.proofs.UnreadLemmas.{IsUnread, WantsMemory, unread_is}
 use Rattle.af_audit.specs.Answered.{ledger_left, standing_of, verdict_on}
 use Rattle.af_audit.specs.Ledgers.{LedgerRows}
 
@@ -88,33 +86,19 @@ module _ {X : Type 0} (kept : LedgerRows → X) (policy : PolicyRows) (ledger : 
         by_open (is_open (endpoint_of whole))
         (subst (λ (e : Endpoint). told_op half (if is_open e then opened (effect_of (λ dag. false) ledger.state half t) else judged ledger.audit.limit policy (standing_of ledger) half t (bearer_of policy token)) ≡ Some p) place told)
 
+  without : (whole half : Op) → IsUnread whole half → (p : Shown × X)
+      → told_op half (verdict_on policy ledger token half t) ≡ Some p
+      → told_op whole (verdict_on policy ledger token whole t) ≡ Some p
+  without whole half is p told = by is.effect
+    where
+      by : (half ≡ whole) ⊎ WantsMemory half → told_op whole (verdict_on policy ledger token whole t) ≡ Some p
+      by (inl same) = subst (λ (asked : Op). told_op asked (verdict_on policy ledger token asked t) ≡ Some p) same told
+      by (inr want) = half_told whole half is.dag is.endpoint (λ reads. want reads ledger.state t) p told
+
   pub unread_told : (asked : Op) (p : Shown × X)
       → told_op (unread asked) (verdict_on policy ledger token (unread asked) t) ≡ Some p
       → told_op asked (verdict_on policy ledger token asked t) ≡ Some p
-  unread_told op.Version p told = told
-  unread_told (op.ListDags asked) p told = told
-  unread_told (op.GetDag dag_id) p told = told
-  unread_told (op.PauseDag dag_id body) p told = half_told (op.PauseDag dag_id body) (op.PauseDag dag_id (Err body_fault.OutOfMemory)) refl refl (λ reads. refl) p told
-  unread_told (op.ListTasks dag_id) p told = told
-  unread_told (op.ListRuns dag asked) p told = told
-  unread_told (op.TriggerRun dag_id body) p told = half_told (op.TriggerRun dag_id body) (op.TriggerRun dag_id (Err body_fault.OutOfMemory)) refl refl (λ reads. refl) p told
-  unread_told (op.GetRun dag_id run_id) p told = told
-  unread_told (op.MarkRun dag_id run_id body) p told = half_told (op.MarkRun dag_id run_id body) (op.MarkRun dag_id run_id (Err body_fault.OutOfMemory)) refl refl (λ reads. refl) p told
-  unread_told (op.DeleteRun dag_id run_id) p told = told
-  unread_told (op.ClearRun dag_id run_id body) p told = half_told (op.ClearRun dag_id run_id body) (op.ClearRun dag_id run_id (Err body_fault.OutOfMemory)) refl refl (λ reads. refl) p told
-  unread_told (op.ListInstances dag_id run_id asked) p told = told
-  unread_told (op.GetInstance dag_id run_id task_id) p told = told
-  unread_told (op.ClearInstances dag_id body) p told = half_told (op.ClearInstances dag_id body) (op.ClearInstances dag_id (Err body_fault.OutOfMemory)) refl refl (λ reads. refl) p told
-  unread_told (op.Pool (pool_op.List asked)) p told = told
-  unread_told (op.Pool (pool_op.Add body)) p told = half_told (op.Pool (pool_op.Add body)) (op.Pool (pool_op.Add (Err body_fault.OutOfMemory))) refl refl (λ reads. refl) p told
-  unread_told (op.Pool (pool_op.Get name)) p told = told
-  unread_told (op.Pool (pool_op.Change name body)) p told = half_told (op.Pool (pool_op.Change name body)) (op.Pool (pool_op.Change name (Err body_fault.OutOfMemory))) refl refl (λ reads. refl) p told
-  unread_told (op.Pool (pool_op.Delete name)) p told = told
-  unread_told (op.Variable (variable_op.List asked)) p told = told
-  unread_told (op.Variable (variable_op.Add body)) p told = half_told (op.Variable (variable_op.Add body)) (op.Variable (variable_op.Add (Err body_fault.OutOfMemory))) refl refl (λ reads. refl) p told
-  unread_told (op.Variable (variable_op.Get key)) p told = told
-  unread_told (op.Variable (variable_op.Change key body)) p told = half_told (op.Variable (variable_op.Change key body)) (op.Variable (variable_op.Change key (Err body_fault.OutOfMemory))) refl refl (λ reads. refl) p told
-  unread_told (op.Variable (variable_op.Delete key)) p told = told
+  unread_told asked = without asked (unread asked) (unread_is asked)
 
 -- ---- operations on the policy; kept: what is left where these versions are
 module _ {X : Type 0} (kept : VersionRows → X) (versions : VersionRows) where

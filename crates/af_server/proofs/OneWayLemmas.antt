@@ -9,10 +9,8 @@ use Rattle.af_ops.specs.declared.call.Call.TheVariants as call
 use Rattle.af_ops.specs.declared.endpoint.Endpoint.{Endpoint}
 use Rattle.af_ops.specs.declared.op.Op.{Op}
 use Rattle.af_ops.specs.declared.op.Op.TheVariants as op
-use Rattle.af_ops.specs.declared.pool_op.PoolOp.TheVariants as pool_op
 use Rattle.af_ops.specs.declared.served.Served.TheVariants as served
 use Rattle.af_ops.specs.declared.shown_answer.Shown.{Shown}
-use Rattle.af_ops.specs.declared.variable_op.VariableOp.TheVariants as variable_op
 use Rattle.af_ops.specs.Calls.{IsRead, unread}
 use Rattle.af_ops.specs.Endpoints as operations
 use Rattle.af_ops.specs.Endpoints.{endpoint_of}
@@ -26,6 +24,7 @@ use Rattle.af_audit.proofs.RequestLemmas.{leave_one}
 use Rattle.af_http.specs.Laws.{IsFunction}
 use Rattle.af_plane.specs.Solos.{IsDecided, SoloRows, ledger_for, looked}
 use Rattle.af_server.specs.Desks.{Decides, DeskRows}
+use Rattle.af_ops.proofs.UnreadLemmas.{unread_is}
 use Rattle.af_server.proofs.AnswerLemmas.{policy_unread, told_op, told_policy, unread_told, with_left}
 
 -- ---- what a desk tells of a call, with the desk that is left
@@ -75,36 +74,10 @@ tells old token (call.Policy asked) shown new (is, ledger) now =
 
 -- ---- where the body was not read
 
-endpoint_unread : (asked : Op) → endpoint_of (operations.unread asked) ≡ endpoint_of asked
-endpoint_unread op.Version = refl
-endpoint_unread (op.ListDags asked) = refl
-endpoint_unread (op.GetDag dag_id) = refl
-endpoint_unread (op.PauseDag dag_id body) = refl
-endpoint_unread (op.ListTasks dag_id) = refl
-endpoint_unread (op.ListRuns dag asked) = refl
-endpoint_unread (op.TriggerRun dag_id body) = refl
-endpoint_unread (op.GetRun dag_id run_id) = refl
-endpoint_unread (op.MarkRun dag_id run_id body) = refl
-endpoint_unread (op.DeleteRun dag_id run_id) = refl
-endpoint_unread (op.ClearRun dag_id run_id body) = refl
-endpoint_unread (op.ListInstances dag_id run_id asked) = refl
-endpoint_unread (op.GetInstance dag_id run_id task_id) = refl
-endpoint_unread (op.ClearInstances dag_id body) = refl
-endpoint_unread (op.Pool (pool_op.List asked)) = refl
-endpoint_unread (op.Pool (pool_op.Add body)) = refl
-endpoint_unread (op.Pool (pool_op.Get name)) = refl
-endpoint_unread (op.Pool (pool_op.Change name body)) = refl
-endpoint_unread (op.Pool (pool_op.Delete name)) = refl
-endpoint_unread (op.Variable (variable_op.List asked)) = refl
-endpoint_unread (op.Variable (variable_op.Add body)) = refl
-endpoint_unread (op.Variable (variable_op.Get key)) = refl
-endpoint_unread (op.Variable (variable_op.Change key body)) = refl
-endpoint_unread (op.Variable (variable_op.Delete key)) = refl
-
 alike : (old : DeskRows) (token : Option (List ℕ)) (wanted : Call) (p : Shown × DeskRows) → desk_told old token (unread wanted) ≡ Some p → desk_told old token wanted ≡ Some p
 alike old token (call.State asked) p told =
     unread_told (with_ledger old) old.solo.versions.latest (ledger_for asked old.solo) token old.now asked p
-    (subst (λ (e : Endpoint). told_on old token (operations.unread asked) (if is_open e then old.solo.ledger else looked old.solo) ≡ Some p) (endpoint_unread asked) told)
+    (subst (λ (e : Endpoint). told_on old token (operations.unread asked) (if is_open e then old.solo.ledger else looked old.solo) ≡ Some p) (unread_is asked).endpoint told)
 alike old token (call.Entries window) p told = told
 alike old token (call.Policy asked) p told = policy_unread (with_versions old) old.solo.versions token p asked told
 

@@ -1,4 +1,4 @@
-use Rattle.std.proofs.Common.{◌≡◌, ◌⊎◌, inl, inr, arith, map, Result, Err}
+use Rattle.std.proofs.Common.{◌≡◌, ◌⊎◌, inl, inr, arith, map, Err}
 use Rattle.std.proofs.lemmas.Result.{err_from_is_err_and}
 use Rattle.af_base.proofs.TakingLemmas.{item_refused, item_taken, items_taken}
 use Rattle.af_base.specs.JsonValue.{view}
