@@ -1,8 +1,10 @@
 mod asserts;
 mod changes;
 mod grants;
+mod listing;
 mod openings;
 mod reads;
+mod role;
 mod steps;
 mod syncs;
 mod tables;

@@ -11,7 +11,7 @@ pub fn row_holds(rt: &impl Abort, holds: bool, row: usize) {
     assert!(rt; holds, "row {row}");
 }
 
-/// Ends the test where a step does not go as it says, by its number and what was to be told of it.
-pub fn all_go(rt: &impl Abort, fault: Option<(usize, &'static str)>) {
-    assert!(rt; fault.is_none(), "step {fault:?}");
+/// Ends the test where there is a row of this that does not hold.
+pub fn all_hold(rt: &impl Abort, other: Option<usize>, what: &str) {
+    assert!(rt; other.is_none(), "{what}: row {other:?}");
 }

@@ -1,7 +1,7 @@
 //! Changes told as steps: what each makes of the policy that the one before left, or its first fault.
-use crate::tests::asserts::{all_go, holds};
-use crate::tests::openings::{names, policy, role_over, user};
-use crate::tests::steps::{Step, after};
+use crate::tests::asserts::all_hold;
+use crate::tests::openings::{Members, add_user, names, policy, policy_of, role_over};
+use crate::tests::steps::{Step, take};
 use crate::tests::words::{
     ADAM, ADAMS, ADMIN, ANOTHER, BAD_CAN_FLY, BAD_FLY, BAD_LARGE_READ, BOB, BOBS, CAN_CREATE,
     CAN_EDIT, CAN_FLY, CAN_READ, CY, DAG_A, DAG_B, DAG_RUN_B, DAGS, DEFAULT_ROLE, DONE, EDNA,
@@ -94,20 +94,19 @@ const FOUND: &[(&str, &str)] = &[
 
 /// Makes the change of a step of a policy: whether it is told so.
 fn goes(alloc: Global, policy: &mut Policy, step: Step, wanted: &str) -> Result<bool, Fail> {
-    let (later, told) = after(alloc, policy, step)?;
-    *policy = later;
+    let told = take(alloc, policy, step)?;
     Ok(told.as_str() == wanted)
 }
 
-/// Makes the changes of these steps, one after another, up to the first that is not told as it says: what was to be told of it.
+/// Makes the changes of these steps, one after another, up to the first that is not told as it says: its number.
 fn first_fault(
     alloc: Global,
     policy: &mut Policy,
-    steps: &'static [(Step, &'static str)],
-) -> Result<Option<(usize, &'static str)>, Fail> {
+    steps: &[(Step, &str)],
+) -> Result<Option<usize>, Fail> {
     for (number, (step, wanted)) in steps.iter().enumerate() {
         if !goes(alloc, policy, *step, wanted)? {
-            return Ok(Some((number, *wanted)));
+            return Ok(Some(number));
         }
     }
     Ok(None)
@@ -121,22 +120,54 @@ fn bearer<'a>(policy: &'a Policy, token: &str) -> &'a str {
     }
 }
 
+/// The number of the first row of which somebody else is found.
+fn first_other(policy: &Policy) -> Option<usize> {
+    for (number, (token, name)) in FOUND.iter().enumerate() {
+        if bearer(policy, token) != *name {
+            return Some(number);
+        }
+    }
+    None
+}
+
+/// The first step of these that is not told as it says, on the policy of these members.
+fn fault_in(
+    alloc: Global,
+    members: Members,
+    steps: &[(Step, &str)],
+) -> Result<Option<usize>, Fail> {
+    let mut policy = policy_of(alloc, members)?;
+    first_fault(alloc, &mut policy, steps)
+}
+
+/// What changes are of, the members before them, and the changes.
+const STORIES: &[(&str, Members, &[(Step, &str)])] = &[
+    ("roles", Members::Five, OF_ROLES),
+    ("4,096 roles at most", Members::Roles(4090), CROWDED),
+    ("65,536 users at most", Members::Users(65534), PEOPLED),
+];
+
 #[test]
-fn changes_of_roles_are_made_or_refused_in_order(rt: HostRuntime) -> Result<(), Fail> {
-    let mut policy = policy(rt.alloc())?;
-    let fault = first_fault(rt.alloc(), &mut policy, OF_ROLES)?;
-    all_go(&rt, fault);
+fn changes_are_made_or_refused_in_order(rt: HostRuntime) -> Result<(), Fail> {
+    for (name, members, steps) in STORIES {
+        let fault = fault_in(rt.alloc(), *members, steps)?;
+        all_hold(&rt, fault, name);
+    }
     Ok(())
+}
+
+/// The first step of users that is not told as it says, and the first of who is then found that is another.
+fn of_users(alloc: Global) -> Result<(Option<usize>, Option<usize>), Fail> {
+    let mut policy = policy(alloc)?;
+    let fault = first_fault(alloc, &mut policy, OF_USERS)?;
+    Ok((fault, first_other(&policy)))
 }
 
 #[test]
 fn changes_of_users_are_made_or_refused_in_order(rt: HostRuntime) -> Result<(), Fail> {
-    let mut policy = policy(rt.alloc())?;
-    let fault = first_fault(rt.alloc(), &mut policy, OF_USERS)?;
-    all_go(&rt, fault);
-    for (token, name) in FOUND {
-        holds(&rt, bearer(&policy, token) == *name, token);
-    }
+    let (fault, other) = of_users(rt.alloc())?;
+    all_hold(&rt, fault, "users");
+    all_hold(&rt, other, "who is found");
     Ok(())
 }
 
@@ -146,14 +177,21 @@ fn numbered(alloc: Global, number: u32) -> Result<Role, Fail> {
     role_over(alloc, name.as_str(), ResourceKind::Pools)
 }
 
-/// A policy of so many roles beside the default ones.
-fn crowded(alloc: Global, roles: u32) -> Result<Policy, Fail> {
-    let mut draft = PolicyDraft::new(alloc)?;
+/// Adds adam, the one Admin, and so many roles.
+pub fn crowd(alloc: Global, draft: &mut PolicyDraft, roles: u32) -> Result<(), Fail> {
     for number in 0..roles {
-        draft.add_role(numbered(alloc, number)?)?;
+        add_numbered(alloc, draft, number)?;
     }
-    draft.add_user(alloc, user(alloc, ADAM, ADAMS, [ADMIN].as_slice())?)?;
-    Ok(draft.finish(alloc)?)
+    add_adam(alloc, draft)
+}
+
+fn add_numbered(alloc: Global, draft: &mut PolicyDraft, number: u32) -> Result<(), Fail> {
+    let role = numbered(alloc, number)?;
+    Ok(draft.add_role(role)?)
+}
+
+fn add_adam(alloc: Global, draft: &mut PolicyDraft) -> Result<(), Fail> {
+    add_user(alloc, draft, ADAM, ADAMS, &[ADMIN])
 }
 
 /// What is told where there is room for one role more.
@@ -166,34 +204,37 @@ const CROWDED: &[(Step, &str)] = &[
     (Step::AddRole(MORE, &[]), DONE),
 ];
 
-#[test]
-fn a_policy_has_4096_roles_at_most(rt: HostRuntime) -> Result<(), Fail> {
-    let mut policy = crowded(rt.alloc(), 4090)?;
-    let fault = first_fault(rt.alloc(), &mut policy, CROWDED)?;
-    all_go(&rt, fault);
-    Ok(())
-}
-
 /// The user of a number below 65,536 times 256, whose digest has its three lower bytes behind its first.
 fn member(alloc: Global, number: u32) -> Result<User, Fail> {
+    let name = member_name(alloc, number)?;
+    Ok(User::new(name, member_digest(number), names(alloc, &[VIEWER])?))
+}
+
+fn member_name(alloc: Global, number: u32) -> Result<UserName, Fail> {
     let name = format!(in alloc; "user {number}")?;
+    Ok(UserName::parse(alloc, name.as_str())?)
+}
+
+fn member_digest(number: u32) -> [u8; 32] {
     let mut digest: [u8; 32] = [255; 32];
     let bytes = number.to_be_bytes();
     digest[1] = bytes[1];
     digest[2] = bytes[2];
     digest[3] = bytes[3];
-    let name = UserName::parse(alloc, name.as_str())?;
-    Ok(User::new(name, digest, names(alloc, &[VIEWER])?))
+    digest
 }
 
-/// A policy of so many users beside adam, the one Admin.
-fn peopled(alloc: Global, users: u32) -> Result<Policy, Fail> {
-    let mut draft = PolicyDraft::new(alloc)?;
+/// Adds adam, the one Admin, and so many users.
+pub fn people(alloc: Global, draft: &mut PolicyDraft, users: u32) -> Result<(), Fail> {
     for number in 0..users {
-        draft.add_user(alloc, member(alloc, number)?)?;
+        add_member(alloc, draft, number)?;
     }
-    draft.add_user(alloc, user(alloc, ADAM, ADAMS, [ADMIN].as_slice())?)?;
-    Ok(draft.finish(alloc)?)
+    add_adam(alloc, draft)
+}
+
+fn add_member(alloc: Global, draft: &mut PolicyDraft, number: u32) -> Result<(), Fail> {
+    let user = member(alloc, number)?;
+    Ok(draft.add_user(alloc, user)?)
 }
 
 /// What is told where there is room for one user more.
@@ -207,11 +248,3 @@ const PEOPLED: &[(Step, &str)] = &[
     (Step::DropUser(CY), DONE),
     (Step::AddUser(EVE, BOBS, &[VIEWER]), DONE),
 ];
-
-#[test]
-fn a_policy_has_65536_users_at_most(rt: HostRuntime) -> Result<(), Fail> {
-    let mut policy = peopled(rt.alloc(), 65534)?;
-    let fault = first_fault(rt.alloc(), &mut policy, PEOPLED)?;
-    all_go(&rt, fault);
-    Ok(())
-}

@@ -1,5 +1,5 @@
 //! Rows worked by hand: who brings a token, which requirement a denial names, and what is refused of a policy's rows.
-use crate::tests::asserts::{holds, row_holds};
+use crate::tests::asserts::{all_hold, holds};
 use crate::tests::openings::{policy, role_on, user};
 use crate::tests::words::{
     A, ADAM, ADAMS, B, BOB, BOBS, CUT_SHORT, EDNA, EVE, LARGE_B, NONE, PAT, SMALL_VIEWER,
@@ -44,9 +44,14 @@ const A_ALONE: &[&str] = &[A];
 fn dags(alloc: Global, ids: &[&str]) -> Result<Vec<DagId>, Fail> {
     let mut dags = Vec::new(alloc);
     for id in ids {
-        dags.push(DagId::parse(alloc, id)?)?;
+        add_dag(alloc, &mut dags, id)?;
     }
     Ok(dags)
+}
+
+fn add_dag(alloc: Global, dags: &mut Vec<DagId>, id: &str) -> Result<(), Fail> {
+    let dag = DagId::parse(alloc, id)?;
+    Ok(dags.push(dag)?)
 }
 
 /// What a user lacks where the request is about a DAG, and those DAGs are there.
@@ -63,80 +68,73 @@ fn lacked(
     Ok(policy.missing(&user, needs, Some(&dag), there))
 }
 
-/// A token, and who brings it.
-const TOKENS: &[(&str, &str)] = &[
-    (ADAMS, ADAM),
-    (VERAS, VERA),
-    (BOBS, BOB),
-    (STRANGERS, NONE),
-    (NONE, NONE),
-    (CUT_SHORT, NONE),
+/// What is asked of the policy, and what is told.
+#[derive(Clone, Copy)]
+enum Asked {
+    /// Who brings a token, or the empty text for nobody.
+    Bearer(Option<&'static str>, &'static str),
+    /// The first requirement that a user lacks about a DAG, where those DAGs are there.
+    Lacks(&'static str, &'static [Need], &'static str, &'static [&'static str], Option<Need>),
+    /// Whether bob reads a DAG.
+    BobReads(&'static str, bool),
+    /// Whether a user reads all DAGs by a permission on all of them.
+    ReadsAll(&'static str, bool),
+}
+
+use Asked::{Bearer, BobReads, Lacks, ReadsAll};
+
+const ASKED: &[Asked] = &[
+    Bearer(Some(ADAMS), ADAM),
+    Bearer(Some(VERAS), VERA),
+    Bearer(Some(BOBS), BOB),
+    Bearer(Some(STRANGERS), NONE),
+    Bearer(Some(NONE), NONE),
+    Bearer(Some(CUT_SHORT), NONE),
+    Bearer(None, NONE),
+    Lacks(VERA, &[READ_AT, READ_RUNS], A, A_AND_B, None),
+    Lacks(BOB, &[READ_AT], A, A_AND_B, Some(READ_AT)),
+    Lacks(BOB, &[READ_AT], B, A_ALONE, None),
+    Lacks(BOB, &[READ_AT, READ_RUNS], B, A_AND_B, Some(READ_RUNS)),
+    Lacks(BOB, &[READ_RUNS, READ_AT], A, A_AND_B, Some(READ_RUNS)),
+    Lacks(BOB, &[READ_ALL], B, A_AND_B, None),
+    Lacks(BOB, &[READ_ALL], B, A_ALONE, Some(READ_ALL)),
+    Lacks(VERA, &[READ_ALL], B, A_ALONE, None),
+    Lacks(EDNA, &[EDIT_AT, READ_AT], B, A_AND_B, None),
+    Lacks(EDNA, &[READ_AT, EDIT_AT], A, A_AND_B, Some(EDIT_AT)),
+    Lacks(PAT, &[READ_ALL, READ_RUNS], B, A_AND_B, Some(READ_ALL)),
+    Lacks(EVE, &[READ_AT], B, A_AND_B, Some(READ_AT)),
+    BobReads(A, false),
+    BobReads(B, true),
+    BobReads(LARGE_B, false),
+    ReadsAll(ADAM, true),
+    ReadsAll(VERA, true),
+    ReadsAll(BOB, false),
+    ReadsAll(PAT, false),
+    ReadsAll(EVE, false),
 ];
 
-/// The name of a user, or the empty text for nobody.
-fn name_of(user: Option<&UserName>) -> &str {
-    match user {
+/// The name of who brings a token, or the empty text for nobody.
+fn bearer<'a>(policy: &'a Policy, token: Option<&str>) -> &'a str {
+    match policy.bearer(token.map(str::as_bytes)) {
         Some(user) => user.as_str(),
         None => NONE,
     }
 }
 
-#[test]
-fn tokens_are_those_of_their_users(rt: HostRuntime) -> Result<(), Fail> {
-    let policy = policy(rt.alloc())?;
-    for (token, name) in TOKENS {
-        let found = name_of(policy.bearer(Some(token.as_bytes())));
-        holds(&rt, found == *name, token);
-    }
-    let found = name_of(policy.bearer(None));
-    holds(&rt, found == NONE, "without a token");
-    Ok(())
-}
-
-/// A user, requirements, a DAG, the DAGs that are there, and the first requirement that is lacked.
-type Lack = (
-    &'static str,
-    &'static [Need],
-    &'static str,
-    &'static [&'static str],
-    Option<Need>,
-);
-
-const LACKED: &[Lack] = &[
-    (VERA, &[READ_AT, READ_RUNS], A, A_AND_B, None),
-    (BOB, &[READ_AT], A, A_AND_B, Some(READ_AT)),
-    (BOB, &[READ_AT], B, A_ALONE, None),
-    (BOB, &[READ_AT, READ_RUNS], B, A_AND_B, Some(READ_RUNS)),
-    (BOB, &[READ_RUNS, READ_AT], A, A_AND_B, Some(READ_RUNS)),
-    (BOB, &[READ_ALL], B, A_AND_B, None),
-    (BOB, &[READ_ALL], B, A_ALONE, Some(READ_ALL)),
-    (VERA, &[READ_ALL], B, A_ALONE, None),
-    (EDNA, &[EDIT_AT, READ_AT], B, A_AND_B, None),
-    (EDNA, &[READ_AT, EDIT_AT], A, A_AND_B, Some(EDIT_AT)),
-    (PAT, &[READ_ALL, READ_RUNS], B, A_AND_B, Some(READ_ALL)),
-    (EVE, &[READ_AT], B, A_AND_B, Some(READ_AT)),
-];
-
-/// Whether a user lacks what the row says.
-fn is_lacked(alloc: Global, policy: &Policy, row: Lack) -> Result<bool, Fail> {
-    let (name, needs, dag, there, wanted) = row;
+/// Whether this is what a user lacks about a DAG, where those DAGs are there.
+fn is_lacked(
+    alloc: Global,
+    policy: &Policy,
+    name: &str,
+    needs: &[Need],
+    dag: &str,
+    there: &[&str],
+    wanted: Option<Need>,
+) -> Result<bool, Fail> {
     let there = dags(alloc, there)?;
     let found = lacked(alloc, policy, name, needs, dag, there.as_slice())?;
     Ok(found == wanted)
 }
-
-#[test]
-fn denials_name_the_first_need_that_is_lacked(rt: HostRuntime) -> Result<(), Fail> {
-    let policy = policy(rt.alloc())?;
-    for (number, row) in LACKED.iter().enumerate() {
-        let is_lacked = is_lacked(rt.alloc(), &policy, *row)?;
-        row_holds(&rt, is_lacked, number);
-    }
-    Ok(())
-}
-
-/// A DAG, and whether bob reads it.
-const READABLE: &[(&str, bool)] = &[(A, false), (B, true), (LARGE_B, false)];
 
 /// Whether bob reads a DAG.
 fn bob_reads(alloc: Global, policy: &Policy, dag: &str) -> Result<bool, Fail> {
@@ -145,38 +143,44 @@ fn bob_reads(alloc: Global, policy: &Policy, dag: &str) -> Result<bool, Fail> {
     Ok(policy.view(&bob).readable(&id))
 }
 
-#[test]
-fn a_reader_of_one_dag_reads_it_alone(rt: HostRuntime) -> Result<(), Fail> {
-    let policy = policy(rt.alloc())?;
-    for (dag, reads) in READABLE {
-        let found = bob_reads(rt.alloc(), &policy, dag)?;
-        holds(&rt, found == *reads, dag);
-    }
-    Ok(())
-}
-
-/// A user, and whether that user reads all DAGs by a permission on all of them.
-const READ_ALL_DAGS: &[(&str, bool)] = &[
-    (ADAM, true),
-    (VERA, true),
-    (BOB, false),
-    (PAT, false),
-    (EVE, false),
-];
-
 /// Whether a user reads all DAGs.
 fn reads_all(alloc: Global, policy: &Policy, name: &str) -> Result<bool, Fail> {
     let user = UserName::parse(alloc, name)?;
     Ok(policy.view(&user).reads_all())
 }
 
-#[test]
-fn a_permission_on_all_dags_reads_them_all(rt: HostRuntime) -> Result<(), Fail> {
-    let policy = policy(rt.alloc())?;
-    for (name, all) in READ_ALL_DAGS {
-        let found = reads_all(rt.alloc(), &policy, name)?;
-        holds(&rt, found == *all, name);
+/// Whether this is told of a policy.
+fn is_told(alloc: Global, policy: &Policy, asked: Asked) -> Result<bool, Fail> {
+    match asked {
+        Bearer(token, wanted) => Ok(bearer(policy, token) == wanted),
+        Lacks(name, needs, dag, there, wanted) => {
+            is_lacked(alloc, policy, name, needs, dag, there, wanted)
+        }
+        BobReads(dag, wanted) => Ok(bob_reads(alloc, policy, dag)? == wanted),
+        ReadsAll(name, wanted) => Ok(reads_all(alloc, policy, name)? == wanted),
     }
+}
+
+/// The number of the first row that is told otherwise of a policy.
+fn first_other(alloc: Global, policy: &Policy) -> Result<Option<usize>, Fail> {
+    for (number, asked) in ASKED.iter().enumerate() {
+        if !is_told(alloc, policy, *asked)? {
+            return Ok(Some(number));
+        }
+    }
+    Ok(None)
+}
+
+/// The same of the policy of the five.
+fn first_other_of_five(alloc: Global) -> Result<Option<usize>, Fail> {
+    let policy = policy(alloc)?;
+    first_other(alloc, &policy)
+}
+
+#[test]
+fn what_is_granted(rt: HostRuntime) -> Result<(), Fail> {
+    let other = first_other_of_five(rt.alloc())?;
+    all_hold(&rt, other, "what is granted");
     Ok(())
 }
 
@@ -204,15 +208,34 @@ fn is_refused(alloc: Global, draft: &mut PolicyDraft, row: Row) -> Result<bool, 
     Ok(draft.add_user(alloc, user).err() == fault)
 }
 
+/// The number of the first row that is refused otherwise, or not.
+fn first_row(alloc: Global, draft: &mut PolicyDraft) -> Result<Option<usize>, Fail> {
+    for (number, row) in ROWS.iter().enumerate() {
+        if !is_refused(alloc, draft, *row)? {
+            return Ok(Some(number));
+        }
+    }
+    Ok(None)
+}
+
+/// Whether the role is refused, and that number.
+fn refusals(alloc: Global, draft: &mut PolicyDraft) -> Result<(bool, Option<usize>), Fail> {
+    let is_role_refused = is_role_refused(alloc, draft)?;
+    Ok((is_role_refused, first_row(alloc, draft)?))
+}
+
+/// The same of a draft that opens, and whether it makes no policy then.
+fn refused(alloc: Global) -> Result<((bool, Option<usize>), bool), Fail> {
+    let mut draft = PolicyDraft::new(alloc)?;
+    let refusals = refusals(alloc, &mut draft)?;
+    Ok((refusals, draft.finish(alloc).is_err()))
+}
+
 #[test]
 fn rows_are_refused_in_order(rt: HostRuntime) -> Result<(), Fail> {
-    let alloc = rt.alloc();
-    let mut draft = PolicyDraft::new(alloc)?;
-    holds(&rt, is_role_refused(alloc, &mut draft)?, VIEWER);
-    for (number, row) in ROWS.iter().enumerate() {
-        let is_refused = is_refused(alloc, &mut draft, *row)?;
-        row_holds(&rt, is_refused, number);
-    }
-    holds(&rt, draft.finish(alloc).is_err(), "no Admin");
+    let ((is_role_refused, other), is_no_policy) = refused(rt.alloc())?;
+    holds(&rt, is_role_refused, VIEWER);
+    all_hold(&rt, other, "users");
+    holds(&rt, is_no_policy, "no Admin");
     Ok(())
 }

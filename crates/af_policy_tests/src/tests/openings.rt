@@ -1,3 +1,4 @@
+use crate::tests::changes::{crowd, people};
 use crate::tests::words::{
     ADAM, ADAMS, ADMIN, B, BOB, BOBS, EDIT_B, EDNA, EDNAS, NO_SUCH_PERMISSION, ONLY_B, PAT, PATS,
     PUBLIC, VERA, VERAS, VIEWER,
@@ -74,26 +75,49 @@ const ROLES: &[(&str, Action)] = &[(ONLY_B, Action::Read), (EDIT_B, Action::Edit
 
 /// The role of this name with one action on one DAG.
 pub fn role_on(alloc: Global, name: &str, action: Action, dag: &str) -> Result<Role, Fail> {
-    let mut permissions = Permissions::new(alloc);
     let dag = DagId::parse(alloc, dag)?;
-    permissions.add(Pair::new(action, Resource::Dag(dag)).ok_or(NO_SUCH_PERMISSION)?)?;
-    Ok(Role::new(RoleName::parse(alloc, name)?, permissions))
+    role_of(alloc, name, action, Resource::Dag(dag))
 }
 
 /// The role of this name with one action on a whole kind.
 pub fn role_over(alloc: Global, name: &str, kind: ResourceKind) -> Result<Role, Fail> {
-    let mut permissions = Permissions::new(alloc);
-    permissions.add(Pair::new(Action::Read, Resource::Kind(kind)).ok_or(NO_SUCH_PERMISSION)?)?;
+    role_of(alloc, name, Action::Read, Resource::Kind(kind))
+}
+
+fn role_of(alloc: Global, name: &str, action: Action, resource: Resource) -> Result<Role, Fail> {
+    let permissions = permissions_of(alloc, action, resource)?;
     Ok(Role::new(RoleName::parse(alloc, name)?, permissions))
+}
+
+fn permissions_of(alloc: Global, action: Action, resource: Resource) -> Result<Permissions, Fail> {
+    let mut permissions = Permissions::new(alloc);
+    add_permission(&mut permissions, action, resource)?;
+    Ok(permissions)
+}
+
+fn add_permission(
+    permissions: &mut Permissions,
+    action: Action,
+    resource: Resource,
+) -> Result<(), Fail> {
+    match Pair::new(action, resource) {
+        Some(pair) => Ok(permissions.add(pair)?),
+        None => Err(Fail::new(NO_SUCH_PERMISSION)),
+    }
 }
 
 /// Names of roles.
 pub fn names(alloc: Global, texts: &[&str]) -> Result<Vec<RoleName>, Fail> {
     let mut names = Vec::new(alloc);
     for text in texts {
-        names.push(RoleName::parse(alloc, text)?)?;
+        add_name(alloc, &mut names, text)?;
     }
     Ok(names)
+}
+
+fn add_name(alloc: Global, names: &mut Vec<RoleName>, text: &str) -> Result<(), Fail> {
+    let name = RoleName::parse(alloc, text)?;
+    Ok(names.push(name)?)
 }
 
 /// The user of this name, this token and these roles.
@@ -102,14 +126,65 @@ pub fn user(alloc: Global, name: &str, token: &str, roles: &[&str]) -> Result<Us
     Ok(User::new(name, digest_of(token), names(alloc, roles)?))
 }
 
-/// vera is a Viewer, bob reads the DAG b, adam is the one Admin, pat has no permission, edna is a Viewer who edits b.
-pub fn policy(alloc: Global) -> Result<Policy, Fail> {
+/// Who there is.
+#[derive(Clone, Copy)]
+pub enum Members {
+    /// vera is a Viewer, bob reads the DAG b, adam is the one Admin, pat has no permission, edna is a Viewer who edits b.
+    Five,
+    /// adam, the one Admin, and so many roles beside the default ones.
+    Roles(u32),
+    /// adam, the one Admin, and so many users beside him.
+    Users(u32),
+}
+
+/// The policy of these members.
+pub fn policy_of(alloc: Global, members: Members) -> Result<Policy, Fail> {
     let mut draft = PolicyDraft::new(alloc)?;
-    for (name, action) in ROLES {
-        draft.add_role(role_on(alloc, name, *action, B)?)?;
-    }
-    for (name, token, roles) in USERS {
-        draft.add_user(alloc, user(alloc, name, token, roles)?)?;
-    }
+    add_members(alloc, &mut draft, members)?;
     Ok(draft.finish(alloc)?)
+}
+
+/// The policy of the five.
+pub fn policy(alloc: Global) -> Result<Policy, Fail> {
+    policy_of(alloc, Members::Five)
+}
+
+fn add_members(alloc: Global, draft: &mut PolicyDraft, members: Members) -> Result<(), Fail> {
+    match members {
+        Members::Five => add_five(alloc, draft),
+        Members::Roles(count) => crowd(alloc, draft, count),
+        Members::Users(count) => people(alloc, draft, count),
+    }
+}
+
+fn add_five(alloc: Global, draft: &mut PolicyDraft) -> Result<(), Fail> {
+    add_roles(alloc, draft)?;
+    add_users(alloc, draft)
+}
+
+fn add_roles(alloc: Global, draft: &mut PolicyDraft) -> Result<(), Fail> {
+    for (name, action) in ROLES {
+        let role = role_on(alloc, name, *action, B)?;
+        draft.add_role(role)?;
+    }
+    Ok(())
+}
+
+fn add_users(alloc: Global, draft: &mut PolicyDraft) -> Result<(), Fail> {
+    for (name, token, roles) in USERS {
+        add_user(alloc, draft, name, token, roles)?;
+    }
+    Ok(())
+}
+
+/// Adds the user of this name, this token and these roles.
+pub fn add_user(
+    alloc: Global,
+    draft: &mut PolicyDraft,
+    name: &str,
+    token: &str,
+    roles: &[&str],
+) -> Result<(), Fail> {
+    let user = user(alloc, name, token, roles)?;
+    Ok(draft.add_user(alloc, user)?)
 }

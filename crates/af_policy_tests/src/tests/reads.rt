@@ -1,103 +1,92 @@
 //! Who is told what of a policy: one's own permissions, roles and users, or why not.
-use crate::tests::asserts::holds;
+mod rows;
+
+use crate::tests::asserts::{all_hold, holds};
 use crate::tests::openings::policy;
 use crate::tests::steps::{Step, change_of};
 use crate::tests::words::{
-    ABSENT, ADAMS, BAD, BLANK, BOB, BOB_CHANGED, BOB_SELF, BOBS, CLOSE, COLON, COMMA, DENIED, EDNA,
-    EDNA_SELF, EDNA_SHOWN, EDNAS, FIRST_USER, LAST_ROLE, NO_SUCH_ANSWER, NO_SUCH_ROLE,
-    NO_SUCH_USER, NO_USER, NOBODY, ONLY_B, ONLY_B_SHOWN, OPEN, PAT_SELF, PATS, PUBLIC,
-    PUBLIC_SHOWN, SEMICOLON, STRANGERS, THIRD_TO_FIFTH, TWO_ROLES, UNAUTHENTICATED, VERAS,
+    ADAMS, BAD, BLANK, BOB, BOB_CHANGED, BOBS, CLOSE, COLON, COMMA, DENIED, NO_SUCH_ANSWER,
+    NO_SUCH_ROLE, NO_SUCH_USER, ONLY_B, OPEN, PUBLIC, SEMICOLON, UNAUTHENTICATED,
 };
 use af_names::{RoleName, UserName};
 use af_policy::{
     Ask, BadInput, Me, MeFault, Page, Parameter, PolicyRead, PolicyReply, ReadFault, ReadKind,
     RoleShown, Span, UserShown, Versions,
 };
-use af_role::Permissions;
-use std::alloc::Global;
+use af_role::{Pair, Permissions};
+use rows::{Asked, READS, SELVES};
+use std::alloc::{AllocError, Global};
 use std::test::Fail;
 
-/// What is asked for.
-#[derive(Clone, Copy)]
-enum Asked {
-    /// Roles: a limit and an offset.
-    Roles(u32, u32),
-    Role(&'static str),
-    /// Users: a limit and an offset.
-    Users(u32, u32),
-    User(&'static str),
-    /// Roles, with a limit that is none.
-    BadRoles,
-}
-
-/// A token, what its bearer asks for, and what is told: names, roles of a user in parentheses, how many there are in all.
-const READS: &[(&str, Asked, &str)] = &[
-    (STRANGERS, Asked::BadRoles, UNAUTHENTICATED),
-    (VERAS, Asked::BadRoles, DENIED),
-    (VERAS, Asked::Role(ABSENT), DENIED),
-    (EDNAS, Asked::User(NOBODY), DENIED),
-    (ADAMS, Asked::BadRoles, BAD),
-    (ADAMS, Asked::Role(ABSENT), NO_SUCH_ROLE),
-    (ADAMS, Asked::User(NOBODY), NO_SUCH_USER),
-    (ADAMS, Asked::Role(ONLY_B), ONLY_B_SHOWN),
-    (ADAMS, Asked::Role(PUBLIC), PUBLIC_SHOWN),
-    (ADAMS, Asked::User(EDNA), EDNA_SHOWN),
-    (ADAMS, Asked::Users(1, 0), FIRST_USER),
-    (ADAMS, Asked::Users(100, 2), THIRD_TO_FIFTH),
-    (ADAMS, Asked::Users(0, 0), NO_USER),
-    (ADAMS, Asked::Users(100, 5), NO_USER),
-    (ADAMS, Asked::Users(4294967295, 4294967295), NO_USER),
-    (ADAMS, Asked::Roles(2, 1), TWO_ROLES),
-    (ADAMS, Asked::Roles(100, 6), LAST_ROLE),
-];
-
-/// A token, and who its bearer is: the user with the roles, and the permissions.
-const SELVES: &[(&str, &str)] = &[
-    (STRANGERS, UNAUTHENTICATED),
-    (BOBS, BOB_SELF),
-    (PATS, PAT_SELF),
-    (EDNAS, EDNA_SELF),
-];
-
 fn read_of(alloc: Global, asked: Asked) -> Result<PolicyRead, Fail> {
-    Ok(match asked {
-        Asked::Roles(limit, offset) => PolicyRead::Roles(Span { limit, offset }),
-        Asked::Role(name) => PolicyRead::Role(RoleName::parse(alloc, name)?),
-        Asked::Users(limit, offset) => PolicyRead::Users(Span { limit, offset }),
-        Asked::User(name) => PolicyRead::User(UserName::parse(alloc, name)?),
-        Asked::BadRoles => PolicyRead::Bad(ReadKind::Roles, BadInput::Parameter(Parameter::Limit)),
-    })
+    match asked {
+        Asked::Role(name) => read_of_role(alloc, name),
+        Asked::User(name) => read_of_user(alloc, name),
+        Asked::Roles(limit, offset) => Ok(PolicyRead::Roles(Span { limit, offset })),
+        Asked::Users(limit, offset) => Ok(PolicyRead::Users(Span { limit, offset })),
+        Asked::BadRoles => Ok(BAD_ROLES),
+    }
 }
 
-fn permissions(alloc: Global, text: &mut String, permissions: &Permissions) -> Result<(), Fail> {
+const BAD_ROLES: PolicyRead = PolicyRead::Bad(
+    ReadKind::Roles,
+    BadInput::Parameter(Parameter::Limit),
+);
+
+fn read_of_role(alloc: Global, name: &str) -> Result<PolicyRead, Fail> {
+    Ok(PolicyRead::Role(RoleName::parse(alloc, name)?))
+}
+
+fn read_of_user(alloc: Global, name: &str) -> Result<PolicyRead, Fail> {
+    Ok(PolicyRead::User(UserName::parse(alloc, name)?))
+}
+
+/// Adds a text and what ends it.
+fn add(text: &mut String, item: &str, end: &str) -> Result<(), AllocError> {
+    text.push_str(item)?;
+    text.push_str(end)
+}
+
+/// Adds permissions, each with a comma.
+pub fn add_permissions(
+    alloc: Global,
+    text: &mut String,
+    permissions: &Permissions,
+) -> Result<(), AllocError> {
     for pair in permissions.iter() {
-        text.push_str(format!(in alloc; "{pair},")?.as_str())?;
+        add_pair(alloc, text, pair)?;
     }
     Ok(())
 }
 
-fn user(text: &mut String, user: &UserShown<'_>) -> Result<(), Fail> {
-    text.push_str(user.name().as_str())?;
-    text.push_str(OPEN)?;
+fn add_pair(alloc: Global, text: &mut String, pair: &Pair) -> Result<(), AllocError> {
+    let shown = format!(in alloc; "{pair},")?;
+    text.push_str(shown.as_str())
+}
+
+fn user(text: &mut String, user: &UserShown<'_>) -> Result<(), AllocError> {
+    add(text, user.name().as_str(), OPEN)?;
+    roles_of(text, user)?;
+    text.push_str(CLOSE)
+}
+
+fn roles_of(text: &mut String, user: &UserShown<'_>) -> Result<(), AllocError> {
     for role in user.roles() {
-        text.push_str(role.as_str())?;
-        text.push_str(COMMA)?;
+        add(text, role.as_str(), COMMA)?;
     }
-    text.push_str(CLOSE)?;
     Ok(())
 }
 
-fn users(text: &mut String, page: &Page<UserShown<'_>>) -> Result<usize, Fail> {
+fn users(text: &mut String, page: &Page<UserShown<'_>>) -> Result<usize, AllocError> {
     for row in page.rows() {
         user(text, row)?;
     }
     Ok(page.total())
 }
 
-fn roles(text: &mut String, page: &Page<RoleShown<'_>>) -> Result<usize, Fail> {
+fn roles(text: &mut String, page: &Page<RoleShown<'_>>) -> Result<usize, AllocError> {
     for row in page.rows() {
-        text.push_str(row.name().as_str())?;
-        text.push_str(SEMICOLON)?;
+        add(text, row.name().as_str(), SEMICOLON)?;
     }
     Ok(page.total())
 }
@@ -114,15 +103,32 @@ fn word(fault: ReadFault) -> &'static str {
 }
 
 /// Adds how many there are in all.
-fn add_total(alloc: Global, text: &mut String, total: usize) -> Result<(), Fail> {
-    text.push_str(format!(in alloc; " of {total}")?.as_str())?;
-    Ok(())
+fn add_total(alloc: Global, text: &mut String, total: usize) -> Result<(), AllocError> {
+    let shown = format!(in alloc; " of {total}")?;
+    text.push_str(shown.as_str())
 }
 
-fn add_role(alloc: Global, text: &mut String, role: &RoleShown<'_>) -> Result<(), Fail> {
-    text.push_str(role.name().as_str())?;
-    text.push_str(COLON)?;
-    permissions(alloc, text, role.permissions())
+fn add_role(alloc: Global, text: &mut String, role: &RoleShown<'_>) -> Result<(), AllocError> {
+    add(text, role.name().as_str(), COLON)?;
+    add_permissions(alloc, text, role.permissions())
+}
+
+fn add_roles(
+    alloc: Global,
+    text: &mut String,
+    page: &Page<RoleShown<'_>>,
+) -> Result<(), AllocError> {
+    let total = roles(text, page)?;
+    add_total(alloc, text, total)
+}
+
+fn add_users(
+    alloc: Global,
+    text: &mut String,
+    page: &Page<UserShown<'_>>,
+) -> Result<(), AllocError> {
+    let total = users(text, page)?;
+    add_total(alloc, text, total)
 }
 
 /// Adds what is told.
@@ -130,42 +136,42 @@ fn add_told(
     alloc: Global,
     text: &mut String,
     told: &Result<PolicyReply<'_>, ReadFault>,
-) -> Result<(), Fail> {
+) -> Result<(), AllocError> {
     match told {
-        Ok(PolicyReply::Roles(page)) => {
-            let total = roles(text, page)?;
-            add_total(alloc, text, total)
-        }
-        Ok(PolicyReply::Users(page)) => {
-            let total = users(text, page)?;
-            add_total(alloc, text, total)
-        }
+        Ok(PolicyReply::Roles(page)) => add_roles(alloc, text, page),
+        Ok(PolicyReply::Users(page)) => add_users(alloc, text, page),
         Ok(PolicyReply::Role(role)) => add_role(alloc, text, role),
         Ok(PolicyReply::User(row)) => user(text, row),
-        Err(fault) => Ok(text.push_str(word(*fault))?),
+        Err(fault) => text.push_str(word(*fault)),
     }
 }
 
-fn text_of(alloc: Global, told: &Result<PolicyReply<'_>, ReadFault>) -> Result<String, Fail> {
+fn text_of(alloc: Global, told: &Result<PolicyReply<'_>, ReadFault>) -> Result<String, AllocError> {
     let mut text = String::new(alloc);
     add_told(alloc, &mut text, told)?;
     Ok(text)
 }
 
 /// Adds who one is told to be.
-fn add_self(alloc: Global, text: &mut String, told: &Result<Me<'_>, MeFault>) -> Result<(), Fail> {
+fn add_self(
+    alloc: Global,
+    text: &mut String,
+    told: &Result<Me<'_>, MeFault>,
+) -> Result<(), AllocError> {
     match told {
-        Ok(me) => {
-            user(text, &me.user)?;
-            text.push_str(BLANK)?;
-            permissions(alloc, text, &me.permissions)
-        }
-        Err(MeFault::Unauthenticated) => Ok(text.push_str(UNAUTHENTICATED)?),
-        Err(_) => Ok(text.push_str(NO_SUCH_ANSWER)?),
+        Ok(me) => add_me(alloc, text, me),
+        Err(MeFault::Unauthenticated) => text.push_str(UNAUTHENTICATED),
+        Err(_) => text.push_str(NO_SUCH_ANSWER),
     }
 }
 
-fn self_of(alloc: Global, told: &Result<Me<'_>, MeFault>) -> Result<String, Fail> {
+fn add_me(alloc: Global, text: &mut String, me: &Me<'_>) -> Result<(), AllocError> {
+    user(text, &me.user)?;
+    text.push_str(BLANK)?;
+    add_permissions(alloc, text, &me.permissions)
+}
+
+fn self_of(alloc: Global, told: &Result<Me<'_>, MeFault>) -> Result<String, AllocError> {
     let mut text = String::new(alloc);
     add_self(alloc, &mut text, told)?;
     Ok(text)
@@ -176,17 +182,18 @@ fn told(
     alloc: Global,
     versions: &Versions,
     token: &str,
-    asked: Asked,
-) -> Result<(u32, String), Fail> {
-    let read = read_of(alloc, asked)?;
-    let told = versions.read(alloc, Some(token.as_bytes()), &read);
-    Ok((told.version, text_of(alloc, &told.answer)?))
+    read: &PolicyRead,
+) -> Result<(u32, String), AllocError> {
+    let told = versions.read(alloc, Some(token.as_bytes()), read);
+    let text = text_of(alloc, &told.answer)?;
+    Ok((told.version, text))
 }
 
 /// Who is told to be the bearer of a token, and under which version.
-fn told_self(alloc: Global, versions: &Versions, token: &str) -> Result<(u32, String), Fail> {
+fn told_self(alloc: Global, versions: &Versions, token: &str) -> Result<(u32, String), AllocError> {
     let told = versions.me(alloc, Some(token.as_bytes()));
-    Ok((told.version, self_of(alloc, &told.answer)?))
+    let text = self_of(alloc, &told.answer)?;
+    Ok((told.version, text))
 }
 
 /// Whether this is told to the bearer of a token, under the first version.
@@ -197,7 +204,8 @@ fn is_told(
     asked: Asked,
     wanted: &str,
 ) -> Result<bool, Fail> {
-    let (version, text) = told(alloc, versions, token, asked)?;
+    let read = read_of(alloc, asked)?;
+    let (version, text) = told(alloc, versions, token, &read)?;
     Ok(version == 0 && text.as_str() == wanted)
 }
 
@@ -217,42 +225,64 @@ fn opened(alloc: Global) -> Result<Versions, Fail> {
     Ok(Versions::open(alloc, policy(alloc)?, 2))
 }
 
+/// The number of the first reading that is told otherwise.
+fn first_read(alloc: Global, versions: &Versions) -> Result<Option<usize>, Fail> {
+    for (number, (token, asked, wanted)) in READS.iter().enumerate() {
+        if !is_told(alloc, versions, token, *asked, wanted)? {
+            return Ok(Some(number));
+        }
+    }
+    Ok(None)
+}
+
+/// The number of the first who is told to be another.
+fn first_self(alloc: Global, versions: &Versions) -> Result<Option<usize>, Fail> {
+    for (number, (token, wanted)) in SELVES.iter().enumerate() {
+        if !is_told_self(alloc, versions, token, (0, *wanted))? {
+            return Ok(Some(number));
+        }
+    }
+    Ok(None)
+}
+
+/// Both on the versions of the policy of the five.
+fn first_others(alloc: Global) -> Result<(Option<usize>, Option<usize>), Fail> {
+    let versions = opened(alloc)?;
+    let read = first_read(alloc, &versions)?;
+    Ok((read, first_self(alloc, &versions)?))
+}
+
 #[test]
 fn reads_are_told_or_refused_in_order(rt: HostRuntime) -> Result<(), Fail> {
-    let versions = opened(rt.alloc())?;
-    for (token, asked, wanted) in READS {
-        let is_told = is_told(rt.alloc(), &versions, token, *asked, wanted)?;
-        holds(&rt, is_told, token);
-    }
+    let (read, one_self) = first_others(rt.alloc())?;
+    all_hold(&rt, read, "reads");
+    all_hold(&rt, one_self, "who one is");
     Ok(())
-}
-
-#[test]
-fn each_is_told_who_it_is(rt: HostRuntime) -> Result<(), Fail> {
-    let versions = opened(rt.alloc())?;
-    for (token, wanted) in SELVES {
-        let is_told = is_told_self(rt.alloc(), &versions, token, (0, *wanted))?;
-        holds(&rt, is_told, token);
-    }
-    Ok(())
-}
-
-/// The versions where bob has a further role, and one twice.
-fn changed(alloc: Global) -> Result<Versions, Fail> {
-    let mut versions = opened(alloc)?;
-    let ask = Ask::Made(change_of(alloc, Step::SetRoles(BOB, MORE_ROLES))?);
-    match versions.submit(alloc, Some(ADAMS.as_bytes()), &ask) {
-        Ok(_) => Ok(versions),
-        Err(_) => Err(Fail::new("an Admin may not change a user")),
-    }
 }
 
 const MORE_ROLES: &[&str] = &[PUBLIC, ONLY_B, ONLY_B];
 
+/// Has bob get a further role, and one twice: whether that is made.
+fn change(alloc: Global, versions: &mut Versions) -> Result<bool, Fail> {
+    let ask = Ask::Made(change_of(alloc, Step::SetRoles(BOB, MORE_ROLES))?);
+    let made = versions.submit(alloc, Some(ADAMS.as_bytes()), &ask);
+    Ok(made.is_ok())
+}
+
+/// Whether that is made, and then bob is told it under the next version.
+fn is_changed(alloc: Global) -> Result<(bool, bool), Fail> {
+    let mut versions = opened(alloc)?;
+    let is_made = change(alloc, &mut versions)?;
+    Ok((
+        is_made,
+        is_told_self(alloc, &versions, BOBS, (1, BOB_CHANGED))?,
+    ))
+}
+
 #[test]
 fn a_changed_user_is_told_under_the_next_version(rt: HostRuntime) -> Result<(), Fail> {
-    let versions = changed(rt.alloc())?;
-    let is_told = is_told_self(rt.alloc(), &versions, BOBS, (1, BOB_CHANGED))?;
+    let (is_made, is_told) = is_changed(rt.alloc())?;
+    holds(&rt, is_made, "an Admin may change a user");
     holds(&rt, is_told, "bob");
     Ok(())
 }

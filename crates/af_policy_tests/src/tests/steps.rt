@@ -6,7 +6,7 @@ use crate::tests::words::{
 use af_names::{DagId, RoleName, UserName};
 use af_policy::{Change, ChangeFault, DagAccess, Policy, RoleInput, RoleNames, UserPatch};
 use af_role::{AccessControl, AccessRow, PairText, PairTexts, Text, Texts};
-use std::alloc::Global;
+use std::alloc::{AllocError, Global};
 use std::test::Fail;
 
 /// A change of a policy.
@@ -42,12 +42,23 @@ fn role(alloc: Global, name: &str, pairs: &[(&str, &str)]) -> Result<RoleInput, 
     Ok(RoleInput { name, actions })
 }
 
-fn pair_texts(alloc: Global, pairs: &[(&str, &str)]) -> Result<PairTexts, Fail> {
+/// Texts of actions and resources.
+pub fn pair_texts(alloc: Global, pairs: &[(&str, &str)]) -> Result<PairTexts, Fail> {
     let mut items = Vec::new(alloc);
     for (action, resource) in pairs {
-        items.push(pair_text(alloc, action, resource)?)?;
+        add_pair(alloc, &mut items, action, resource)?;
     }
     Ok(PairTexts::of(items))
+}
+
+fn add_pair(
+    alloc: Global,
+    items: &mut Vec<PairText>,
+    action: &str,
+    resource: &str,
+) -> Result<(), Fail> {
+    let item = pair_text(alloc, action, resource)?;
+    Ok(items.push(item)?)
 }
 
 fn pair_text(alloc: Global, action: &str, resource: &str) -> Result<PairText, Fail> {
@@ -86,12 +97,23 @@ fn maybe_names(alloc: Global, roles: Option<&[&str]>) -> Result<Option<RoleNames
     }
 }
 
-fn access(alloc: Global, rows: &[(&str, &[&str])]) -> Result<AccessControl, Fail> {
+/// The access control of these rows: roles, and their actions.
+pub fn access(alloc: Global, rows: &[(&str, &[&str])]) -> Result<AccessControl, Fail> {
     let mut access = Vec::new(alloc);
     for (role, actions) in rows {
-        access.push(access_row(alloc, role, actions)?)?;
+        add_access(alloc, &mut access, role, actions)?;
     }
     Ok(AccessControl::new(access))
+}
+
+fn add_access(
+    alloc: Global,
+    access: &mut Vec<AccessRow>,
+    role: &str,
+    actions: &[&str],
+) -> Result<(), Fail> {
+    let row = access_row(alloc, role, actions)?;
+    Ok(access.push(row)?)
 }
 
 fn access_row(alloc: Global, role: &str, actions: &[&str]) -> Result<AccessRow, Fail> {
@@ -103,9 +125,14 @@ fn access_row(alloc: Global, role: &str, actions: &[&str]) -> Result<AccessRow, 
 fn texts(alloc: Global, items: &[&str]) -> Result<Texts, Fail> {
     let mut texts = Vec::new(alloc);
     for item in items {
-        texts.push(text(alloc, item)?)?;
+        add_text(alloc, &mut texts, item)?;
     }
     Ok(Texts::of(texts))
+}
+
+fn add_text(alloc: Global, texts: &mut Vec<Text>, item: &str) -> Result<(), Fail> {
+    let text = text(alloc, item)?;
+    Ok(texts.push(text)?)
 }
 
 fn sync(alloc: Global, access: Option<AccessControl>) -> Result<Change, Fail> {
@@ -138,20 +165,23 @@ fn change_of_user(alloc: Global, step: Step) -> Result<Change, Fail> {
 }
 
 /// A fault as it is told, with the text that it names.
-pub fn told(alloc: Global, fault: &ChangeFault) -> Result<String, Fail> {
-    Ok(match fault {
-        ChangeFault::BadAction(text) => {
-            let text = text.as_str();
-            format!(in alloc; "bad action: {text}")?
-        }
-        ChangeFault::PairNotAllowed(pair) => {
-            let action = pair.action.as_str();
-            let resource = pair.resource.as_str();
-            format!(in alloc; "not allowed: {resource}.{action}")?
-        }
-        ChangeFault::UnknownRole(name) => format!(in alloc; "unknown role: {name}")?,
-        _ => String::from_str(alloc, word(fault))?,
-    })
+pub fn told(alloc: Global, fault: &ChangeFault) -> Result<String, AllocError> {
+    match fault {
+        ChangeFault::BadAction(text) => told_of_action(alloc, text.as_str()),
+        ChangeFault::PairNotAllowed(pair) => told_of_pair(alloc, pair),
+        ChangeFault::UnknownRole(name) => format!(in alloc; "unknown role: {name}"),
+        _ => String::from_str(alloc, word(fault)),
+    }
+}
+
+fn told_of_action(alloc: Global, action: &str) -> Result<String, AllocError> {
+    format!(in alloc; "bad action: {action}")
+}
+
+fn told_of_pair(alloc: Global, pair: &PairText) -> Result<String, AllocError> {
+    let action = pair.action.as_str();
+    let resource = pair.resource.as_str();
+    format!(in alloc; "not allowed: {resource}.{action}")
 }
 
 /// A fault that names no text.
@@ -169,11 +199,34 @@ fn word(fault: &ChangeFault) -> &'static str {
     }
 }
 
-/// What is told of a step, and the policy that it leaves.
-pub fn after(alloc: Global, before: &Policy, step: Step) -> Result<(Policy, String), Fail> {
-    let change = change_of(alloc, step)?.copy(alloc)?;
-    match before.changed(alloc, &change) {
-        Ok(later) => Ok((later, String::from_str(alloc, DONE)?)),
-        Err(fault) => Ok((before.copy()?, told(alloc, &fault)?)),
+/// A copy of the change of a step.
+fn copied(alloc: Global, step: Step) -> Result<Change, Fail> {
+    let change = change_of(alloc, step)?;
+    Ok(change.copy(alloc)?)
+}
+
+/// What is told of a change, and the policy that it leaves in place of the one before.
+fn change_by(alloc: Global, policy: &mut Policy, change: &Change) -> Result<String, AllocError> {
+    match policy.changed(alloc, change) {
+        Ok(later) => put(alloc, policy, later),
+        Err(fault) => keep(alloc, policy, &fault),
     }
+}
+
+/// What is told of a change that is made, and the policy that it leaves in place of the one before.
+fn put(alloc: Global, policy: &mut Policy, later: Policy) -> Result<String, AllocError> {
+    *policy = later;
+    String::from_str(alloc, DONE)
+}
+
+/// What is told of a fault, and a copy of the policy in its place.
+fn keep(alloc: Global, policy: &mut Policy, fault: &ChangeFault) -> Result<String, AllocError> {
+    *policy = policy.copy()?;
+    told(alloc, fault)
+}
+
+/// Makes the change of a step of a policy: what is told of it.
+pub fn take(alloc: Global, policy: &mut Policy, step: Step) -> Result<String, Fail> {
+    let change = copied(alloc, step)?;
+    Ok(change_by(alloc, policy, &change)?)
 }

@@ -1,7 +1,7 @@
 //! The access control of the DAG b taken over again and again: what is told, and who then has what.
-use crate::tests::asserts::{holds, row_holds};
+use crate::tests::asserts::{all_hold, holds};
 use crate::tests::openings::policy;
-use crate::tests::steps::{Step, after};
+use crate::tests::steps::{Step, take};
 use crate::tests::words::{
     A, ABSENT, ADAM, ADMIN, B, BAD_CREATE, BAD_FLY, BOB, CAN_CREATE, CAN_DELETE, CAN_EDIT,
     CAN_READ, DAG_A, DAG_B, DONE, FLY, ONLY_B, PAT, POOLS, PUBLIC, SEA, SINK, SKY, UNKNOWN_ABSENT,
@@ -103,60 +103,56 @@ fn of_two(alloc: Global, policy: &Policy) -> Result<(bool, bool, bool), Fail> {
     Ok((reads, edits, has(alloc, policy, PAT, Action::Read)?))
 }
 
-/// Makes the change of a row: whether this is told of it, and these have what the row says.
-fn is_synced(alloc: Global, left: &mut Policy, row: Synced) -> Result<bool, Fail> {
-    let (step, wanted, reads, edits, public) = row;
-    let (later, told) = after(alloc, left, step)?;
-    *left = later;
-    let found = of_two(alloc, left)?;
-    Ok(told.as_str() == wanted && found == (reads, edits, public))
-}
-
-#[test]
-fn a_sync_lists_what_it_is_given_alone(rt: HostRuntime) -> Result<(), Fail> {
-    let mut left = policy(rt.alloc())?;
-    for (number, row) in SYNCS.iter().enumerate() {
-        let is_synced = is_synced(rt.alloc(), &mut left, *row)?;
-        row_holds(&rt, is_synced, number);
-    }
-    Ok(())
-}
-
-/// Whether vera, a Viewer, reads the DAG b, and adam, an Admin, deletes it.
-fn of_all_dags(alloc: Global, policy: &Policy) -> Result<(bool, bool), Fail> {
+/// Whether vera, a Viewer, reads the DAG b, and adam, an Admin, deletes it: they have all DAGs.
+fn have_all(alloc: Global, policy: &Policy) -> Result<bool, Fail> {
     let reads = has(alloc, policy, VERA, Action::Read)?;
-    Ok((reads, has(alloc, policy, ADAM, Action::Delete)?))
+    Ok(has(alloc, policy, ADAM, Action::Delete)? && reads)
 }
 
-/// Makes the change of a step: whether those who have all DAGs still have them.
-fn leaves_all_dags(alloc: Global, left: &mut Policy, step: Step) -> Result<bool, Fail> {
-    let (later, _) = after(alloc, left, step)?;
-    *left = later;
-    let (reads, deletes) = of_all_dags(alloc, left)?;
-    Ok(reads && deletes)
+/// Whether these have what a row says, and those who have all DAGs still have them.
+fn is_left(alloc: Global, policy: &Policy, row: Synced) -> Result<bool, Fail> {
+    let found = of_two(alloc, policy)?;
+    let have_all = have_all(alloc, policy)?;
+    Ok(have_all && found == (row.2, row.3, row.4))
+}
+
+/// Makes the change of a row: whether this is told of it, and is what it leaves.
+fn is_synced(alloc: Global, policy: &mut Policy, row: Synced) -> Result<bool, Fail> {
+    let told = take(alloc, policy, row.0)?;
+    let is_left = is_left(alloc, policy, row)?;
+    Ok(is_left && told.as_str() == row.1)
+}
+
+/// The number of the first row that does not hold.
+fn first_other(alloc: Global, policy: &mut Policy) -> Result<Option<usize>, Fail> {
+    for (number, row) in SYNCS.iter().enumerate() {
+        if !is_synced(alloc, policy, *row)? {
+            return Ok(Some(number));
+        }
+    }
+    Ok(None)
+}
+
+/// The same of the policy of the five.
+fn first_other_of_five(alloc: Global) -> Result<Option<usize>, Fail> {
+    let mut policy = policy(alloc)?;
+    first_other(alloc, &mut policy)
 }
 
 #[test]
-fn a_sync_leaves_who_has_all_dags(rt: HostRuntime) -> Result<(), Fail> {
-    let mut left = policy(rt.alloc())?;
-    for (number, (step, _, _, _, _)) in SYNCS.iter().enumerate() {
-        let leaves = leaves_all_dags(rt.alloc(), &mut left, *step)?;
-        row_holds(&rt, leaves, number);
-    }
+fn a_sync_lists_what_it_is_given_and_leaves_who_has_all_dags(rt: HostRuntime) -> Result<(), Fail> {
+    let other = first_other_of_five(rt.alloc())?;
+    all_hold(&rt, other, "syncs");
     Ok(())
 }
 
 /// Permissions on two DAGs, and on a whole kind.
 const BOTH: &[(&str, &str)] = &[(CAN_READ, DAG_A), (CAN_EDIT, DAG_B), (CAN_READ, POOLS)];
 
-/// A DAG, and whether bob reads it after b is synced.
-const LEFT: &[(&str, bool)] = &[(A, true), (B, false)];
-
-/// The policy where bob's role has these permissions, after a sync that lists none, and what is told of it.
-fn emptied(alloc: Global) -> Result<(Policy, String), Fail> {
-    let policy = policy(alloc)?;
-    let (with_both, _) = after(alloc, &policy, Step::SetRole(ONLY_B, BOTH))?;
-    after(alloc, &with_both, Step::Sync(&[]))
+/// Gives bob's role these permissions, and syncs b with a list of none: what is told of the sync.
+fn empty(alloc: Global, policy: &mut Policy) -> Result<String, Fail> {
+    let _told = take(alloc, policy, Step::SetRole(ONLY_B, BOTH))?;
+    take(alloc, policy, Step::Sync(&[]))
 }
 
 /// Whether bob reads a DAG.
@@ -166,30 +162,41 @@ fn reads(alloc: Global, policy: &Policy, dag: &str) -> Result<bool, Fail> {
     Ok(policy.view(&bob).readable(&dag))
 }
 
-#[test]
-fn a_sync_leaves_permissions_on_other_dags(rt: HostRuntime) -> Result<(), Fail> {
-    let (later, told) = emptied(rt.alloc())?;
-    holds(&rt, told.as_str() == DONE, DONE);
-    for (dag, wanted) in LEFT {
-        let found = reads(rt.alloc(), &later, dag)?;
-        holds(&rt, found == *wanted, dag);
-    }
-    Ok(())
-}
-
-/// Whether bob reads pools after b is synced.
-fn leaves_pools(alloc: Global) -> Result<bool, Fail> {
-    let (later, _) = emptied(alloc)?;
+/// Whether bob reads pools.
+fn reads_pools(alloc: Global, policy: &Policy) -> Result<bool, Fail> {
     let bob = UserName::parse(alloc, BOB)?;
-    Ok(
-        later
-            .view(&bob)
-            .holds_on_kind(Action::Read, ResourceKind::Pools),
-    )
+    let view = policy.view(&bob);
+    Ok(view.holds_on_kind(Action::Read, ResourceKind::Pools))
+}
+
+/// Whether bob reads the DAGs a and b, and pools.
+fn read_by_bob(alloc: Global, policy: &Policy) -> Result<(bool, bool, bool), Fail> {
+    let a = reads(alloc, policy, A)?;
+    let b = reads(alloc, policy, B)?;
+    Ok((a, b, reads_pools(alloc, policy)?))
+}
+
+/// Whether that sync is made, and what bob then reads of these.
+type Left = (bool, (bool, bool, bool));
+
+fn left_by(alloc: Global, policy: &mut Policy) -> Result<Left, Fail> {
+    let told = empty(alloc, policy)?;
+    let read = read_by_bob(alloc, policy)?;
+    Ok((told.as_str() == DONE, read))
+}
+
+/// The same of the policy of the five.
+fn left(alloc: Global) -> Result<Left, Fail> {
+    let mut policy = policy(alloc)?;
+    left_by(alloc, &mut policy)
 }
 
 #[test]
-fn a_sync_leaves_permissions_on_other_kinds(rt: HostRuntime) -> Result<(), Fail> {
-    holds(&rt, leaves_pools(rt.alloc())?, "pools");
+fn a_sync_leaves_permissions_on_other_dags_and_kinds(rt: HostRuntime) -> Result<(), Fail> {
+    let (is_made, (a, b, pools)) = left(rt.alloc())?;
+    holds(&rt, is_made, DONE);
+    holds(&rt, a, A);
+    holds(&rt, !b, B);
+    holds(&rt, pools, POOLS);
     Ok(())
 }

@@ -75,10 +75,13 @@ fn are_changed(less: &Table<Word>, more: &Table<Word>) -> bool {
     shown(less) == (4095, false, true, false) && shown(more) == (4096, false, true, true)
 }
 
+/// Words are put in by rising order, and by falling order.
+const ORDERS: &[bool] = &[false, true];
+
 #[test]
 fn a_change_leaves_the_older_version(rt: HostRuntime) -> Result<(), Fail> {
-    for falling in [false, true] {
-        let is_left = is_left(rt.alloc(), falling)?;
+    for falling in ORDERS {
+        let is_left = is_left(rt.alloc(), *falling)?;
         holds(&rt, is_left, "the tables");
     }
     Ok(())
@@ -94,8 +97,8 @@ fn are_listed(alloc: Global, falling: bool) -> Result<bool, AllocError> {
 
 #[test]
 fn all_words_are_listed(rt: HostRuntime) -> Result<(), Fail> {
-    for falling in [false, true] {
-        let are_listed = are_listed(rt.alloc(), falling)?;
+    for falling in ORDERS {
+        let are_listed = are_listed(rt.alloc(), *falling)?;
         holds(&rt, are_listed, "the words");
     }
     Ok(())
@@ -119,8 +122,8 @@ fn is_short(alloc: Global, falling: bool) -> Result<bool, AllocError> {
 
 #[test]
 fn a_search_is_short(rt: HostRuntime) -> Result<(), Fail> {
-    for falling in [false, true] {
-        let is_short = is_short(rt.alloc(), falling)?;
+    for falling in ORDERS {
+        let is_short = is_short(rt.alloc(), *falling)?;
         holds(&rt, is_short, "the height");
     }
     Ok(())

@@ -1,5 +1,5 @@
 //! Changes that users ask for, one after the other: which version each makes, or why it makes none.
-use crate::tests::asserts::{holds, row_holds};
+use crate::tests::asserts::{all_hold, holds};
 use crate::tests::openings::policy;
 use crate::tests::steps::{Step, change_of, told};
 use crate::tests::words::{
@@ -8,7 +8,7 @@ use crate::tests::words::{
     STRANGERS, UNAUTHENTICATED, VERA, VERAS, VERSION_1, VERSION_2, VERSION_3, VIEWER,
 };
 use af_policy::{Ask, BadInput, ChangeKind, SubmitFault, Versions};
-use std::alloc::Global;
+use std::alloc::{AllocError, Global};
 use std::test::Fail;
 
 /// What a user asks for.
@@ -20,8 +20,11 @@ enum Asked {
     Badly(ChangeKind),
 }
 
-/// A token, what its bearer asks for, and what is told; two versions are left.
-const ASKED: &[(&str, Asked, &str)] = &[
+/// A token, what its bearer asks for, and what is told.
+type Row = (&'static str, Asked, &'static str);
+
+/// Two versions are left.
+const ASKED: &[Row] = &[
     (
         STRANGERS,
         Asked::Badly(ChangeKind::AddRole),
@@ -46,11 +49,11 @@ fn ask_of(alloc: Global, asked: Asked) -> Result<Ask, Fail> {
     }
 }
 
-fn outcome(alloc: Global, outcome: &Result<u32, SubmitFault>) -> Result<String, Fail> {
+fn outcome(alloc: Global, outcome: &Result<u32, SubmitFault>) -> Result<String, AllocError> {
     match outcome {
-        Ok(version) => Ok(format!(in alloc; "version {version}")?),
+        Ok(version) => format!(in alloc; "version {version}"),
         Err(SubmitFault::Refused(fault)) => told(alloc, fault),
-        Err(fault) => Ok(String::from_str(alloc, word(fault))?),
+        Err(fault) => String::from_str(alloc, word(fault)),
     }
 }
 
@@ -74,7 +77,7 @@ fn asked_for(
 ) -> Result<String, Fail> {
     let ask = ask_of(alloc, asked)?;
     let made = versions.submit(alloc, Some(token.as_bytes()), &ask);
-    outcome(alloc, &made)
+    Ok(outcome(alloc, &made)?)
 }
 
 /// Whether this is told of what the bearer of a token asks for.
@@ -94,23 +97,56 @@ fn opened(alloc: Global, left: u32) -> Result<Versions, Fail> {
     Ok(Versions::open(alloc, policy(alloc)?, left))
 }
 
-/// The versions after all that is asked for.
-fn played(alloc: Global) -> Result<Versions, Fail> {
-    let mut versions = opened(alloc, 2)?;
-    for (token, asked, _) in ASKED {
-        asked_for(alloc, &mut versions, token, *asked)?;
+/// The number of the first row that is told otherwise.
+fn first_other(
+    alloc: Global,
+    versions: &mut Versions,
+    rows: &[Row],
+) -> Result<Option<usize>, Fail> {
+    for (number, (token, asked, wanted)) in rows.iter().enumerate() {
+        if !is_told(alloc, versions, token, *asked, wanted)? {
+            return Ok(Some(number));
+        }
     }
-    Ok(versions)
+    Ok(None)
 }
 
+/// That number where so many versions are left, and the latest version then.
+fn after(alloc: Global, left: u32, rows: &[Row]) -> Result<(Option<usize>, u32), Fail> {
+    let mut versions = opened(alloc, left)?;
+    let other = first_other(alloc, &mut versions, rows)?;
+    Ok((other, versions.current()))
+}
+
+/// One version is left more than are made; the last Admin stays.
+const ADMINS: &[Row] = &[
+    (ADAMS, Asked::For(Step::DropRole(ONLY_B)), ROLE_IN_USE),
+    (ADAMS, Asked::For(Step::SetRole(VIEWER, &[])), DEFAULT_ROLE),
+    (ADAMS, Asked::For(Step::SetRoles(EDNA, &[ADMIN])), VERSION_1),
+    (ADAMS, Asked::For(Step::DropUser(ADAM)), VERSION_2),
+    (ADAMS, Asked::For(Step::DropUser(EDNA)), UNAUTHENTICATED),
+    (EDNAS, Asked::For(Step::DropUser(EDNA)), LAST_ADMIN),
+    (EDNAS, Asked::For(Step::SetRoles(EDNA, &[OP])), LAST_ADMIN),
+    (
+        EDNAS,
+        Asked::For(Step::SetRoles(VERA, &[PUBLIC])),
+        VERSION_3,
+    ),
+];
+
+/// What the rows are of, how many versions are left before them, the rows, and the latest version after them.
+const STORIES: &[(&str, u32, &[Row], u32)] = &[
+    ("versions are made by who may make them", 2, ASKED, 2),
+    ("the last Admin stays", 4, ADMINS, 3),
+];
+
 #[test]
-fn versions_are_made_by_who_may_make_them(rt: HostRuntime) -> Result<(), Fail> {
-    let mut versions = opened(rt.alloc(), 2)?;
-    for (row, (token, asked, wanted)) in ASKED.iter().enumerate() {
-        let is_told = is_told(rt.alloc(), &mut versions, token, *asked, wanted)?;
-        row_holds(&rt, is_told, row);
+fn changes_that_are_asked_for(rt: HostRuntime) -> Result<(), Fail> {
+    for (name, left, rows, latest) in STORIES {
+        let (other, current) = after(rt.alloc(), *left, rows)?;
+        all_hold(&rt, other, name);
+        holds(&rt, current == *latest, name);
     }
-    holds(&rt, versions.current() == 2, "the latest version");
     Ok(())
 }
 
@@ -125,37 +161,27 @@ fn knows_vera(versions: &Versions, version: u32) -> Option<bool> {
     }
 }
 
-#[test]
-fn earlier_versions_stay(rt: HostRuntime) -> Result<(), Fail> {
-    let versions = played(rt.alloc())?;
-    for (row, (version, known)) in KNOWN.iter().enumerate() {
-        let found = knows_vera(&versions, *version);
-        row_holds(&rt, found == Some(*known), row);
+/// The number of the first version under which this is otherwise.
+fn first_version(versions: &Versions) -> Option<usize> {
+    for (number, (version, known)) in KNOWN.iter().enumerate() {
+        if knows_vera(versions, *version) != Some(*known) {
+            return Some(number);
+        }
     }
-    holds(&rt, versions.policy(3).is_none(), "past the latest");
-    Ok(())
+    None
 }
 
-/// Rows of the last Admin: a token, a change, and what is told, with one version left more than they make.
-const ADMINS: &[(&str, Step, &str)] = &[
-    (ADAMS, Step::DropRole(ONLY_B), ROLE_IN_USE),
-    (ADAMS, Step::SetRole(VIEWER, &[]), DEFAULT_ROLE),
-    (ADAMS, Step::SetRoles(EDNA, &[ADMIN]), VERSION_1),
-    (ADAMS, Step::DropUser(ADAM), VERSION_2),
-    (ADAMS, Step::DropUser(EDNA), UNAUTHENTICATED),
-    (EDNAS, Step::DropUser(EDNA), LAST_ADMIN),
-    (EDNAS, Step::SetRoles(EDNA, &[OP]), LAST_ADMIN),
-    (EDNAS, Step::SetRoles(VERA, &[PUBLIC]), VERSION_3),
-];
+/// That number after all that is asked for, and whether there is no version past the latest.
+fn played(alloc: Global) -> Result<(Option<usize>, bool), Fail> {
+    let mut versions = opened(alloc, 2)?;
+    let _other = first_other(alloc, &mut versions, ASKED)?;
+    Ok((first_version(&versions), versions.policy(3).is_none()))
+}
 
 #[test]
-fn the_last_admin_stays(rt: HostRuntime) -> Result<(), Fail> {
-    let mut versions = opened(rt.alloc(), 4)?;
-    for (row, (token, step, wanted)) in ADMINS.iter().enumerate() {
-        let asked = Asked::For(*step);
-        let is_told = is_told(rt.alloc(), &mut versions, token, asked, wanted)?;
-        row_holds(&rt, is_told, row);
-    }
-    holds(&rt, versions.current() == 3, "the latest version");
+fn earlier_versions_stay(rt: HostRuntime) -> Result<(), Fail> {
+    let (other, is_last) = played(rt.alloc())?;
+    all_hold(&rt, other, "versions");
+    holds(&rt, is_last, "past the latest");
     Ok(())
 }

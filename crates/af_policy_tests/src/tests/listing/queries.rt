@@ -3,7 +3,7 @@ use af_listing::Window;
 use af_policy::Parameter;
 
 /// A query, its limit, and its offset.
-const READ: [(&[u8], usize, usize); 7] = [
+const READ: &[(&[u8], usize, usize)] = &[
     (b"", 100, 0),
     (b"limit=2&offset=1", 2, 1),
     (b"offset=1&limit=2&limit=9", 2, 1),
@@ -17,25 +17,23 @@ const READ: [(&[u8], usize, usize); 7] = [
     ),
 ];
 
-/// Whether a query has this limit, and whether it has this offset.
-fn is_read(query: &[u8], limit: usize, offset: usize) -> (bool, bool) {
+/// Whether a query has this limit and this offset.
+fn is_read(query: &[u8], limit: usize, offset: usize) -> bool {
     match Window::read(query) {
-        Ok(window) => (window.limit() == limit, window.offset() == offset),
-        Err(_) => (false, false),
+        Ok(window) => window.limit() == limit && window.offset() == offset,
+        Err(_) => false,
     }
 }
 
 #[test]
 fn queries_are_read(rt: HostRuntime) {
     for (row, (query, limit, offset)) in READ.iter().enumerate() {
-        let (has_limit, has_offset) = is_read(query, *limit, *offset);
-        row_holds(&rt, has_limit, "the limit", row);
-        row_holds(&rt, has_offset, "the offset", row);
+        row_holds(&rt, is_read(query, *limit, *offset), row);
     }
 }
 
 /// A query, and the parameter that is at fault.
-const FAULTY: [(&[u8], Parameter); 9] = [
+const FAULTY: &[(&[u8], Parameter)] = &[
     (b"limit=-1", Parameter::Limit),
     (b"limit", Parameter::Limit),
     (b"limit=", Parameter::Limit),
@@ -50,7 +48,6 @@ const FAULTY: [(&[u8], Parameter); 9] = [
 #[test]
 fn faulty_parameters_are_named(rt: HostRuntime) {
     for (row, (query, parameter)) in FAULTY.iter().enumerate() {
-        let told = Window::read(query);
-        row_holds(&rt, told == Err(*parameter), "the fault", row);
+        row_holds(&rt, Window::read(query) == Err(*parameter), row);
     }
 }

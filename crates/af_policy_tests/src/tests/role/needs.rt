@@ -1,4 +1,4 @@
-use super::asserts::row_holds;
+use crate::tests::asserts::row_holds;
 use af_names::{DagId, NameError};
 use af_role::{Action, Need, ResourceKind};
 use std::alloc::Global;

@@ -90,10 +90,14 @@ fn dag_of(alloc: Global, letter: &str) -> Result<Option<DagId>, Fail> {
 fn rows_of(alloc: Global, letters: &[&str]) -> Result<Vec<Row>, Fail> {
     let mut rows = Vec::new(alloc);
     for letter in letters {
-        let dag = dag_of(alloc, letter)?;
-        rows.push(Row { dag })?;
+        add_row(alloc, &mut rows, letter)?;
     }
     Ok(rows)
+}
+
+fn add_row(alloc: Global, rows: &mut Vec<Row>, letter: &str) -> Result<(), Fail> {
+    let dag = dag_of(alloc, letter)?;
+    Ok(rows.push(Row { dag })?)
 }
 
 /// The window that a query asks for.
@@ -106,8 +110,13 @@ fn window_of(query: &[u8]) -> Result<Window, Fail> {
 
 /// The page that a query asks for, for who reads b.
 pub fn page_of(alloc: Global, letters: &[&str], query: &[u8]) -> Result<Page, Fail> {
+    let rows = rows_of(alloc, letters)?;
+    page_to_b(alloc, rows.as_slice(), query)
+}
+
+/// The page of these rows.
+fn page_to_b(alloc: Global, rows: &[Row], query: &[u8]) -> Result<Page, Fail> {
     let window = window_of(query)?;
     let reader = reader_of(alloc, "b")?;
-    let rows = rows_of(alloc, letters)?;
-    Ok(page(alloc, rows.as_slice(), &reader, window)?)
+    Ok(page(alloc, rows, &reader, window)?)
 }

@@ -1,5 +1,5 @@
-use super::asserts::holds;
 use super::listed;
+use crate::tests::asserts::holds;
 use af_role::{Action, Actions, Pair, Permissions, Resource};
 use std::alloc::{AllocError, Global};
 

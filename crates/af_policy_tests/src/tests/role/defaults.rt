@@ -1,5 +1,5 @@
-use super::asserts::holds;
 use super::listed;
+use crate::tests::asserts::{all_hold, holds};
 use af_role::{Role, default_roles};
 use std::alloc::{AllocError, Global};
 
@@ -24,25 +24,33 @@ const ROLES: &[(&str, &str)] = &[
     ),
 ];
 
-/// Whether a role has this name, and whether these are its permissions.
-fn is_role(
-    alloc: Global,
-    role: &Role,
-    name: &str,
-    permissions: &str,
-) -> Result<(bool, bool), AllocError> {
+/// Whether a role has this name, and these are its permissions.
+fn is_role(alloc: Global, role: &Role, name: &str, permissions: &str) -> Result<bool, AllocError> {
     let text = listed(alloc, role.permissions())?;
-    Ok((role.name().as_str() == name, text.as_str() == permissions))
+    Ok(role.name().as_str() == name && text.as_str() == permissions)
+}
+
+/// The number of the first role that is another.
+fn first_other(alloc: Global, roles: &[Role]) -> Result<Option<usize>, AllocError> {
+    for (number, (role, (name, permissions))) in roles.iter().zip(ROLES).enumerate() {
+        if !is_role(alloc, role, name, permissions)? {
+            return Ok(Some(number));
+        }
+    }
+    Ok(None)
+}
+
+/// How many default roles there are, and that number.
+fn told(alloc: Global) -> Result<(usize, Option<usize>), AllocError> {
+    let roles = default_roles(alloc)?;
+    let other = first_other(alloc, roles.as_slice())?;
+    Ok((roles.len(), other))
 }
 
 #[test]
 fn default_roles_list_their_permissions(rt: HostRuntime) -> Result<(), AllocError> {
-    let roles = default_roles(rt.alloc())?;
-    holds(&rt, roles.len() == 5, "five roles");
-    for (role, (name, permissions)) in roles.iter().zip(ROLES.iter()) {
-        let (is_named, is_listed) = is_role(rt.alloc(), role, name, permissions)?;
-        holds(&rt, is_named, name);
-        holds(&rt, is_listed, name);
-    }
+    let (count, other) = told(rt.alloc())?;
+    holds(&rt, count == 5, "five roles");
+    all_hold(&rt, other, "roles");
     Ok(())
 }

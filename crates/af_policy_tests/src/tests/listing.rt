@@ -1,5 +1,4 @@
 //! Pages of runs of several DAGs, for one who reads one of them, and queries as they come.
-mod asserts;
 mod pages;
 mod queries;
 mod rows;

@@ -1,7 +1,0 @@
-//! What ends a test, in functions of their own: a message with arguments is dear to prove where it stands.
-use std::process::Abort;
-
-/// Ends the test where this does not hold of a row.
-pub fn row_holds(rt: &impl Abort, holds: bool, what: &str, row: usize) {
-    assert!(rt; holds, "{what}: row {row}");
-}
