@@ -1,4 +1,4 @@
-//! What JSON texts hold, told as rows.
+//! What names and moments are, and what JSON texts hold, told as rows.
 #![tactic(auto)]
 
 #[cfg(test)]

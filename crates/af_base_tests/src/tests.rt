@@ -4,6 +4,7 @@ mod bytes;
 mod grammar;
 mod items;
 mod members;
+mod names;
 mod nesting;
 mod numbers;
 mod texts;

@@ -9,6 +9,11 @@ pub fn holds(rt: &impl Abort, holds: bool, what: &str) {
     assert!(rt; holds, "{what}");
 }
 
+/// Ends the test where a row does not hold.
+pub fn row_holds(rt: &impl Abort, holds: bool, row: usize) {
+    assert!(rt; holds, "row {row}");
+}
+
 /// Ends the test where one of these is no JSON text.
 pub fn are_json(rt: &impl Abort, alloc: Global, texts: &[&str]) -> Result<(), Fail> {
     for text in texts {

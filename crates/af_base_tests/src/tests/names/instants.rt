@@ -135,6 +135,9 @@ fn sum_of(micros: u64, seconds: u32) -> Result<(u64, Option<u64>), Fail> {
     Ok((instant.micros(), micros_of(instant.plus_seconds(seconds))))
 }
 
+/// Microseconds past the last moment.
+const PAST: &[u64] = &[253_370_764_800_000_000, u64::MAX];
+
 #[test]
 fn instants_by_number(rt: HostRuntime) -> Result<(), Fail> {
     for (place, (micros, seconds, later)) in NUMBERS.iter().enumerate() {
@@ -142,8 +145,8 @@ fn instants_by_number(rt: HostRuntime) -> Result<(), Fail> {
         row_holds(&rt, same == *micros, place);
         row_holds(&rt, sum == *later, place);
     }
-    for past in [253_370_764_800_000_000, u64::MAX] {
-        assert!(rt; Instant::of_micros(past).is_none(), "past the end");
+    for past in PAST {
+        holds(&rt, Instant::of_micros(*past).is_none(), "past the end");
     }
     Ok(())
 }

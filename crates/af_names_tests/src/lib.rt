@@ -1,5 +1,0 @@
-//! Texts and moments from outside, as rows that one loop plays.
-#![tactic(auto)]
-
-#[cfg(test)]
-mod tests;
