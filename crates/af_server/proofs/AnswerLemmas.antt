@@ -1,6 +1,6 @@
 -- What is told of a call, and what that leaves, is one function of the call, whether its body was read or not.
-use Rattle.std.proofs.Common.{◌≡◌, ◌⊎◌, ◌∙◌, inl, inr, refl, ap, subst, ℕ, List, [], Bool, true, false}
-use Rattle.std.specs.Prelude.{Option, Some, None, option_map, Result, Ok, Err, codes, ◌++◌, map, if◌then◌else◌}
+use Rattle.std.proofs.Common.{◌≡◌, ◌⊎◌, ◌∙◌, inl, inr, ap, subst, ℕ, List, [], Bool, true, false}
+use Rattle.std.specs.Prelude.{Option, Some, None, option_map, Result, Err, codes, ◌++◌, map, if◌then◌else◌}
 use Rattle.af_role.specs.Needs.{need_text}
 use Rattle.af_role.specs.Pairs.{PairRow}
 use Rattle.af_role.specs.declared.need.Need.{Need}
@@ -17,7 +17,6 @@ use Rattle.af_ops.specs.declared.answer.OpFault.{OpFault}
 use Rattle.af_ops.specs.declared.answer.OpFault.TheVariants.{OutOfMemory}
 use Rattle.af_ops.specs.declared.endpoint.Endpoint.{Endpoint}
 use Rattle.af_ops.specs.declared.op.Op.{Op}
-use Rattle.af_ops.specs.declared.op.Op.TheVariants as op
 use Rattle.af_ops.specs.declared.policy_op.PolicyOp.{PolicyOp}
 use Rattle.af_ops.specs.declared.policy_op.PolicyOp.TheVariants as asks
 use Rattle.af_ops.specs.declared.shown_answer.Shown.{Shown}
@@ -32,7 +31,7 @@ use Rattle.af_ops.specs.Required.{at_named}
 use Rattle.af_ops.specs.Served.{answer_of, problem_told}
 use Rattle.af_ops.specs.Table as table
 use Rattle.af_ops.specs.Table.{is_open}
-use Rattle.af_ops.specs.Verdicts.{Verdict, Lacks, dag_ids, done, judged, opened, permitted}
+use Rattle.af_ops.specs.Verdicts.{Verdict, dag_ids, done, judged, opened, permitted}
 use Rattle.af_ops.proofs.UnreadLemmas.{IsUnread, WantsMemory, unread_is}
 use Rattle.af_audit.specs.Answered.{ledger_left, standing_of, verdict_on}
 use Rattle.af_audit.specs.Ledgers.{LedgerRows}

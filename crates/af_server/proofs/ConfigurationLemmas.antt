@@ -1,6 +1,6 @@
 -- What is told of a configuration before any memory is wanted.
-use Rattle.std.proofs.Common.{◌≡◌, ◌∙◌, refl, sym, ap, ℕ, List, [], ◌∷◌, Bool, true, false, Option, Some, None, Result, Ok, Err, is_some}
-use Rattle.std.specs.Prelude.{codes, ok_or, option_and_then, unwrap_or, if◌then◌else◌, ⊤}
+use Rattle.std.proofs.Common.{◌≡◌, ◌∙◌, ap, List, [], ◌∷◌, Bool, true, false, Option, Some, None, Result, Ok, Err, is_some}
+use Rattle.std.specs.Prelude.{codes, ok_or, option_and_then, unwrap_or, if◌then◌else◌}
 use Rattle.serde_json.specs.Data.{Data}
 use Rattle.serde_json.specs.Find.{as_object}
 use Rattle.af_base.specs.Members.{as_list}

@@ -1,7 +1,6 @@
 -- What a desk keeps over a connection.
-use Rattle.std.proofs.Common.{◌≡◌, ◌∙◌, ◌⊎◌, inl, inr, ap, subst, refl, arith, ℕ, ◌≤◌, List, [], ◌∷◌, length, Bool, true, false}
+use Rattle.std.proofs.Common.{◌≡◌, ◌∙◌, inl, inr, ap, subst, refl, arith, ℕ, ◌≤◌, List, [], ◌∷◌, length, Bool, true, false}
 use Rattle.std.specs.Prelude.{Option, Some, None, if◌then◌else◌}
-use Rattle.af_policy.specs.Versions.{VersionRows}
 use Rattle.af_sched.specs.State.{StateRows}
 use Rattle.af_ops.specs.declared.call.Call.{Call}
 use Rattle.af_ops.specs.declared.call.Call.TheVariants as call
@@ -22,7 +21,7 @@ use Rattle.af_http.specs.declared.reply.Reply.{Reply}
 use Rattle.af_http.specs.declared.reply.Reply.TheVariants as reply
 use Rattle.af_server.specs.Configurations.{ConfigurationRows}
 use Rattle.af_plane.specs.Solos.{IsDecided, IsSolo, SoloRows, ledger_for, looked}
-use Rattle.af_server.specs.Desks.{Decides, DeskRows, IsKept, first_policy, opened}
+use Rattle.af_server.specs.Desks.{Decides, DeskRows, IsKept, opened}
 use Rattle.af_server.specs.Once.{Converses, Serves}
 use Rattle.af_server.proofs.VersionLemmas.{IsOfVersions, policy_served, same_versions}
 use Rattle.af_server.proofs.WorldRunLemmas.{run_from}

@@ -1,14 +1,12 @@
 -- A desk answers in one way.
 use Rattle.std.proofs.Common.{◌≡◌, ◌∙◌, inl, inr, refl, sym, ap, subst, ℕ, List}
-use Rattle.std.specs.Prelude.{Option, Some, None, option_map, if◌then◌else◌}
-use Rattle.af_listing.specs.Windows.{Cut}
+use Rattle.std.specs.Prelude.{Option, Some, option_map, if◌then◌else◌}
 use Rattle.af_policy.specs.Identity.{bearer_of}
 use Rattle.af_policy.specs.Versions.{VersionRows}
 use Rattle.af_ops.specs.declared.call.Call.{Call}
 use Rattle.af_ops.specs.declared.call.Call.TheVariants as call
 use Rattle.af_ops.specs.declared.endpoint.Endpoint.{Endpoint}
 use Rattle.af_ops.specs.declared.op.Op.{Op}
-use Rattle.af_ops.specs.declared.op.Op.TheVariants as op
 use Rattle.af_ops.specs.declared.served.Served.TheVariants as served
 use Rattle.af_ops.specs.declared.shown_answer.Shown.{Shown}
 use Rattle.af_ops.specs.Calls.{IsRead, unread}
@@ -22,7 +20,7 @@ use Rattle.af_audit.specs.EventLogs.{entries_verdict, nameless}
 use Rattle.af_audit.specs.Ledgers.{LedgerRows}
 use Rattle.af_audit.proofs.RequestLemmas.{leave_one}
 use Rattle.af_http.specs.Laws.{IsFunction}
-use Rattle.af_plane.specs.Solos.{IsDecided, SoloRows, ledger_for, looked}
+use Rattle.af_plane.specs.Solos.{IsDecided, ledger_for, looked}
 use Rattle.af_server.specs.Desks.{Decides, DeskRows}
 use Rattle.af_ops.proofs.UnreadLemmas.{unread_is}
 use Rattle.af_server.proofs.AnswerLemmas.{policy_unread, told_op, told_policy, unread_told, with_left}

@@ -1,6 +1,6 @@
 -- The steps of all requests of a connection are one run of the world.
 use Rattle.std.proofs.Common.{◌≡◌, refl, ap, subst, ℕ, List, [], ◌∷◌, ◌++◌, Bool, true, false}
-use Rattle.std.specs.Prelude.{Option, Some, None, if◌then◌else◌}
+use Rattle.std.specs.Prelude.{Option, None, if◌then◌else◌}
 use Rattle.af_ops.specs.declared.call.Call.{Call}
 use Rattle.af_ops.specs.declared.call.Call.TheVariants as call
 use Rattle.af_ops.specs.declared.op.Op.{Op}
@@ -21,7 +21,7 @@ use Rattle.af_http.specs.declared.reply.Reply.TheVariants as reply
 use Rattle.af_server.specs.Configurations.{ConfigurationRows}
 use Rattle.af_server.specs.Desks.{Decides, DeskRows, opened}
 use Rattle.af_server.specs.Openings.{opening_of}
-use Rattle.af_server.specs.WorldRuns.{AnsweredStep, AreOneRun, AreTurns, IsTurns, answers_in, steps_in, turns_of, turns_on_plane, turns_on_policy}
+use Rattle.af_server.specs.WorldRuns.{AnsweredStep, AreOneRun, IsTurns, answers_in, steps_in, turns_of, turns_on_plane, turns_on_policy}
 
 -- a run goes on where another ended
 run_join : (w mid last : World) (first later : List AnsweredStep) → IsRun w (steps_in first) (answers_in first) mid → IsRun mid (steps_in later) (answers_in later) last → IsRun w (steps_in (first ++ later)) (answers_in (first ++ later)) last

@@ -1,7 +1,7 @@
 -- The access control of the DAGs of a configuration, which is read after all DAGs, and what it makes of the policy: what a sync
 -- of each DAG makes of it, in their order (Airflow 2, "Access Control", DAG-level permissions; the order of the faults is this
 -- product's own rule).
-use Rattle.std.specs.Prelude.{ℕ, List, codes, Option, Some, None, Result, Ok, Err}
+use Rattle.std.specs.Prelude.{List, codes, Option, Some, None, Result, Ok, Err}
 use Rattle.serde_json.specs.Data.{Data}
 use Rattle.af_names.specs.Names.{id_grammar}
 use Rattle.af_role.specs.declared.access.AccessRow.{AccessRow}

@@ -1,5 +1,5 @@
 -- A variable of a configuration: `key` and `value` (Airflow 2, "Variables"; the order of the faults is this product's own rule).
-use Rattle.std.specs.Prelude.{ℕ, List, [], ◌∷◌, map, codes, Result, Ok, Err}
+use Rattle.std.specs.Prelude.{ℕ, List, [], ◌∷◌, map, codes, Result, Ok}
 use Rattle.serde_json.specs.Data.{Data}
 use Rattle.af_names.specs.Names.{row_name_grammar}
 use Rattle.af_vars.specs.Variables.{add_fault, with_variable}
