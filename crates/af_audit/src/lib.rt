@@ -9,6 +9,7 @@ mod audit_fault;
 mod entry;
 mod entry_row;
 mod event_logs;
+mod last_token;
 pub mod laws;
 mod ledger;
 mod nobody;

@@ -57,7 +57,7 @@ impl Ledger {
         ensures performed { IsPerformed op.now (closed_verdict policy.now self.old (option_copied token.entry) op.now now) (standing_of self.old) result (standing_of self.new) }
         ensures entry { MayEnter (bearer_of policy.now (option_copied token.entry)) op.now now self.old self.new }
     {
-        match policy.bearer(token) {
+        match self.identified(policy, token) {
             Some(user) => {
                 let view = policy.view(user);
                 self.judged(alloc, &view, user, op, now)

@@ -44,7 +44,7 @@ impl Ledger {
     ) -> Result<Shown, CallFault>
         ensures { IsPerformed nameless (entries_verdict policy.now self.now (option_copied token.entry) asked.now) (standing_of self.now) result (standing_of self.now) }
     {
-        match policy.bearer(token) {
+        match self.bearer(policy, token) {
             Some(user) => {
                 let view = policy.view(user);
                 self.entries_for(alloc, &view, asked)
