@@ -146,7 +146,12 @@ impl Text {
     {
         match value {
             None => self.null(later, name),
-            Some(instant) => self.plain_bytes(later, name, InstantText::of(instant).as_bytes()),
+            Some(instant) => {
+                let text = self.text_of(instant);
+                let told = self.plain_bytes(later, name, text.as_bytes());
+                self.keep_at_hand(text);
+                told
+            }
         }
     }
 

@@ -1,6 +1,8 @@
 ghost use Rattle.std.specs.Prelude.{◌≡◌, ◌+◌, ◌<◌, ◌≤◌, [], ◌∷◌, ◌++◌, take, cond, length, vec_len, vec_capacity, OnOk, IfOk};
 
+use crate::instant_text::InstantText;
 use crate::placing::{place, place_comma};
+use af_names::Instant;
 use std::alloc::{AllocError, Global};
 use std::marker::Model;
 
@@ -11,16 +13,19 @@ const LEAST_AHEAD: usize = 128;
 const FIRST_AHEAD: usize = 1024;
 
 /// Bytes that are made ready at once, at most.
-const MOST_AHEAD: usize = 16 * 1024;
+const MOST_AHEAD: usize = 4 * 1024;
 
 static ZEROS: [u8; 4096] = [0; 4096];
 
 /// A text that grows at its end. Bytes after its end are made ready ahead, so that a member of an object takes one test of
 /// room. Contracts see its bytes, and how many more it takes without a growth.
+///
+/// The last instant that was told stays at hand with its text, since rows that one tick or one call made tell the same.
 #[derive(Drop)]
 pub struct Text {
     bytes: Vec<u8>,
     len: usize,
+    at_hand: Option<InstantText>,
 }
 
 impl Model for Text {
@@ -40,10 +45,8 @@ impl Text {
         ensures items { IfOk result (λ text. text.items ≡ []) }
         ensures ready { IfOk result (λ text. room ≤ text.ready) }
     {
-        Ok(Text {
-            bytes: Vec::from_elem(alloc, 0, room)?,
-            len: 0,
-        })
+        let bytes = Vec::from_elem(alloc, 0, room)?;
+        Ok(Text::over(bytes))
     }
 
     /// An empty text that has memory for so many bytes, of which the first are ready, all of few: to make many ready at once takes
@@ -55,16 +58,49 @@ impl Text {
         let room = room.max(LEAST_AHEAD);
         let mut bytes = Vec::with_capacity(alloc, room)?;
         fill_to(&mut bytes, room.min(FIRST_AHEAD));
-        Ok(Text { bytes, len: 0 })
+        Ok(Text::over(bytes))
+    }
+
+    /// An empty text for which these bytes are ready.
+    #[inline(always)]
+    fn over(bytes: Vec<u8>) -> Text
+        ensures items { result.items ≡ [] }
+        ensures ready { result.ready ≡ length bytes.items }
+    {
+        Text {
+            bytes,
+            len: 0,
+            at_hand: None,
+        }
     }
 
     /// Its bytes.
     pub fn into_bytes(self) -> Vec<u8>
         ensures { result.items ≡ self.items }
     {
-        let Text { mut bytes, len } = self;
+        let Text { mut bytes, len, .. } = self;
         bytes.truncate(len);
         bytes
+    }
+
+    /// The text of an instant: the one at hand where it is that instant's. None is at hand then.
+    #[inline]
+    pub(crate) fn text_of(&mut self, instant: Instant) -> InstantText
+        ensures text { result ≡ instant }
+        ensures same { self.new ≡ self.old }
+    {
+        match self.at_hand.take() {
+            Some(text) if text.instant() == instant => text,
+            _ => InstantText::of(instant),
+        }
+    }
+
+    /// From now on this text is at hand.
+    #[inline]
+    pub(crate) fn keep_at_hand(&mut self, text: InstantText)
+        ensures { self.new ≡ self.old }
+    {
+        self.at_hand = Some(text);
     }
 
     /// Room for so many more bytes. `AllocError` only where a growth was refused.
