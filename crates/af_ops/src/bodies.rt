@@ -1,10 +1,10 @@
 // Reading the members of a request's body. A member that is null counts as absent. Texts with escapes are spelled out in `scratch`,
 // which is kept from body to body: what it held before is not looked at.
-ghost use Rattle.std.specs.Prelude.{◌≡◌, ⊤, Err, Ok, [], map, true, unwrap_or};
+ghost use Rattle.std.specs.Prelude.{◌≡◌, ⊤, Err, Ok, [], IfSome, IsOk, None, map, true, unwrap_or};
 ghost use Rattle.af_base.specs.JsonValue.{view};
 ghost use Rattle.serde_json.specs.Find.{as_bool};
 ghost use Rattle.af_base.specs.Readings.{Makes, OrMemory, seen, taking};
-ghost use Rattle.af_ops.specs.Bodies.{body_in, clear_by, clear_in, clear_of, clear_run_in, date_in, empty_object, id_taken, instant_in, is_empty, mark_in, mark_value, optional_in, pause_in, required_in, run_id_of, task_ids_in, trigger_in};
+ghost use Rattle.af_ops.specs.Bodies.{body_in, clear_by, clear_in, clear_of, clear_run_in, date_in, empty_object, id_taken, instant_in, is_empty, mark_in, mark_value, object_or, optional_in, pause_in, required_in, run_id_of, task_ids_in, trigger_in};
 
 use crate::body_fault::{BodyFault, Member};
 use crate::clear::Clear;
@@ -114,7 +114,15 @@ pub(crate) fn body_in<'a>(
 ) -> Result<Json<'a>, BodyFault>
     ensures { OrMemory BodyFault.OutOfMemory (body_in bytes.now) (seen view result) }
 {
-    match json_in(alloc, bytes, scratch)? {
+    object_of(json_in(alloc, bytes, scratch)?)
+}
+
+/// The object that a body's value is. Bytes that are no JSON have no value.
+fn object_of<'a>(value: Option<Json<'a>>) -> Result<Json<'a>, BodyFault>
+    ensures some { IfSome value.entry (λ value. seen view result ≡ object_or (view value)) }
+    ensures none { value.entry ≡ None → result ≡ Err BodyFault.BadBody }
+{
+    match value {
         Some(value) if value.is_object() => Ok(value),
         _ => Err(BodyFault::BadBody),
     }
@@ -146,7 +154,8 @@ fn optional_instant(body: &Json<'_>, it: Member) -> Result<Option<Instant>, Body
 }
 
 fn optional_run_id(alloc: Global, body: &Json<'_>, it: Member) -> Result<Option<RunId>, BodyFault>
-    ensures { OrMemory BodyFault.OutOfMemory (optional_in run_id_of it (view body.now)) result }
+    ensures told { OrMemory BodyFault.OutOfMemory (optional_in run_id_of it (view body.now)) result }
+    ensures memory { result ≡ Err BodyFault.OutOfMemory → IsOk (optional_in run_id_of it (view body.now)) }
 {
     let Some(value) = member(body, name_of(it)) else {
         return Ok(None);

@@ -1,9 +1,10 @@
 // Reading the bodies of changes of the policy.
-ghost use Rattle.std.specs.Prelude.{◌≡◌};
+ghost use Rattle.std.specs.Prelude.{◌≡◌, Err, IfSome, None};
 ghost use Rattle.af_base.specs.JsonValue.{view};
 ghost use Rattle.af_base.specs.Readings.{OrMemory, member_of, seen};
-ghost use Rattle.af_ops.specs.PolicyBodies.{access_or, body_in, dag_access_in, patch_in, role_in, role_set_in, user_in};
+ghost use Rattle.af_ops.specs.PolicyBodies.{access_or, body_in, dag_access_in, object_or, patch_in, role_in, role_set_in, user_in};
 ghost use Rattle.af_policy.specs.Inputs.{member_text};
+ghost use Rattle.af_policy.specs.declared.bad_input.BadInput.TheVariants as bad;
 ghost use Rattle.af_policy.specs.declared.bad_input.Member.TheVariants as members;
 
 use crate::access_texts::read_access;
@@ -103,7 +104,15 @@ fn body_in<'a>(
 ) -> Result<Json<'a>, InputFault>
     ensures { OrMemory InputFault.OutOfMemory (body_in bytes.now) (seen view result) }
 {
-    match json_in(alloc, bytes, scratch)? {
+    object_of(json_in(alloc, bytes, scratch)?)
+}
+
+/// The object that a body's value is. Bytes that are no JSON have no value.
+fn object_of<'a>(value: Option<Json<'a>>) -> Result<Json<'a>, InputFault>
+    ensures some { IfSome value.entry (λ value. seen view result ≡ object_or (view value)) }
+    ensures none { value.entry ≡ None → result ≡ Err (InputFault.Bad bad.Body) }
+{
+    match value {
         Some(value) if value.is_object() => Ok(value),
         _ => Err(InputFault::Bad(BadInput::Body)),
     }

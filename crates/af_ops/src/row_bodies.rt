@@ -1,5 +1,5 @@
 // Reading the bodies of requests on pools and variables.
-ghost use Rattle.std.specs.Prelude.{◌≡◌};
+ghost use Rattle.std.specs.Prelude.{◌≡◌, Err, IsOk};
 ghost use Rattle.serde_json.specs.Find.{as_str};
 ghost use Rattle.af_base.specs.JsonValue.{view};
 ghost use Rattle.af_base.specs.Readings.{OrMemory, seen};
@@ -67,7 +67,8 @@ fn required_name<K: NameKind>(
     body: &Json<'_>,
     it: Member,
 ) -> Result<Name<K>, BodyFault>
-    ensures { OrMemory BodyFault.OutOfMemory (required_in (name_value K.grammar) it (view body.now)) result }
+    ensures told { OrMemory BodyFault.OutOfMemory (required_in (name_value K.grammar) it (view body.now)) result }
+    ensures memory { result ≡ Err BodyFault.OutOfMemory → IsOk (required_in (name_value K.grammar) it (view body.now)) }
 {
     let Some(value) = member(body, name_of(it)) else {
         return Err(BodyFault::BadMember(it));
