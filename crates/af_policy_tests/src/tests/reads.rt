@@ -270,18 +270,21 @@ fn change(alloc: Global, versions: &mut Versions) -> Result<bool, Fail> {
 }
 
 /// Whether that is made, and then bob is told it under the next version.
-fn is_changed(alloc: Global) -> Result<(bool, bool), Fail> {
+fn is_changed(alloc: Global, versions: &mut Versions) -> Result<(bool, bool), Fail> {
+    let is_made = change(alloc, versions)?;
+    let is_told = is_told_self(alloc, versions, BOBS, (1, BOB_CHANGED))?;
+    Ok((is_made, is_told))
+}
+
+/// The same of the versions of the policy of the five.
+fn is_changed_of_five(alloc: Global) -> Result<(bool, bool), Fail> {
     let mut versions = opened(alloc)?;
-    let is_made = change(alloc, &mut versions)?;
-    Ok((
-        is_made,
-        is_told_self(alloc, &versions, BOBS, (1, BOB_CHANGED))?,
-    ))
+    is_changed(alloc, &mut versions)
 }
 
 #[test]
 fn a_changed_user_is_told_under_the_next_version(rt: HostRuntime) -> Result<(), Fail> {
-    let (is_made, is_told) = is_changed(rt.alloc())?;
+    let (is_made, is_told) = is_changed_of_five(rt.alloc())?;
     holds(&rt, is_made, "an Admin may change a user");
     holds(&rt, is_told, "bob");
     Ok(())
