@@ -159,7 +159,7 @@ fn other_paths(rt: HostRuntime) -> Result<(), Fail> {
     Ok(())
 }
 
-/// Names of 249 to 251 bytes, plain and with each byte encoded: 250 are the most, of the text and not of its encoding.
+/// Names of so many bytes, plain and with each byte encoded: 250 are the most, of the text and not of its encoding.
 const NAMES: [(&str, usize, &str); 6] = [
     ("x", 249, NO_TOKEN),
     ("x", 250, NO_TOKEN),

@@ -113,7 +113,7 @@ fn page(alloc: Global, endpoint: Endpoint, query: &[u8]) -> Result<Shown, Fail> 
     shown(alloc, &mut versions, "adam", &op)
 }
 
-/// A listing, a query, its status and its text.
+/// A listing, a query, and its text.
 const PAGES: &[(Endpoint, &str, &[u8])] = &[
     (Endpoint::ListRoles, "limit=2&offset=4", TWO_ROLES),
     (Endpoint::ListUsers, "limit=1", FIRST_USER),
