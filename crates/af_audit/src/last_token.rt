@@ -53,7 +53,7 @@ impl LastToken {
     }
 }
 
-/// Whether two texts are the same. How long that takes tells their lengths and no byte of them.
+/// Whether two texts are the same. Where they are of one length each byte is compared, wherever they first differ.
 fn are_same(left: &[u8], right: &[u8]) -> bool
     ensures same { result ≡ true → left.now ≡ right.now }
     ensures only { left.now ≡ right.now → result ≡ true }
