@@ -4,6 +4,8 @@ mod claims;
 mod clears;
 mod copies;
 mod creating;
+mod dags;
+mod fresh;
 mod held;
 mod openings;
 mod pools;

@@ -1,12 +1,15 @@
-use crate::tests::asserts::{all_go, holds};
-use crate::tests::openings::{add_run_of_g, at, instances, moment, state_of, task, tried};
+use crate::tests::asserts::holds;
+use crate::tests::dags::{DEFAULT_POOL, row, task};
+use crate::tests::fresh::with_new_state;
+use crate::tests::openings::{add_run_of_g, add_tried, at, instances, moment};
 use crate::tests::seen::states_are;
-use crate::tests::steps::{Step, first_fault};
-use af_graph::{Dag, DagSpec, Points, Rule, Schedule, TaskSpec, TaskSpecs, TaskState};
-use af_names::{DagId, NamesDag, PoolName, RunId};
+use crate::tests::steps::{Step, play};
+use af_graph::{Points, Rule, Schedule, TaskSpec, TaskState};
+use af_names::{DagId, NamesDag, RunId};
 use af_runs::{RunFault, RunState};
 use af_sched::{AddDagFault, DagRow, State};
 use std::alloc::Global;
+use std::process::Abort;
 use std::test::Fail;
 
 const ADDED_ONCE: &[Step] = &[
@@ -18,24 +21,25 @@ const ADDED_ONCE: &[Step] = &[
 
 const IDS: &[&str] = &["a", "b"];
 
-const DEFAULT: &str = "default_pool";
-
 /// A pool, how many runs may be running, a step in seconds, and what is told.
-const FAULTS: [(&str, u32, u32, Result<(), AddDagFault>); 6] = [
+const FAULTS: &[(&str, u32, u32, Result<(), AddDagFault>)] = &[
     ("p", 0, 0, Err(AddDagFault::NoActiveRuns)),
     ("p", 1, 0, Err(AddDagFault::NoStep)),
     ("p", 1, 1, Err(AddDagFault::NoSuchPool)),
-    (DEFAULT, 1, 1, Ok(())),
+    (DEFAULT_POOL, 1, 1, Ok(())),
     ("p", 1, 1, Err(AddDagFault::NoSuchPool)),
-    (DEFAULT, 1, 1, Err(AddDagFault::Exists)),
+    (DEFAULT_POOL, 1, 1, Err(AddDagFault::Exists)),
 ];
 
 #[test]
 fn a_dag_is_added_once(rt: HostRuntime) -> Result<(), Fail> {
-    let mut state = State::new(rt.alloc())?;
-    let fault = first_fault(rt.alloc(), &mut state, ADDED_ONCE)?;
-    all_go(&rt, fault, "the steps");
-    holds(&rt, is_first_dag(&state, "a"), "a row names its DAG");
+    with_new_state(&rt, are_added_once)
+}
+
+/// Ends the test where DAGs are not added to a new state once, by id.
+fn are_added_once(rt: &impl Abort, alloc: Global, state: &mut State) -> Result<(), Fail> {
+    play(rt, alloc, state, ADDED_ONCE, "the steps")?;
+    holds(rt, is_first_dag(state, "a"), "a row names its DAG");
     Ok(())
 }
 
@@ -49,36 +53,43 @@ fn is_first_dag(state: &State, dag_id: &str) -> bool {
 
 /// One task of this pool.
 fn only_of(alloc: Global, pool: &str) -> Result<Vec<TaskSpec>, Fail> {
-    let mut only = task(alloc, "t", &[], Rule::AllSuccess)?;
-    only.pool = PoolName::parse(alloc, pool)?;
+    let only = task(alloc, "t", &[], pool, Rule::AllSuccess)?;
     Ok(vec![in alloc; only]?)
 }
 
 /// A DAG of one task of this pool, of which so many runs may be running, every so many seconds.
 fn every(alloc: Global, pool: &str, most: u32, seconds: u32) -> Result<DagRow, Fail> {
-    let tasks = only_of(alloc, pool)?;
-    let start_date = at("2024-01-01T00:00:00Z")?;
-    let spec = DagSpec {
-        dag_id: DagId::parse(alloc, "g")?,
-        tasks: TaskSpecs::of(tasks),
-        schedule: Some(Schedule {
-            points: Points::Seconds(seconds),
-            start_date,
-        }),
-        catchup: true,
-        max_active_runs: most,
+    let schedule = Schedule {
+        points: Points::Seconds(seconds),
+        start_date: at("2024-01-01T00:00:00Z")?,
     };
-    Ok(DagRow::opened(Dag::new(alloc, spec)?, false))
+    let only = only_of(alloc, pool)?;
+    row(alloc, "g", only, Some(schedule), true, most, false)
 }
 
 #[test]
 fn the_first_fault_of_a_dag_is_told(rt: HostRuntime) -> Result<(), Fail> {
-    let mut state = State::new(rt.alloc())?;
+    with_new_state(&rt, first_faults_are_told)
+}
+
+/// Ends the test where a new state does not tell the first fault of each DAG.
+fn first_faults_are_told(rt: &impl Abort, alloc: Global, state: &mut State) -> Result<(), Fail> {
     for (pool, most, seconds, wanted) in FAULTS {
-        let told = state.add_dag(every(rt.alloc(), pool, most, seconds)?);
-        holds(&rt, told == wanted, pool);
+        let told = added_every(alloc, state, pool, *most, *seconds)?;
+        holds(rt, told == *wanted, pool);
     }
     Ok(())
+}
+
+/// What is told where a DAG of this pool, so many runs and so many seconds is added.
+fn added_every(
+    alloc: Global,
+    state: &mut State,
+    pool: &str,
+    most: u32,
+    seconds: u32,
+) -> Result<Result<(), AddDagFault>, Fail> {
+    Ok(state.add_dag(every(alloc, pool, most, seconds)?))
 }
 
 /// Advances the run of this number to one that has failed.
@@ -94,7 +105,7 @@ fn fail_run(alloc: Global, state: &mut State, number: u64) -> Result<(), Fail> {
 }
 
 /// The id of a run, a date, and why a run of these is not added to DAG g, which has the run r of date 0.
-const RUN_FAULTS: [(&str, u64, Option<RunFault>); 3] = [
+const RUN_FAULTS: &[(&str, u64, Option<RunFault>)] = &[
     ("r", 0, Some(RunFault::RunExists)),
     ("s", 0, Some(RunFault::DateTaken)),
     ("s", 1, None),
@@ -137,22 +148,31 @@ fn added(alloc: Global, state: &mut State) -> Result<u64, Fail> {
 
 #[test]
 fn why_a_run_is_not_added_is_told(rt: HostRuntime) -> Result<(), Fail> {
-    let state = state_of(rt.alloc(), tried(TaskState::NoStatus, 0))?;
+    with_new_state(&rt, run_faults_are_told)
+}
+
+/// Ends the test where it is not told why a run is not added, once a new state has the run r.
+fn run_faults_are_told(rt: &impl Abort, alloc: Global, state: &mut State) -> Result<(), Fail> {
+    add_tried(alloc, state, TaskState::NoStatus, 0)?;
     for (run_id, date, wanted) in RUN_FAULTS {
-        let told = run_fault(rt.alloc(), &state, run_id, date)?;
-        holds(&rt, told == wanted, run_id);
+        let told = run_fault(alloc, state, run_id, *date)?;
+        holds(rt, told == *wanted, run_id);
     }
     Ok(())
 }
 
 #[test]
 fn a_run_is_added_and_looked_up(rt: HostRuntime) -> Result<(), Fail> {
-    let mut state = state_of(rt.alloc(), tried(TaskState::NoStatus, 0))?;
-    let number = added(rt.alloc(), &mut state)?;
-    holds(&rt, number == 2, "the second run");
-    let by_ids = number_of(rt.alloc(), &state, "s")?;
-    holds(&rt, by_ids == Some(2), "by its ids");
-    holds(&rt, is_dated(&state, 2, 1), "by its number");
+    with_new_state(&rt, is_looked_up)
+}
+
+/// Ends the test where run s, added to a new state after run r, is not found.
+fn is_looked_up(rt: &impl Abort, alloc: Global, state: &mut State) -> Result<(), Fail> {
+    add_tried(alloc, state, TaskState::NoStatus, 0)?;
+    holds(rt, added(alloc, state)? == 2, "the second run");
+    let by_ids = number_of(alloc, state, "s")?;
+    holds(rt, by_ids == Some(2), "by its ids");
+    holds(rt, is_dated(state, 2, 1), "by its number");
     Ok(())
 }
 
@@ -166,13 +186,15 @@ fn is_dated(state: &State, number: u64, date: u64) -> bool {
 
 #[test]
 fn a_run_is_advanced(rt: HostRuntime) -> Result<(), Fail> {
-    let mut state = state_of(rt.alloc(), tried(TaskState::NoStatus, 0))?;
-    let _number = added(rt.alloc(), &mut state)?;
-    fail_run(rt.alloc(), &mut state, 1)?;
-    holds(
-        &rt,
-        states_are(&state, ONE_HAS_FAILED),
-        "the first is advanced",
-    );
+    with_new_state(&rt, first_is_advanced)
+}
+
+/// Ends the test where the first of two runs, added to a new state, is not advanced.
+fn first_is_advanced(rt: &impl Abort, alloc: Global, state: &mut State) -> Result<(), Fail> {
+    add_tried(alloc, state, TaskState::NoStatus, 0)?;
+    let _number = added(alloc, state)?;
+    fail_run(alloc, state, 1)?;
+    let is_advanced = states_are(state, ONE_HAS_FAILED);
+    holds(rt, is_advanced, "the first is advanced");
     Ok(())
 }

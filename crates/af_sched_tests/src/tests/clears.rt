@@ -1,25 +1,27 @@
-use crate::tests::asserts::all_go;
-use crate::tests::openings::{add_run_of_g, dag, only, state_with, task};
+use crate::tests::dags::of_default;
+use crate::tests::fresh::with_new_states;
+use crate::tests::openings::{add_g, add_run_of_g, only};
 use crate::tests::redone::cleared;
-use crate::tests::steps::{Step, first_fault};
-use af_graph::{Rule, TaskState};
+use crate::tests::steps::{Step, play};
+use af_graph::{TaskSpec, TaskState};
 use af_runs::{Mark, RunState};
-use af_sched::{DagRow, Outcome, ReportFault, State};
+use af_sched::{Outcome, ReportFault, State};
 use std::alloc::Global;
+use std::process::Abort;
 use std::test::Fail;
 
-/// A DAG g of one task t without retries.
-fn without_retries(alloc: Global) -> Result<DagRow, Fail> {
-    let mut only = task(alloc, "t", &[], Rule::AllSuccess)?;
+/// One task t without retries.
+fn without_retries(alloc: Global) -> Result<Vec<TaskSpec>, Fail> {
+    let mut only = of_default(alloc, "t", &[])?;
     only.retries = 0;
-    dag(alloc, "g", vec![in alloc; only]?, false)
+    Ok(vec![in alloc; only]?)
 }
 
-/// A DAG g of one task t without retries, and a new run r of it.
-fn one_run(alloc: Global) -> Result<State, Fail> {
-    let mut state = state_with(alloc, without_retries(alloc)?)?;
-    let _number = add_run_of_g(alloc, &mut state, "r", 0, only(alloc, cleared(0, 0))?)?;
-    Ok(state)
+/// Adds a DAG g of one task t without retries, and a new run r of it.
+fn add_one_run(alloc: Global, state: &mut State) -> Result<(), Fail> {
+    add_g(alloc, state, without_retries(alloc)?, false)?;
+    let _number = add_run_of_g(alloc, state, "r", 0, only(alloc, cleared(0, 0))?)?;
+    Ok(())
 }
 
 const AT_13: &str = "1970-01-01T00:00:00.000013Z";
@@ -126,7 +128,10 @@ const TAKEN_OUT: &[Step] = &[
     Step::Reports(1, "t", 1, Outcome::Success, 13, NO_INSTANCE),
 ];
 
-const STORIES: [(&str, &[Step]); 5] = [
+/// A name, and what becomes of a run.
+type Story = (&'static str, &'static [Step]);
+
+const STORIES: &[Story] = &[
     ("a failed run is cleared and tried again", A_FAILED_RUN),
     ("a running instance is cleared", A_RUNNING_INSTANCE),
     (
@@ -139,10 +144,11 @@ const STORIES: [(&str, &[Step]); 5] = [
 
 #[test]
 fn what_was_done_is_done_again(rt: HostRuntime) -> Result<(), Fail> {
-    for (name, steps) in STORIES {
-        let mut state = one_run(rt.alloc())?;
-        let fault = first_fault(rt.alloc(), &mut state, steps)?;
-        all_go(&rt, fault, name);
-    }
-    Ok(())
+    with_new_states(&rt, STORIES, goes)
+}
+
+/// Ends the test where a story does not go as it says from a new state on.
+fn goes(rt: &impl Abort, alloc: Global, state: &mut State, story: &Story) -> Result<(), Fail> {
+    add_one_run(alloc, state)?;
+    play(rt, alloc, state, story.1, story.0)
 }

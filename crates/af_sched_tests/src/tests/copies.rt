@@ -1,5 +1,6 @@
 use crate::tests::asserts::holds;
-use crate::tests::openings::{instances, moment, pooled_tasks, with_pool};
+use crate::tests::fresh::with_new_state;
+use crate::tests::openings::{add_pooled, moment};
 use crate::tests::pools::slots_of;
 use crate::tests::seen::{are_dags, first_are, states_are};
 use crate::tests::steps::sets_slots;
@@ -15,41 +16,22 @@ const QUEUED: &[TaskState] = &[TaskState::Queued];
 
 const SUCCESS: &[TaskState] = &[TaskState::Success];
 
-/// Pool p of two slots, a DAG g of one task, and a run of it.
-fn one_run(alloc: Global) -> Result<State, Fail> {
-    let tasks = pooled_tasks(alloc, &[("t", 1, 1)])?;
-    with_pool(alloc, 2, tasks, false, instances(alloc, QUEUED)?)
+/// Adds pool p of two slots, a DAG g of one task, a run of it, and a variable k.
+fn add_one_of_each(alloc: Global, state: &mut State) -> Result<(), Fail> {
+    add_pooled(alloc, state, 2, &[("t", 1, 1)], false, QUEUED)?;
+    add_variable(alloc, state, "k", "v")
 }
 
-/// The same and a variable k.
-fn one_of_each(alloc: Global) -> Result<State, Fail> {
-    let mut state = one_run(alloc)?;
-    add_variable(alloc, &mut state, "k", "v")?;
-    Ok(state)
-}
-
-/// Changes the pool, the run and the variable: whether each may be.
-fn change(alloc: Global, state: &mut State) -> Result<bool, Fail> {
+/// Changes the run, the pool and the variable: whether the pool and the variable may be changed, and are.
+fn is_changed(alloc: Global, state: &mut State) -> Result<bool, Fail> {
     state.mark_run(1, Mark::Success, moment(5)?);
     Ok(sets_slots(alloc, state, 7)? && remove_variable(alloc, state, "k")?)
 }
 
-/// A copy of a state that is then changed.
-fn copied(alloc: Global) -> Result<State, Fail> {
-    let mut state = one_of_each(alloc)?;
-    let copy = state.copied(alloc)?;
-    if change(alloc, &mut state)? {
-        Ok(copy)
-    } else {
-        Err(Fail::from("it is not changed"))
-    }
-}
-
-/// A copy that is changed itself.
-fn changed(alloc: Global) -> Result<State, Fail> {
-    let mut copy = one_of_each(alloc)?.copied(alloc)?;
-    if change(alloc, &mut copy)? {
-        Ok(copy)
+/// Changes the pool, the run and the variable.
+fn change(alloc: Global, state: &mut State) -> Result<(), Fail> {
+    if is_changed(alloc, state)? {
+        Ok(())
     } else {
         Err(Fail::from("it is not changed"))
     }
@@ -66,19 +48,43 @@ fn is_as_before(rt: &impl Abort, copy: &State) {
 
 #[test]
 fn a_copy_stays_where_the_state_changes(rt: HostRuntime) -> Result<(), Fail> {
-    let copy = copied(rt.alloc())?;
-    is_as_before(&rt, &copy);
-    let slots = slots_of(rt.alloc(), &copy, "p")?;
-    holds(&rt, slots == Some(2), "the slots");
+    with_new_state(&rt, copy_stays)
+}
+
+/// Ends the test where the copy of what is added to a new state does not stay.
+fn copy_stays(rt: &impl Abort, alloc: Global, state: &mut State) -> Result<(), Fail> {
+    add_one_of_each(alloc, state)?;
+    let copy = state.copied(alloc)?;
+    stays(rt, alloc, state, &copy)
+}
+
+/// Changes a state, and ends the test where its copy does not stay as it was.
+fn stays(rt: &impl Abort, alloc: Global, state: &mut State, copy: &State) -> Result<(), Fail> {
+    change(alloc, state)?;
+    is_as_before(rt, copy);
+    let slots = slots_of(alloc, copy, "p")?;
+    holds(rt, slots == Some(2), "the slots");
     Ok(())
 }
 
 #[test]
 fn a_state_changes_and_its_copy_too(rt: HostRuntime) -> Result<(), Fail> {
-    let copy = changed(rt.alloc())?;
-    holds(&rt, first_are(&copy, SUCCESS), "the instance");
-    let slots = slots_of(rt.alloc(), &copy, "p")?;
-    holds(&rt, slots == Some(7), "the slots");
-    holds(&rt, are_variables(&copy, &[]), "the variable");
+    with_new_state(&rt, copy_changes)
+}
+
+/// Ends the test where the copy of what is added to a new state does not change.
+fn copy_changes(rt: &impl Abort, alloc: Global, state: &mut State) -> Result<(), Fail> {
+    add_one_of_each(alloc, state)?;
+    let mut copy = state.copied(alloc)?;
+    changes(rt, alloc, &mut copy)
+}
+
+/// Changes a copy, and ends the test where it is not changed.
+fn changes(rt: &impl Abort, alloc: Global, copy: &mut State) -> Result<(), Fail> {
+    change(alloc, copy)?;
+    holds(rt, first_are(copy, SUCCESS), "the instance");
+    let slots = slots_of(alloc, copy, "p")?;
+    holds(rt, slots == Some(7), "the slots");
+    holds(rt, are_variables(copy, &[]), "the variable");
     Ok(())
 }

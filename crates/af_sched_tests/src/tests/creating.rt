@@ -1,10 +1,12 @@
-use crate::tests::asserts::{all_go, holds};
-use crate::tests::openings::{add_run, at, instances, new_run, scheduled};
-use crate::tests::steps::{Step, first_fault};
+use crate::tests::asserts::holds;
+use crate::tests::fresh::with_new_states;
+use crate::tests::openings::{add_run, add_scheduled, at, instances, new_run};
+use crate::tests::steps::{Step, first_fault, play};
 use af_graph::TaskState;
 use af_names::Preset;
 use af_sched::State;
 use std::alloc::Global;
+use std::process::Abort;
 use std::test::Fail;
 
 const NEW_YEAR: &str = "2024-01-01T00:00:00Z";
@@ -146,24 +148,21 @@ const STORIES: &[Story] = &[
     },
 ];
 
-fn fault_in(alloc: Global, story: &Story) -> Result<Option<usize>, Fail> {
-    let mut state = scheduled(
-        alloc,
-        story.preset,
-        story.start,
-        story.catchup,
-        story.is_paused,
-    )?;
-    first_fault(alloc, &mut state, story.steps)
+/// Adds the DAG of a story.
+fn add_dag_of(alloc: Global, state: &mut State, story: &Story) -> Result<(), Fail> {
+    let (catchup, is_paused) = (story.catchup, story.is_paused);
+    add_scheduled(alloc, state, story.preset, story.start, catchup, is_paused)
+}
+
+/// Ends the test where a story does not go as it says from a new state on.
+fn goes(rt: &impl Abort, alloc: Global, state: &mut State, story: &Story) -> Result<(), Fail> {
+    add_dag_of(alloc, state, story)?;
+    play(rt, alloc, state, story.steps, story.name)
 }
 
 #[test]
 fn runs_fall_due_by_the_schedule(rt: HostRuntime) -> Result<(), Fail> {
-    for story in STORIES {
-        let fault = fault_in(rt.alloc(), story)?;
-        all_go(&rt, fault, story.name);
-    }
-    Ok(())
+    with_new_states(&rt, STORIES, goes)
 }
 
 /// Adds a run of DAG s of this id and this date, whose instance has succeeded.
@@ -174,21 +173,31 @@ fn add_done(alloc: Global, state: &mut State, run_id: &str, date: &str) -> Resul
     Ok(())
 }
 
-/// Whether February is passed over where a run of this id and this date is there, and the cursor moves to March.
-fn is_passed_over(alloc: Global, run_id: &str, date: &str) -> Result<bool, Fail> {
-    let mut state = scheduled(alloc, Preset::Monthly, END_OF_JANUARY, true, false)?;
-    add_done(alloc, &mut state, run_id, date)?;
-    Ok(first_fault(alloc, &mut state, FEBRUARY_IS_PASSED_OVER)?.is_none())
+/// Adds a DAG that is due in February, and a run of it of this id and this date.
+fn add_taken(alloc: Global, state: &mut State, run_id: &str, date: &str) -> Result<(), Fail> {
+    add_scheduled(alloc, state, Preset::Monthly, END_OF_JANUARY, true, false)?;
+    add_done(alloc, state, run_id, date)
+}
+
+/// Ends the test where February is not passed over, with the cursor at March, in a new state that has a run of a row.
+fn is_passed_over(
+    rt: &impl Abort,
+    alloc: Global,
+    state: &mut State,
+    row: &Taken,
+) -> Result<(), Fail> {
+    add_taken(alloc, state, row.0, row.1)?;
+    let fault = first_fault(alloc, state, FEBRUARY_IS_PASSED_OVER)?;
+    holds(rt, fault.is_none(), row.0);
+    Ok(())
 }
 
 /// An id and a date, of which one is February's.
-const TAKEN: [(&str, &str); 2] = [(RUN_OF_FEBRUARY, EPOCH), ("february", FEBRUARY)];
+type Taken = (&'static str, &'static str);
+
+const TAKEN: &[Taken] = &[(RUN_OF_FEBRUARY, EPOCH), ("february", FEBRUARY)];
 
 #[test]
 fn a_taken_id_or_date_is_passed_over(rt: HostRuntime) -> Result<(), Fail> {
-    for (run_id, date) in TAKEN {
-        let is_passed = is_passed_over(rt.alloc(), run_id, date)?;
-        holds(&rt, is_passed, run_id);
-    }
-    Ok(())
+    with_new_states(&rt, TAKEN, is_passed_over)
 }

@@ -1,5 +1,6 @@
 use crate::tests::asserts::holds;
-use crate::tests::openings::{add_pool, instances, pooled_tasks, with_pool};
+use crate::tests::fresh::with_new_state;
+use crate::tests::openings::{add_pool, add_pooled};
 use af_graph::TaskState;
 use af_names::PoolName;
 use af_pool::PoolFault;
@@ -11,7 +12,7 @@ use std::test::Fail;
 const UNTRIED: &[TaskState] = &[TaskState::NoStatus];
 
 /// Pools that are removed, one after the other, and the faults that are told.
-const REMOVED: [(&str, Option<PoolFault>); 5] = [
+const REMOVED: &[(&str, Option<PoolFault>)] = &[
     ("x", Some(PoolFault::NoSuchPool)),
     ("default_pool", Some(PoolFault::DefaultPool)),
     ("p", Some(PoolFault::InUse)),
@@ -22,7 +23,7 @@ const REMOVED: [(&str, Option<PoolFault>); 5] = [
 const LEFT: &[(&str, u32)] = &[("default_pool", 128), ("p", 2)];
 
 /// Pools and slots, why such a pool is not added, and why it does not get these slots.
-const FAULTS: [(&str, u64, Option<PoolFault>, Option<PoolFault>); 4] = [
+const FAULTS: &[(&str, u64, Option<PoolFault>, Option<PoolFault>)] = &[
     ("p", 1_000_001, BAD, BAD),
     ("x", 1_000_001, BAD, BAD),
     ("p", 1, Some(PoolFault::Exists), None),
@@ -31,18 +32,11 @@ const FAULTS: [(&str, u64, Option<PoolFault>, Option<PoolFault>); 4] = [
 
 const BAD: Option<PoolFault> = Some(PoolFault::BadSlots);
 
-/// The default pool, and p of two slots, which the only task names.
-fn two_pools(alloc: Global) -> Result<State, Fail> {
-    let tasks = pooled_tasks(alloc, &[("t", 1, 1)])?;
-    with_pool(alloc, 2, tasks, false, instances(alloc, UNTRIED)?)
-}
-
-/// The default pool, p of two slots, which the only task names, and q, which no task names.
-fn three_pools(alloc: Global) -> Result<State, Fail> {
-    let mut state = two_pools(alloc)?;
+/// Adds to the default pool p of two slots, which the only task names, and q, which no task names.
+fn add_two_pools(alloc: Global, state: &mut State) -> Result<(), Fail> {
+    add_pooled(alloc, state, 2, &[("t", 1, 1)], false, UNTRIED)?;
     state.reserve_pools(1)?;
-    add_pool(alloc, &mut state, "q", 7)?;
-    Ok(state)
+    add_pool(alloc, state, "q", 7)
 }
 
 /// Whether the pools have these names and slots.
@@ -71,17 +65,22 @@ fn removed(
 fn are_removed(rt: &impl Abort, alloc: Global, state: &mut State) -> Result<(), Fail> {
     for (name, wanted) in REMOVED {
         let (before, then) = removed(alloc, state, name)?;
-        holds(rt, before == wanted, name);
-        holds(rt, then == wanted, name);
+        holds(rt, before == *wanted, name);
+        holds(rt, then == *wanted, name);
     }
     Ok(())
 }
 
 #[test]
 fn a_pool_that_is_needed_stays(rt: HostRuntime) -> Result<(), Fail> {
-    let mut state = three_pools(rt.alloc())?;
-    are_removed(&rt, rt.alloc(), &mut state)?;
-    holds(&rt, are_pools(&state, LEFT), "the pools that are left");
+    with_new_state(&rt, needed_stays)
+}
+
+/// Ends the test where of the pools of a new state not those that are needed are left.
+fn needed_stays(rt: &impl Abort, alloc: Global, state: &mut State) -> Result<(), Fail> {
+    add_two_pools(alloc, state)?;
+    are_removed(rt, alloc, state)?;
+    holds(rt, are_pools(state, LEFT), "the pools that are left");
     Ok(())
 }
 
@@ -101,24 +100,37 @@ fn foretold(
 
 #[test]
 fn faults_of_pools_are_told_beforehand(rt: HostRuntime) -> Result<(), Fail> {
-    let state = three_pools(rt.alloc())?;
+    with_new_state(&rt, are_foretold)
+}
+
+/// Ends the test where faults of the pools of a new state are not told beforehand.
+fn are_foretold(rt: &impl Abort, alloc: Global, state: &mut State) -> Result<(), Fail> {
+    add_two_pools(alloc, state)?;
     for (name, slots, adding, setting) in FAULTS {
-        let (added, set) = foretold(rt.alloc(), &state, name, slots)?;
-        holds(&rt, added == adding, name);
-        holds(&rt, set == setting, name);
+        let (added, set) = foretold(alloc, state, name, *slots)?;
+        holds(rt, added == *adding, name);
+        holds(rt, set == *setting, name);
     }
     Ok(())
 }
 
 #[test]
 fn a_pool_is_looked_up(rt: HostRuntime) -> Result<(), Fail> {
-    let state = three_pools(rt.alloc())?;
-    for (name, wanted) in [("q", Some(7)), ("p", Some(2)), ("x", None)] {
-        let told = slots_of(rt.alloc(), &state, name)?;
-        holds(&rt, told == wanted, name);
+    with_new_state(&rt, are_looked_up)
+}
+
+/// Ends the test where the pools of a new state are not found.
+fn are_looked_up(rt: &impl Abort, alloc: Global, state: &mut State) -> Result<(), Fail> {
+    add_two_pools(alloc, state)?;
+    for (name, wanted) in LOOKED_UP {
+        let told = slots_of(alloc, state, name)?;
+        holds(rt, told == *wanted, name);
     }
     Ok(())
 }
+
+/// Pools, and the slots that are found.
+const LOOKED_UP: &[(&str, Option<u32>)] = &[("q", Some(7)), ("p", Some(2)), ("x", None)];
 
 /// The slots of the pool of this name.
 pub fn slots_of(alloc: Global, state: &State, name: &str) -> Result<Option<u32>, Fail> {

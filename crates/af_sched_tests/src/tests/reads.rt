@@ -1,22 +1,26 @@
 use crate::tests::asserts::holds;
+use crate::tests::fresh::with_new_state;
 use crate::tests::openings::{add_dag_of_one, add_run_of_one};
 use af_graph::TaskState;
 use af_names::DagId;
 use af_runs::Run;
 use af_sched::State;
 use std::alloc::Global;
+use std::process::Abort;
 use std::test::Fail;
 
-/// Two DAGs of one task, and a run of each of these.
-fn with_runs(alloc: Global, runs: &[&str]) -> Result<State, Fail> {
-    let mut state = State::new(alloc)?;
-    for dag_id in ["a", "b"] {
-        add_dag_of_one(alloc, &mut state, dag_id, 1, true)?;
-    }
+/// Adds two DAGs of one task.
+fn add_dags(alloc: Global, state: &mut State) -> Result<(), Fail> {
+    add_dag_of_one(alloc, state, "a", 1, true)?;
+    add_dag_of_one(alloc, state, "b", 1, true)
+}
+
+/// Adds a run of each of these DAGs.
+fn add_runs(alloc: Global, state: &mut State, runs: &[&str]) -> Result<(), Fail> {
     for (date, dag_id) in runs.iter().enumerate() {
-        add_dated(alloc, &mut state, dag_id, date as u64)?;
+        add_dated(alloc, state, dag_id, date as u64)?;
     }
-    Ok(state)
+    Ok(())
 }
 
 /// Adds a run of this date, by which it is called.
@@ -104,19 +108,24 @@ fn remove_two(state: &mut State) {
 
 #[test]
 fn runs_of_a_dag_are_read_from_any_place(rt: HostRuntime) -> Result<(), Fail> {
-    let mut state = with_runs(rt.alloc(), ADDED)?;
-    holds(&rt, all_are(rt.alloc(), &state, &ALL)?, "all runs");
-    remove_two(&mut state);
-    holds(
-        &rt,
-        all_are(rt.alloc(), &state, &WITHOUT_THREE)?,
-        "without number 3",
-    );
-    holds(
-        &rt,
-        are_busy(&state, &BUSY),
-        "each that has not ended, and no other",
-    );
-    holds(&rt, state.next_run() == Some(6), "no number is used again");
+    with_new_state(&rt, are_read)
+}
+
+/// Ends the test where runs, added to a new state, are not read from any place, or not once one is taken out.
+fn are_read(rt: &impl Abort, alloc: Global, state: &mut State) -> Result<(), Fail> {
+    add_dags(alloc, state)?;
+    add_runs(alloc, state, ADDED)?;
+    holds(rt, all_are(alloc, state, &ALL)?, "all runs");
+    remove_two(state);
+    are_left(rt, alloc, state)
+}
+
+/// Ends the test where the runs are not those without number 3.
+fn are_left(rt: &impl Abort, alloc: Global, state: &State) -> Result<(), Fail> {
+    let are_left = all_are(alloc, state, &WITHOUT_THREE)?;
+    holds(rt, are_left, "without number 3");
+    let are_busy = are_busy(state, &BUSY);
+    holds(rt, are_busy, "each that has not ended, and no other");
+    holds(rt, state.next_run() == Some(6), "no number is used again");
     Ok(())
 }

@@ -1,9 +1,10 @@
-use crate::tests::openings::{add_run_of_g, instances, moment, task_ids};
+use crate::tests::dags::task_ids;
+use crate::tests::openings::{add_run_of_g, instances, moment};
 use crate::tests::seen::first_instance_is;
 use crate::tests::steps::Step;
-use af_graph::TaskState;
+use af_graph::{TaskIds, TaskState};
 use af_names::DagId;
-use af_runs::{Instance, RunFilter, Selection};
+use af_runs::{ChosenTasks, Instance, RunFilter, Selection};
 use af_sched::{Claim, State};
 use std::alloc::Global;
 use std::test::Fail;
@@ -39,38 +40,78 @@ fn adds_run(alloc: Global, state: &mut State, number: u64) -> Result<bool, Fail>
 /// Whether a step that clears instances, or asks which a clear would touch, goes as it says.
 fn cleared_or_chosen(alloc: Global, state: &mut State, step: Step) -> Result<bool, Fail> {
     match step {
-        Step::Clears(only_failed) => {
-            let selection = of_t(alloc, state, only_failed)?;
-            clears(alloc, state, &selection)
-        }
-        Step::ClearsRun(number, only_failed) => {
-            let selection = of_t(alloc, state, only_failed)?;
-            state.clear_run(number, &selection);
-            Ok(true)
-        }
+        Step::Clears(only_failed) => clears(alloc, state, only_failed),
+        Step::ClearsRun(number, only_failed) => clears_run(alloc, state, number, only_failed),
         Step::Alone(only_failed) => is_t_alone(alloc, state, only_failed),
         Step::Left(only_failed, wanted) => Ok(are_left(alloc, state, only_failed)? == wanted),
         _ => Ok(false),
     }
 }
 
-/// Clears what is selected of the runs of DAG g.
-fn clears(alloc: Global, state: &mut State, selection: &Selection) -> Result<bool, Fail> {
-    state.clear_instances(&of_g(alloc)?, selection);
+/// Clears task t of the runs of DAG g, or where it failed alone.
+fn clears(alloc: Global, state: &mut State, only_failed: bool) -> Result<bool, Fail> {
+    let filter = of_g(alloc)?;
+    clear(alloc, state, &filter, only_failed)?;
+    Ok(true)
+}
+
+/// Clears task t of these runs, or where it failed alone.
+fn clear(
+    alloc: Global,
+    state: &mut State,
+    filter: &RunFilter,
+    only_failed: bool,
+) -> Result<(), Fail> {
+    let selection = of_t(alloc, state, only_failed)?;
+    state.clear_instances(filter, &selection);
+    Ok(())
+}
+
+/// Clears task t of the run of this number, or where it failed alone.
+fn clears_run(
+    alloc: Global,
+    state: &mut State,
+    number: u64,
+    only_failed: bool,
+) -> Result<bool, Fail> {
+    let selection = of_t(alloc, state, only_failed)?;
+    state.clear_run(number, &selection);
     Ok(true)
 }
 
 /// Whether the runs of DAG g are left as they are by a clear.
 fn are_left(alloc: Global, state: &State, only_failed: bool) -> Result<bool, Fail> {
+    let filter = of_g(alloc)?;
+    are_left_of(alloc, state, &filter, only_failed)
+}
+
+/// Whether these runs are left as they are by a clear.
+fn are_left_of(
+    alloc: Global,
+    state: &State,
+    filter: &RunFilter,
+    only_failed: bool,
+) -> Result<bool, Fail> {
     let selection = of_t(alloc, state, only_failed)?;
-    Ok(state.are_left_by(&of_g(alloc)?, &selection))
+    Ok(state.are_left_by(filter, &selection))
 }
 
 /// Ticks at a moment and claims at the next: whether that is this try of run 1.
 fn tries(alloc: Global, state: &mut State, micros: u64, try_number: u32) -> Result<bool, Fail> {
     let changed = state.tick(alloc, moment(micros)?)?;
-    let claim = state.claim(alloc, moment(micros.saturating_add(1))?)?;
-    Ok(changed && is_try(claim.as_ref(), try_number))
+    let is_claimed = claims_try(alloc, state, micros.saturating_add(1), try_number)?;
+    Ok(changed && is_claimed)
+}
+
+/// Claims at a moment: whether that is this try of run 1.
+fn claims_try(
+    alloc: Global,
+    state: &mut State,
+    micros: u64,
+    try_number: u32,
+) -> Result<bool, Fail> {
+    let claim = state.claim(alloc, moment(micros)?)?;
+    Ok(is_try(claim.as_ref(), try_number))
 }
 
 /// Whether a claim is of this try of run 1.
@@ -83,9 +124,29 @@ fn is_try(claim: Option<&Claim>, try_number: u32) -> bool {
 
 /// Whether of the instances the first of run 1 is chosen alone.
 fn is_t_alone(alloc: Global, state: &State, only_failed: bool) -> Result<bool, Fail> {
-    let selection = of_t(alloc, state, only_failed)?;
     let filter = of_g(alloc)?;
-    let chosen = state.chosen(alloc, &filter, &selection)?;
+    is_alone(alloc, state, &filter, only_failed)
+}
+
+/// Whether of the instances of these runs the first of run 1 is chosen alone.
+fn is_alone(
+    alloc: Global,
+    state: &State,
+    filter: &RunFilter,
+    only_failed: bool,
+) -> Result<bool, Fail> {
+    let selection = of_t(alloc, state, only_failed)?;
+    is_chosen_alone(alloc, state, filter, &selection)
+}
+
+/// Whether of the instances that are selected the first of run 1 is chosen alone.
+fn is_chosen_alone(
+    alloc: Global,
+    state: &State,
+    filter: &RunFilter,
+    selection: &Selection,
+) -> Result<bool, Fail> {
+    let chosen = state.chosen(alloc, filter, selection)?;
     Ok(match chosen.as_slice() {
         [row] => row.run.number == 1 && row.place == 0,
         _ => false,
@@ -105,11 +166,14 @@ fn of_g(alloc: Global) -> Result<RunFilter, Fail> {
 /// The instances of task t, or those that failed alone.
 fn of_t(alloc: Global, state: &State, only_failed: bool) -> Result<Selection, Fail> {
     let ids = task_ids(alloc, &["t"])?;
+    let tasks = chosen(alloc, state, &ids)?;
+    Ok(Selection { tasks, only_failed })
+}
+
+/// These tasks of DAG g.
+fn chosen(alloc: Global, state: &State, ids: &TaskIds) -> Result<ChosenTasks, Fail> {
     let dag_id = DagId::parse(alloc, "g")?;
-    Ok(Selection {
-        tasks: state.chosen_tasks(alloc, &dag_id, Some(&ids))?,
-        only_failed,
-    })
+    Ok(state.chosen_tasks(alloc, &dag_id, Some(ids))?)
 }
 
 /// An instance without a state, tried so often, that may be tried so often.

@@ -1,54 +1,59 @@
 use crate::tests::asserts::row_holds;
-use crate::tests::openings::{instances, moment, task, with_pool};
+use crate::tests::dags::{push_tasks, task};
+use crate::tests::openings::{add_g, add_pool, add_r, moment};
 use crate::tests::seen::first_are;
 use TaskState::{Failed, NoStatus, Running, Scheduled, Skipped, Success, UpstreamFailed};
 use af_graph::{Rule, TaskSpec, TaskState};
-use af_names::PoolName;
 use af_sched::State;
 use std::alloc::Global;
 use std::test::Fail;
 
 /// Task d of this rule and a pool without slots.
 fn last(alloc: Global, rule: Rule) -> Result<TaskSpec, Fail> {
-    let mut last = task(alloc, "d", &["b", "c"], rule)?;
-    last.pool = PoolName::parse(alloc, "p")?;
-    Ok(last)
+    task(alloc, "d", &["b", "c"], "p", rule)
 }
 
 /// Tasks d, a, b and c of a diamond, where d's rule is this.
 fn diamond(alloc: Global, rule: Rule) -> Result<Vec<TaskSpec>, Fail> {
     let mut tasks = vec![in alloc; last(alloc, rule)?]?;
-    for (task_id, upstream) in ABOVE {
-        tasks.push(task(alloc, task_id, upstream, Rule::AllSuccess)?)?;
-    }
+    push_tasks(alloc, &mut tasks, ABOVE)?;
     Ok(tasks)
 }
 
 /// The tasks above d, and those upstream of each.
-const ABOVE: [(&str, &[&str]); 3] = [("a", &[]), ("b", &["a"]), ("c", &["a"])];
+const ABOVE: &[(&str, &[&str])] = &[("a", &[]), ("b", &["a"]), ("c", &["a"])];
 
-/// A run of a diamond whose instances are in these states, where d's rule is this and its pool has no slots.
-fn diamond_of(alloc: Global, rule: Rule, states: &[TaskState]) -> Result<State, Fail> {
-    let tasks = diamond(alloc, rule)?;
-    with_pool(alloc, 0, tasks, false, instances(alloc, states)?)
+/// Adds a run of a diamond whose instances are in these states, where d's rule is this and its pool has no slots.
+fn add_diamond(
+    alloc: Global,
+    state: &mut State,
+    rule: Rule,
+    states: &[TaskState],
+) -> Result<(), Fail> {
+    add_pool(alloc, state, "p", 0)?;
+    add_g(alloc, state, diamond(alloc, rule)?, false)?;
+    add_r(alloc, state, states)
 }
 
-/// The states of a diamond's tasks d, a, b and c after a tick, of which a has succeeded and b and c are in these states,
-/// where d's rule is this and its pool has no slots.
-fn becomes(
-    alloc: Global,
-    rule: Rule,
-    b: TaskState,
-    c: TaskState,
-    wanted: TaskState,
-) -> Result<bool, Fail> {
-    let mut state = diamond_of(alloc, rule, &[NoStatus, Success, b, c])?;
+/// Whether the states of a diamond's tasks d, a, b and c, added to a new state, are those of a row after a tick, where a has
+/// succeeded and the pool of d has no slots.
+fn becomes(alloc: Global, state: &mut State, row: &Row) -> Result<bool, Fail> {
+    let (rule, b, c, wanted) = *row;
+    add_diamond(alloc, state, rule, &[NoStatus, Success, b, c])?;
     let _changes = state.tick(alloc, moment(7)?)?;
-    Ok(first_are(&state, &[wanted, Success, b, c]))
+    Ok(first_are(state, &[wanted, Success, b, c]))
+}
+
+/// Whether a diamond goes by the rule of a row.
+fn goes(alloc: Global, row: &Row) -> Result<bool, Fail> {
+    let mut state = State::new(alloc)?;
+    becomes(alloc, &mut state, row)
 }
 
 /// A rule, the states of b and c, and what d becomes.
-const TABLE: [(Rule, TaskState, TaskState, TaskState); 24] = [
+type Row = (Rule, TaskState, TaskState, TaskState);
+
+const TABLE: [Row; 24] = [
     (Rule::AllSuccess, Success, Success, Scheduled),
     (Rule::AllSuccess, Failed, Running, UpstreamFailed),
     (Rule::AllSuccess, Success, Skipped, Skipped),
@@ -77,9 +82,9 @@ const TABLE: [(Rule, TaskState, TaskState, TaskState); 24] = [
 
 #[test]
 fn a_diamond_goes_by_its_rule(rt: HostRuntime) -> Result<(), Fail> {
-    for (row, (rule, b, c, wanted)) in TABLE.iter().enumerate() {
-        let becomes = becomes(rt.alloc(), *rule, *b, *c, *wanted)?;
-        row_holds(&rt, becomes, row);
+    for (place, row) in TABLE.iter().enumerate() {
+        let goes = goes(rt.alloc(), row)?;
+        row_holds(&rt, goes, place);
     }
     Ok(())
 }

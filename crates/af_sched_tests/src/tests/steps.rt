@@ -1,4 +1,6 @@
-use crate::tests::openings::{at, dag_of_one, moment};
+use crate::tests::asserts::all_go;
+use crate::tests::dags::dag_of_one;
+use crate::tests::openings::{at, moment};
 use crate::tests::redone::redone;
 use crate::tests::seen::{are_dags, cursor_is, first_are, first_is, runs_are, states_are};
 use af_graph::TaskState;
@@ -6,6 +8,7 @@ use af_names::{DagId, Instant, PoolName, RunId, TaskId};
 use af_runs::{Mark, RunState};
 use af_sched::{AddDagFault, Claim, Outcome, ReportFault, State};
 use std::alloc::Global;
+use std::process::Abort;
 use std::test::Fail;
 
 /// What is done to a state, or seen of it.
@@ -63,6 +66,19 @@ pub enum Step {
     First(&'static str, &'static str),
 }
 
+/// Ends the test where one of these steps, one after the other, does not go as it says.
+pub fn play(
+    rt: &impl Abort,
+    alloc: Global,
+    state: &mut State,
+    steps: &[Step],
+    what: &str,
+) -> Result<(), Fail> {
+    let fault = first_fault(alloc, state, steps)?;
+    all_go(rt, fault, what);
+    Ok(())
+}
+
 /// Of these steps, one after the other, the number of the first that does not go as it says.
 pub fn first_fault(
     alloc: Global,
@@ -85,12 +101,20 @@ fn goes(alloc: Global, state: &mut State, step: Step) -> Result<bool, Fail> {
         Step::Planned(moment) => planned(alloc, state, moment),
         Step::Claims(task_id) => claims(alloc, state, Some(task_id)),
         Step::ClaimsNone => claims(alloc, state, None),
+        Step::Ends(_, _, _) | Step::Reports(_, _, _, _, _, _) => reported(alloc, state, step),
+        _ => changed_or_seen(alloc, state, step),
+    }
+}
+
+/// Whether a step that reports a claim goes as it says.
+fn reported(alloc: Global, state: &mut State, step: Step) -> Result<bool, Fail> {
+    match step {
         Step::Ends(task_id, outcome, micros) => ends(alloc, state, task_id, outcome, micros),
         Step::Reports(run, task_id, try_number, outcome, micros, wanted) => {
             let claim = claim_of(alloc, run, task_id, try_number)?;
             reports(state, &claim, outcome, micros, wanted)
         }
-        _ => changed_or_seen(alloc, state, step),
+        _ => Ok(false),
     }
 }
 
@@ -103,10 +127,7 @@ fn ticks(alloc: Global, state: &mut State, moment: &str) -> Result<bool, Fail> {
 fn changed_or_seen(alloc: Global, state: &mut State, step: Step) -> Result<bool, Fail> {
     match step {
         Step::Slots(slots) => sets_slots(alloc, state, slots),
-        Step::Paused(dag_id, is_paused) => {
-            state.set_paused(&DagId::parse(alloc, dag_id)?, is_paused);
-            Ok(true)
-        }
+        Step::Paused(dag_id, is_paused) => is_paused_so(alloc, state, dag_id, is_paused),
         Step::Added(dag_id, wanted) => is_added(alloc, state, dag_id, wanted),
         Step::Dags(_)
         | Step::Are(_)
@@ -116,6 +137,17 @@ fn changed_or_seen(alloc: Global, state: &mut State, step: Step) -> Result<bool,
         | Step::First(_, _) => seen(state, step),
         _ => redone(alloc, state, step),
     }
+}
+
+/// Pauses the DAG of this id, or lets it go on.
+fn is_paused_so(
+    alloc: Global,
+    state: &mut State,
+    dag_id: &str,
+    is_paused: bool,
+) -> Result<bool, Fail> {
+    state.set_paused(&DagId::parse(alloc, dag_id)?, is_paused);
+    Ok(true)
 }
 
 /// Whether pool p gets so many slots.

@@ -3,7 +3,7 @@ use af_sched::{AddDagFault, Outcome, ReportFault};
 use std::alloc::Global;
 use std::test::Fail;
 
-const OUTCOMES: [(&str, Option<Outcome>); 5] = [
+const OUTCOMES: &[(&str, Option<Outcome>)] = &[
     ("success", Some(Outcome::Success)),
     ("failed", Some(Outcome::Failed)),
     ("skipped", Some(Outcome::Skipped)),
@@ -11,7 +11,7 @@ const OUTCOMES: [(&str, Option<Outcome>); 5] = [
     ("", None),
 ];
 
-const ADDED: [(AddDagFault, &str); 6] = [
+const ADDED: &[(AddDagFault, &str)] = &[
     (
         AddDagFault::NoActiveRuns,
         "none of the DAG's runs may be running",
@@ -23,7 +23,7 @@ const ADDED: [(AddDagFault, &str); 6] = [
     (AddDagFault::OutOfMemory, "out of memory"),
 ];
 
-const REPORTED: [(ReportFault, &str); 3] = [
+const REPORTED: &[(ReportFault, &str)] = &[
     (ReportFault::NoSuchInstance, "no such instance"),
     (ReportFault::NotRunning, "the instance is not running"),
     (ReportFault::WrongTry, "the instance runs another try"),
@@ -41,7 +41,7 @@ fn has_text(outcome: Option<Outcome>, text: &str) -> bool {
 fn outcomes_are_read_by_their_texts(rt: HostRuntime) -> Result<(), Fail> {
     for (text, wanted) in OUTCOMES {
         let outcome = Outcome::read(text);
-        holds(&rt, outcome == wanted, text);
+        holds(&rt, outcome == *wanted, text);
         holds(&rt, has_text(outcome, text), text);
     }
     Ok(())
@@ -62,7 +62,7 @@ fn is_told_of_a_report(alloc: Global, fault: ReportFault, text: &str) -> Result<
 #[test]
 fn faults_of_adding_a_dag_have_texts(rt: HostRuntime) -> Result<(), Fail> {
     for (fault, text) in ADDED {
-        let is_told = is_told_of_adding(rt.alloc(), fault, text)?;
+        let is_told = is_told_of_adding(rt.alloc(), *fault, text)?;
         holds(&rt, is_told, text);
     }
     Ok(())
@@ -71,7 +71,7 @@ fn faults_of_adding_a_dag_have_texts(rt: HostRuntime) -> Result<(), Fail> {
 #[test]
 fn faults_of_a_report_have_texts(rt: HostRuntime) -> Result<(), Fail> {
     for (fault, text) in REPORTED {
-        let is_told = is_told_of_a_report(rt.alloc(), fault, text)?;
+        let is_told = is_told_of_a_report(rt.alloc(), *fault, text)?;
         holds(&rt, is_told, text);
     }
     Ok(())

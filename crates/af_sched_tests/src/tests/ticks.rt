@@ -1,15 +1,17 @@
-use crate::tests::asserts::{all_go, holds};
+use crate::tests::asserts::holds;
+use crate::tests::dags::{ONE_TASK, tasks};
+use crate::tests::fresh::with_new_state;
 use crate::tests::openings::{
-    ONE_TASK, add_dag_of_one, add_run_of_one, at, instances, pooled_tasks, scheduled, tasks,
-    with_pool,
+    add_dag_of_one, add_g, add_pool, add_pooled, add_r, add_runs_of_one, add_scheduled, at,
 };
 use crate::tests::seen::are;
-use crate::tests::steps::{Step, first_fault};
-use af_graph::{TaskSpec, TaskState};
+use crate::tests::steps::{Step, play};
+use af_graph::TaskState;
 use af_names::Preset;
 use af_runs::RunState;
 use af_sched::{Outcome, State};
 use std::alloc::Global;
+use std::process::Abort;
 use std::test::Fail;
 
 const NEW_YEAR: &str = "2024-01-01T00:00:00Z";
@@ -33,9 +35,9 @@ const THE_RETRY: &str = "1970-01-01T00:05:00Z";
 const AFTER_THE_RETRY: &str = "1970-01-01T00:05:01Z";
 
 /// Which DAGs there are, and whether they are paused; whose runs are added, with which ids and dates.
-const DAGS: [(&str, bool); 2] = [("g", false), ("h", true)];
+const DAGS: &[(&str, bool)] = &[("g", false), ("h", true)];
 
-const RUNS: [(&str, &str, u64); 4] = [("g", "a", 0), ("h", "a", 0), ("g", "b", 1), ("g", "c", 2)];
+const RUNS: &[(&str, &str, u64)] = &[("g", "a", 0), ("h", "a", 0), ("g", "b", 1), ("g", "c", 2)];
 
 const UNTRIED: &[TaskState] = &[TaskState::NoStatus];
 
@@ -71,24 +73,29 @@ const RUNS_START_BY_NUMBER: &[Step] = &[
     Step::Rests(THREE_SECONDS_LATER),
 ];
 
-/// Two DAGs of one task, two runs of each at a time, of which h is paused, and queued runs 1, 3, 4 of g and 2 of h.
-fn two_dags(alloc: Global) -> Result<State, Fail> {
-    let mut state = State::new(alloc)?;
+/// Adds two DAGs of one task, two runs of each at a time, of which h is paused, and queued runs 1, 3, 4 of g and 2 of h.
+fn add_two_dags(alloc: Global, state: &mut State) -> Result<(), Fail> {
     for (dag_id, is_paused) in DAGS {
-        add_dag_of_one(alloc, &mut state, dag_id, 1, is_paused)?;
+        add_dag_of_one(alloc, state, dag_id, 1, *is_paused)?;
     }
-    for (dag_id, run_id, date) in RUNS {
-        let _number = add_run_of_one(alloc, &mut state, dag_id, run_id, date, TaskState::NoStatus)?;
-    }
-    Ok(state)
+    add_runs_of_one(alloc, state, RUNS, TaskState::NoStatus)
 }
 
 #[test]
 fn runs_start_by_number(rt: HostRuntime) -> Result<(), Fail> {
-    let mut state = two_dags(rt.alloc())?;
-    let fault = first_fault(rt.alloc(), &mut state, RUNS_START_BY_NUMBER)?;
-    all_go(&rt, fault, "runs start by number");
-    Ok(())
+    with_new_state(&rt, start_by_number)
+}
+
+/// Ends the test where the runs of two DAGs, added to a new state, do not start by number.
+fn start_by_number(rt: &impl Abort, alloc: Global, state: &mut State) -> Result<(), Fail> {
+    add_two_dags(alloc, state)?;
+    play(
+        rt,
+        alloc,
+        state,
+        RUNS_START_BY_NUMBER,
+        "runs start by number",
+    )
 }
 
 const FOUR_IN_A_POOL: &[(&str, u64, i32)] = &[("x", 3, 5), ("y", 1, 1), ("z", 1, 1), ("w", 1, 1)];
@@ -167,45 +174,56 @@ const A_RETRY_WAITS: &[Step] = &[
     Step::Runs(1, 0),
 ];
 
-/// The number of the first step that does not go as it says, of a run of these tasks whose instances are in these states.
-fn fault_in(
-    alloc: Global,
-    tasks: Vec<TaskSpec>,
-    states: &[TaskState],
-    steps: &[Step],
-) -> Result<Option<usize>, Fail> {
-    let instances = instances(alloc, states)?;
-    let mut state = with_pool(alloc, 2, tasks, false, instances)?;
-    first_fault(alloc, &mut state, steps)
-}
-
 #[test]
 fn a_lowered_pool_is_not_filled(rt: HostRuntime) -> Result<(), Fail> {
-    let tasks = pooled_tasks(rt.alloc(), FOUR_IN_A_POOL)?;
-    let fault = fault_in(
-        rt.alloc(),
-        tasks,
-        FOUR_UNTRIED,
+    with_new_state(&rt, is_not_filled)
+}
+
+/// Ends the test where of four tasks of a pool, added to a new state, more are queued than fit once it is lowered.
+fn is_not_filled(rt: &impl Abort, alloc: Global, state: &mut State) -> Result<(), Fail> {
+    add_pooled(alloc, state, 2, FOUR_IN_A_POOL, false, FOUR_UNTRIED)?;
+    play(
+        rt,
+        alloc,
+        state,
         A_LOWERED_POOL_IS_NOT_FILLED,
-    )?;
-    all_go(&rt, fault, "a lowered pool");
-    Ok(())
+        "a lowered pool",
+    )
+}
+
+/// Adds pool p of two slots, a DAG g of these tasks of the default pool, and a run of it, whose instances are in these
+/// states.
+fn add_run_of(
+    alloc: Global,
+    state: &mut State,
+    rows: &[(&str, &[&str])],
+    states: &[TaskState],
+) -> Result<(), Fail> {
+    add_pool(alloc, state, "p", 2)?;
+    add_g(alloc, state, tasks(alloc, rows)?, false)?;
+    add_r(alloc, state, states)
 }
 
 #[test]
 fn a_failure_goes_down_in_one_tick(rt: HostRuntime) -> Result<(), Fail> {
-    let tasks = tasks(rt.alloc(), THREE_IN_A_ROW)?;
-    let fault = fault_in(rt.alloc(), tasks, THE_FIRST_HAS_FAILED, A_FAILURE_GOES_DOWN)?;
-    all_go(&rt, fault, "a failure");
-    Ok(())
+    with_new_state(&rt, goes_down)
+}
+
+/// Ends the test where the failure of the first of three tasks, added to a new state, does not go down.
+fn goes_down(rt: &impl Abort, alloc: Global, state: &mut State) -> Result<(), Fail> {
+    add_run_of(alloc, state, THREE_IN_A_ROW, THE_FIRST_HAS_FAILED)?;
+    play(rt, alloc, state, A_FAILURE_GOES_DOWN, "a failure")
 }
 
 #[test]
 fn a_retry_waits_for_its_moment(rt: HostRuntime) -> Result<(), Fail> {
-    let tasks = tasks(rt.alloc(), ONE_TASK)?;
-    let fault = fault_in(rt.alloc(), tasks, UNTRIED, A_RETRY_WAITS)?;
-    all_go(&rt, fault, "a retry");
-    Ok(())
+    with_new_state(&rt, waits)
+}
+
+/// Ends the test where the retry of a task, added to a new state, does not wait for its moment.
+fn waits(rt: &impl Abort, alloc: Global, state: &mut State) -> Result<(), Fail> {
+    add_run_of(alloc, state, ONE_TASK, UNTRIED)?;
+    play(rt, alloc, state, A_RETRY_WAITS, "a retry")
 }
 
 /// How many runs have their one instance queued.
@@ -241,11 +259,21 @@ fn after_tick(alloc: Global, state: &mut State, moment: &str) -> Result<&'static
 
 #[test]
 fn a_refused_growth_leaves_the_state(rt: HostRuntime) -> Result<(), Fail> {
-    let mut state = scheduled(rt.alloc(), Preset::Hourly, NEW_YEAR, true, false)?;
-    let steps = after_tick(rt.alloc(), &mut state, ONE_DAY_LATER)?;
-    let fault = first_fault(rt.alloc(), &mut state, steps)?;
-    all_go(&rt, fault, "a refused growth");
-    let is_claimed = state.runs().is_empty() || claims_one(rt.alloc(), &mut state, ONE_DAY_LATER)?;
-    holds(&rt, is_claimed, "one is claimed, or as before");
+    with_new_state(&rt, is_left)
+}
+
+/// Ends the test where a DAG, added to a new state, is not as before once a growth is refused, or has not sixteen runs where
+/// none is.
+fn is_left(rt: &impl Abort, alloc: Global, state: &mut State) -> Result<(), Fail> {
+    add_scheduled(alloc, state, Preset::Hourly, NEW_YEAR, true, false)?;
+    let steps = after_tick(alloc, state, ONE_DAY_LATER)?;
+    play(rt, alloc, state, steps, "a refused growth")?;
+    one_is_claimed(rt, alloc, state)
+}
+
+/// Ends the test where there are runs, and a claim does not leave as many queued instances as it is to leave.
+fn one_is_claimed(rt: &impl Abort, alloc: Global, state: &mut State) -> Result<(), Fail> {
+    let is_claimed = state.runs().is_empty() || claims_one(alloc, state, ONE_DAY_LATER)?;
+    holds(rt, is_claimed, "one is claimed, or as before");
     Ok(())
 }

@@ -1,4 +1,5 @@
 use crate::tests::asserts::holds;
+use crate::tests::fresh::with_new_state;
 use af_names::VarKey;
 use af_sched::State;
 use af_vars::{VarText, Variable, VariableFault};
@@ -114,7 +115,7 @@ fn goes(alloc: Global, state: &mut State, row: Row) -> Result<(bool, bool), Fail
 }
 
 /// Ends the test where a change of variables is not foretold and told as it should be.
-fn are_changed(rt: &impl Abort, alloc: Global, state: &mut State) -> Result<(), Fail> {
+fn are_told(rt: &impl Abort, alloc: Global, state: &mut State) -> Result<(), Fail> {
     for row in CHANGES {
         let (before, then) = goes(alloc, state, *row)?;
         holds(rt, before, row.0);
@@ -125,12 +126,16 @@ fn are_changed(rt: &impl Abort, alloc: Global, state: &mut State) -> Result<(), 
 
 #[test]
 fn variables_are_changed_one_by_one(rt: HostRuntime) -> Result<(), Fail> {
-    let mut state = State::new(rt.alloc())?;
-    holds(&rt, are_variables(&state, &[]), "none at first");
+    with_new_state(&rt, are_changed)
+}
+
+/// Ends the test where the variables of a new state are not changed as they should be.
+fn are_changed(rt: &impl Abort, alloc: Global, state: &mut State) -> Result<(), Fail> {
+    holds(rt, are_variables(state, &[]), "none at first");
     state.reserve_variables(3)?;
-    are_changed(&rt, rt.alloc(), &mut state)?;
-    let are_left = are_variables(&state, LEFT);
-    holds(&rt, are_left, "the variables that are left");
+    are_told(rt, alloc, state)?;
+    let are_left = are_variables(state, LEFT);
+    holds(rt, are_left, "the variables that are left");
     Ok(())
 }
 
@@ -145,12 +150,24 @@ fn has_text(found: Option<&Variable>, wanted: Option<&str>) -> bool {
 
 #[test]
 fn a_variable_is_looked_up(rt: HostRuntime) -> Result<(), Fail> {
-    let mut state = State::new(rt.alloc())?;
-    add_variable(rt.alloc(), &mut state, "k", "v")?;
-    for (name, wanted) in [("k", Some("v")), ("x", None)] {
-        let key = VarKey::parse(rt.alloc(), name)?;
-        let is_there = has_text(state.variable(&key), wanted);
-        holds(&rt, is_there, name);
+    with_new_state(&rt, is_looked_up)
+}
+
+/// Ends the test where a variable that is added to a new state is not found, or another is.
+fn is_looked_up(rt: &impl Abort, alloc: Global, state: &mut State) -> Result<(), Fail> {
+    add_variable(alloc, state, "k", "v")?;
+    for (name, wanted) in LOOKED_UP {
+        let is_there = is_there(alloc, state, name, *wanted)?;
+        holds(rt, is_there, name);
     }
     Ok(())
+}
+
+/// Keys, and the texts that are found.
+const LOOKED_UP: &[(&str, Option<&str>)] = &[("k", Some("v")), ("x", None)];
+
+/// Whether the variable of this key has this text; of none, whether there is no variable.
+fn is_there(alloc: Global, state: &State, name: &str, wanted: Option<&str>) -> Result<bool, Fail> {
+    let key = VarKey::parse(alloc, name)?;
+    Ok(has_text(state.variable(&key), wanted))
 }
