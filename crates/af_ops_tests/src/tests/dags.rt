@@ -1,7 +1,8 @@
 //! Who reads DAGs, and who pauses them.
-use super::asserts::row_holds;
-use super::told::{Sent, Told};
-use super::{Row, play_opened};
+use super::playing::{Story, all_told};
+use super::scenes::Scene;
+use super::told::{CUT, EMPTY, GO_ON, NOTHING, PAUSE};
+use super::{Row, told};
 use af_ops::Endpoint;
 use std::test::Fail;
 
@@ -12,140 +13,91 @@ const READINGS: &[Row] = &[
         "bob",
         Endpoint::ListDags,
         "",
-        Sent::Nothing,
-        Told::OneDag,
+        NOTHING,
+        told::ONE_DAG,
         Some(0),
     ),
-    (
-        "bob",
-        Endpoint::GetDag,
-        "a",
-        Sent::Nothing,
-        Told::NoA,
-        Some(0),
-    ),
+    ("bob", Endpoint::GetDag, "a", NOTHING, told::NO_A, Some(0)),
     (
         "bob",
         Endpoint::GetDag,
         "nosuch",
-        Sent::Nothing,
-        Told::NoNosuch,
+        NOTHING,
+        told::NO_NOSUCH,
         Some(0),
     ),
     (
         "vera",
         Endpoint::GetDag,
         "nosuch",
-        Sent::Nothing,
-        Told::Absent,
+        NOTHING,
+        told::ABSENT,
         Some(0),
     ),
     (
         "pat",
         Endpoint::ListDags,
         "",
-        Sent::Nothing,
-        Told::NoList,
+        NOTHING,
+        told::NO_LIST,
         Some(0),
     ),
     (
         "nobody",
         Endpoint::ListDags,
         "",
-        Sent::Nothing,
-        Told::Nobody,
+        NOTHING,
+        told::NOBODY,
         Some(0),
     ),
-    (
-        "",
-        Endpoint::Version,
-        "",
-        Sent::Nothing,
-        Told::Version,
-        None,
-    ),
+    ("", Endpoint::Version, "", NOTHING, told::VERSION, None),
 ];
 
 /// Those who pause a DAG.
 const CHANGES: &[Row] = &[
+    ("", Endpoint::PauseDag, "b", CUT, told::NOBODY, Some(0)),
+    ("vera", Endpoint::PauseDag, "b", CUT, told::NO_EDIT, Some(0)),
     (
-        "",
+        "uma",
         Endpoint::PauseDag,
-        "b",
-        Sent::Cut,
-        Told::Nobody,
-        Some(0),
-    ),
-    (
-        "vera",
-        Endpoint::PauseDag,
-        "b",
-        Sent::Cut,
-        Told::NoEdit,
+        "nosuch",
+        CUT,
+        told::BAD_BODY,
         Some(0),
     ),
     (
         "uma",
         Endpoint::PauseDag,
         "nosuch",
-        Sent::Cut,
-        Told::BadBody,
+        EMPTY,
+        told::BAD_MEMBER,
         Some(0),
     ),
     (
         "uma",
         Endpoint::PauseDag,
         "nosuch",
-        Sent::Empty,
-        Told::BadMember,
+        PAUSE,
+        told::ABSENT,
         Some(0),
     ),
-    (
-        "uma",
-        Endpoint::PauseDag,
-        "nosuch",
-        Sent::Pause,
-        Told::Absent,
-        Some(0),
-    ),
+    ("uma", Endpoint::PauseDag, "b", PAUSE, told::PAUSED, Some(1)),
+    ("uma", Endpoint::PauseDag, "b", PAUSE, told::PAUSED, Some(1)),
+    ("bob", Endpoint::GetDag, "b", NOTHING, told::PAUSED, Some(1)),
     (
         "uma",
         Endpoint::PauseDag,
         "b",
-        Sent::Pause,
-        Told::Paused,
-        Some(1),
-    ),
-    (
-        "uma",
-        Endpoint::PauseDag,
-        "b",
-        Sent::Pause,
-        Told::Paused,
-        Some(1),
-    ),
-    (
-        "bob",
-        Endpoint::GetDag,
-        "b",
-        Sent::Nothing,
-        Told::Paused,
-        Some(1),
-    ),
-    (
-        "uma",
-        Endpoint::PauseDag,
-        "b",
-        Sent::GoOn,
-        Told::Running,
+        GO_ON,
+        told::RUNNING,
         Some(2),
     ),
     (
         "vera",
         Endpoint::ListDags,
         "",
-        Sent::Nothing,
-        Told::AllDags,
+        NOTHING,
+        told::ALL_DAGS,
         Some(2),
     ),
 ];
@@ -155,21 +107,17 @@ pub const ALL_DAGS: Row = (
     "vera",
     Endpoint::ListDags,
     "",
-    Sent::Nothing,
-    Told::AllDags,
+    NOTHING,
+    told::ALL_DAGS,
     Some(0),
 );
 
 #[test]
 fn what_readers_are_told(rt: HostRuntime) -> Result<(), Fail> {
-    let told = play_opened(rt.alloc(), READINGS)?;
-    row_holds(&rt, told == READINGS.len(), told);
-    Ok(())
+    all_told(&rt, rt.alloc(), Scene::ThreeDags, Story::Rows(READINGS))
 }
 
 #[test]
 fn what_is_paused(rt: HostRuntime) -> Result<(), Fail> {
-    let told = play_opened(rt.alloc(), CHANGES)?;
-    row_holds(&rt, told == CHANGES.len(), told);
-    Ok(())
+    all_told(&rt, rt.alloc(), Scene::ThreeDags, Story::Rows(CHANGES))
 }

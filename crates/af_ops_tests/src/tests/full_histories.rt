@@ -1,58 +1,27 @@
 //! What is permitted where the history is full, or all but full.
 use super::asserts::holds;
-use super::users::policy;
-use super::{named, now, state};
-use af_ops::{CallFault, Endpoint, Op, OpFault, Under, decide};
-use af_sched::State;
+use super::decisions::permitted_in;
+use super::scenes::Scene;
+use af_ops::Endpoint;
 use std::alloc::Global;
 use std::test::Fail;
 
-/// What comes of an operation where there are so many entries: whether it is permitted, or the history is full.
-pub fn with_entries(
-    alloc: Global,
-    state: &mut State,
-    entries: u32,
-    who: &str,
-    op: &Op,
-) -> Result<Option<bool>, Fail> {
-    let policy = policy(alloc)?;
-    let under = Under {
-        version: 0,
-        seq: entries,
-    };
-    match decide(
-        alloc,
-        &policy,
-        state,
-        under,
-        1_000_000,
-        Some(who.as_bytes()),
-        op,
-        now()?,
-    ) {
-        Ok(_) => Ok(Some(true)),
-        Err(CallFault::Op(OpFault::HistoryFull)) => Ok(Some(false)),
-        Err(_) => Ok(None),
-    }
-}
-
-/// The same of an operation of uma's at the DAG b.
+/// Whether an operation of uma's at the DAG b is permitted where there are so many entries, or the history is full.
 fn of_uma(
     alloc: Global,
     entries: u32,
     endpoint: Endpoint,
-    body: &[u8],
+    body: &'static str,
 ) -> Result<Option<bool>, Fail> {
-    let op = named(alloc, endpoint, "b", body)?;
-    let mut state = state(alloc)?;
-    with_entries(alloc, &mut state, entries, "uma", &op)
+    let request = (entries, "uma", endpoint, "b", body.as_bytes());
+    permitted_in(alloc, Scene::ThreeDags, request)
 }
 
 /// The last entry may be added, and none after it; what changes nothing is told nevertheless.
 #[test]
 fn a_full_history_takes_no_change(rt: HostRuntime) -> Result<(), Fail> {
     for (entries, endpoint, body, permitted) in FULL {
-        let told = of_uma(rt.alloc(), *entries, *endpoint, body.as_bytes())?;
+        let told = of_uma(rt.alloc(), *entries, *endpoint, *body)?;
         holds(&rt, told == Some(*permitted), body);
     }
     Ok(())

@@ -1,21 +1,19 @@
 //! Tables that are full: one row more is refused, after what else is wrong with it, and nothing is changed.
-use super::asserts::row_holds;
-use super::instances::add_pool;
+use super::playing::{Story, all_told};
 use super::row_texts::{
     K00001_EXISTS, NO_K, NO_P, NOTHING, P00001_EXISTS, POOL_P, POOL_P00001, TOO_MANY, VARIABLE_K,
     VARIABLE_K00001,
 };
-use super::rows::{Ask, play};
-use super::users::policy;
-use af_names::VarKey;
-use af_ops::{Endpoint, Standing, Status};
-use af_sched::State;
-use af_vars::{VarText, Variable};
-use std::alloc::Global;
+use super::rows::Ask;
+use super::scenes::{Kind, Scene};
+use af_ops::{Endpoint, Status};
 use std::test::Fail;
 
-/// So many pools there are at most, and so many variables.
-const MOST_ROWS: u32 = 65_536;
+/// As many pools as there may be, the default one among them.
+const ALL_POOLS: Scene = Scene::Numbered(Kind::Pool, 1, 65_536);
+
+/// As many variables as there may be.
+const ALL_VARIABLES: Scene = Scene::Numbered(Kind::Variable, 0, 65_536);
 
 /// There are as many pools as there may be.
 const POOLS: &[Ask] = &[
@@ -79,51 +77,12 @@ const VARIABLES: &[Ask] = &[
     ),
 ];
 
-fn add_numbered_pool(alloc: Global, state: &mut State, n: u32) -> Result<(), Fail> {
-    let name = format!(in alloc; "p{n:05}")?;
-    add_pool(alloc, state, name.as_str(), 1)
-}
-
-/// The server with as many pools as there may be, the default one among them.
-fn full_of_pools(alloc: Global) -> Result<Standing, Fail> {
-    let mut state = State::new(alloc)?;
-    for n in 1..MOST_ROWS {
-        add_numbered_pool(alloc, &mut state, n)?;
-    }
-    Ok(Standing::open(state))
-}
-
-fn add_numbered_variable(alloc: Global, state: &mut State, n: u32) -> Result<(), Fail> {
-    let key = format!(in alloc; "k{n:05}")?;
-    let key = VarKey::parse(alloc, key.as_str())?;
-    let value = VarText::of(String::from_str(alloc, "v")?);
-    state.add_variable(Variable { key, value })?;
-    Ok(())
-}
-
-/// The server with as many variables as there may be.
-fn full_of_variables(alloc: Global) -> Result<Standing, Fail> {
-    let mut state = State::new(alloc)?;
-    for n in 0..MOST_ROWS {
-        add_numbered_variable(alloc, &mut state, n)?;
-    }
-    Ok(Standing::open(state))
-}
-
 #[test]
 fn a_pool_too_many(rt: HostRuntime) -> Result<(), Fail> {
-    let policy = policy(rt.alloc())?;
-    let mut standing = full_of_pools(rt.alloc())?;
-    let told = play(rt.alloc(), &mut standing, &policy, POOLS)?;
-    row_holds(&rt, told == POOLS.len(), told);
-    Ok(())
+    all_told(&rt, rt.alloc(), ALL_POOLS, Story::Asks(POOLS))
 }
 
 #[test]
 fn a_variable_too_many(rt: HostRuntime) -> Result<(), Fail> {
-    let policy = policy(rt.alloc())?;
-    let mut standing = full_of_variables(rt.alloc())?;
-    let told = play(rt.alloc(), &mut standing, &policy, VARIABLES)?;
-    row_holds(&rt, told == VARIABLES.len(), told);
-    Ok(())
+    all_told(&rt, rt.alloc(), ALL_VARIABLES, Story::Asks(VARIABLES))
 }

@@ -1,6 +1,6 @@
 //! Members of an object, one of each kind; and parts of a path that are no names.
 use super::asserts::holds;
-use super::op;
+use super::calls::op;
 use af_names::{Instant, RunId, TaskId};
 use af_ops::{Endpoint, Text};
 use std::alloc::Global;
@@ -9,13 +9,17 @@ use std::test::Fail;
 const MEMBERS: &[u8] =
     br#""asked":"say \"x\"","date":"2024-01-01T00:00:00.000001+00:00","list":["x","\\"],"number":-7,"run":"r+1","task":"t-1""#;
 
+/// A member with an instant.
+fn put_date(out: &mut Text) -> Result<(), Fail> {
+    let date = Instant::read("2024-01-01T00:00:00.000001Z")?;
+    Ok(out.instant(true, "date", Some(date))?)
+}
+
 /// Members with a text, an instant and a list.
 fn put_texts(alloc: Global, out: &mut Text) -> Result<(), Fail> {
-    let date = Instant::read("2024-01-01T00:00:00.000001Z")?;
     out.text(alloc, false, "asked", "say \"x\"")?;
-    out.instant(true, "date", Some(date))?;
-    out.texts(alloc, true, "list", &["x", "\\"])?;
-    Ok(())
+    put_date(out)?;
+    Ok(out.texts(alloc, true, "list", &["x", "\\"])?)
 }
 
 /// Members with a number and the name of a run.
@@ -33,24 +37,28 @@ fn put_task(alloc: Global, out: &mut Text) -> Result<(), Fail> {
     Ok(())
 }
 
+fn put_members(alloc: Global, out: &mut Text) -> Result<(), Fail> {
+    put_texts(alloc, out)?;
+    put_run(alloc, out)?;
+    put_task(alloc, out)
+}
+
 /// A member of each kind.
 fn members(alloc: Global) -> Result<Vec<u8>, Fail> {
     let mut out = Text::with_room(alloc, 0)?;
-    put_texts(alloc, &mut out)?;
-    put_run(alloc, &mut out)?;
-    put_task(alloc, &mut out)?;
+    put_members(alloc, &mut out)?;
     Ok(out.into_bytes())
 }
 
 #[test]
 fn a_member_of_each_kind(rt: HostRuntime) -> Result<(), Fail> {
     let bytes = members(rt.alloc())?;
-    assert!(rt; bytes.as_slice() == MEMBERS, "the members");
+    holds(&rt, bytes.as_slice() == MEMBERS, "the members");
     Ok(())
 }
 
 /// Instants, and the member that tells each.
-const INSTANTS: [(&str, &[u8]); 5] = [
+const INSTANTS: &[(&str, &[u8])] = &[
     (
         "1970-01-01T00:00:00Z",
         br#""at":"1970-01-01T00:00:00+00:00""#,
@@ -73,22 +81,41 @@ const INSTANTS: [(&str, &[u8]); 5] = [
     ),
 ];
 
+fn put_instant(out: &mut Text, at: &str) -> Result<(), Fail> {
+    let at = Instant::read(at)?;
+    Ok(out.instant(false, "at", Some(at))?)
+}
+
+/// Whether an instant is told by these bytes.
+fn is_told(alloc: Global, text: &str, told: &[u8]) -> Result<bool, Fail> {
+    let mut out = Text::with_room(alloc, 0)?;
+    put_instant(&mut out, text)?;
+    Ok(out.into_bytes().as_slice() == told)
+}
+
 #[test]
 fn instants_as_they_are_told(rt: HostRuntime) -> Result<(), Fail> {
     for (text, told) in INSTANTS {
-        let mut out = Text::with_room(rt.alloc(), 0)?;
-        out.instant(false, "at", Some(Instant::read(text)?))?;
-        let bytes = out.into_bytes();
-        holds(&rt, bytes.as_slice() == told, text);
+        let is_told = is_told(rt.alloc(), text, told)?;
+        holds(&rt, is_told, text);
     }
     Ok(())
 }
 
+const NO_NAMES: &[&str] = &["", "~", "a b", "a:b"];
+
+fn is_no_name(alloc: Global, part: &str) -> Result<bool, Fail> {
+    let op = op(alloc, Endpoint::GetDag, part, b"")?;
+    let is_none = op.is_none();
+    drop(op);
+    Ok(is_none)
+}
+
 #[test]
 fn a_part_that_is_no_name(rt: HostRuntime) -> Result<(), Fail> {
-    for part in ["", "~", "a b", "a:b"] {
-        let op = op(rt.alloc(), Endpoint::GetDag, part, b"")?;
-        holds(&rt, op.is_none(), part);
+    for part in NO_NAMES {
+        let is_none = is_no_name(rt.alloc(), part)?;
+        holds(&rt, is_none, part);
     }
     Ok(())
 }

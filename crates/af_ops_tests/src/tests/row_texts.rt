@@ -12,6 +12,8 @@ pub const TOO_MANY_SLOTS: &[u8] = br#"{"name":"p","slots":1000001}"#;
 
 pub const POOL_P: &[u8] = br#"{"name":"p","slots":2}"#;
 
+pub const POOL_Q: &[u8] = br#"{"name":"q","slots":2}"#;
+
 pub const THREE_SLOTS: &[u8] = br#"{"slots":3}"#;
 
 pub const P_OF_TWO: &[u8] =

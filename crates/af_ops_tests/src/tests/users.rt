@@ -18,29 +18,44 @@ fn dag_b(alloc: Global) -> Result<Resource, Fail> {
     Ok(Resource::Dag(DagId::parse(alloc, "b")?))
 }
 
-/// A role that may do this to the DAG b alone, or also read all runs of what is read.
-fn role_at_b(alloc: Global, name: &str, action: Action, reads_runs: bool) -> Result<Role, Fail> {
-    let mut permissions = Permissions::new(alloc);
-    add(&mut permissions, action, dag_b(alloc)?)?;
+fn add_all(
+    alloc: Global,
+    permissions: &mut Permissions,
+    action: Action,
+    reads_runs: bool,
+) -> Result<(), Fail> {
+    add(permissions, action, dag_b(alloc)?)?;
     if reads_runs {
         add(
-            &mut permissions,
+            permissions,
             Action::Read,
             Resource::Kind(ResourceKind::DagRuns),
         )?;
     }
-    Ok(Role::new(RoleName::parse(alloc, name)?, permissions))
+    Ok(())
+}
+
+fn permissions(alloc: Global, action: Action, reads_runs: bool) -> Result<Permissions, Fail> {
+    let mut permissions = Permissions::new(alloc);
+    add_all(alloc, &mut permissions, action, reads_runs)?;
+    Ok(permissions)
+}
+
+/// A role that may do this to the DAG b alone, or also read all runs of what is read.
+fn role_at_b(alloc: Global, name: &str, action: Action, reads_runs: bool) -> Result<Role, Fail> {
+    let name = RoleName::parse(alloc, name)?;
+    Ok(Role::new(name, permissions(alloc, action, reads_runs)?))
 }
 
 /// Roles beside the default ones: what each may do to the DAG b, and of which it reads the runs.
-const ROLES: [(&str, Action, bool); 3] = [
+const ROLES: &[(&str, Action, bool)] = &[
     ("EditB", Action::Edit, false),
     ("OnlyB", Action::Read, false),
     ("RunsB", Action::Read, true),
 ];
 
 /// Who there is: each user's name, which is the token, and the user's roles.
-const USERS: [(&str, &[&str]); 7] = [
+const USERS: &[(&str, &[&str])] = &[
     ("adam", &["Admin"]),
     ("bob", &["OnlyB"]),
     ("edna", &["Viewer", "EditB"]),
@@ -50,22 +65,77 @@ const USERS: [(&str, &[&str]); 7] = [
     ("vera", &["Viewer"]),
 ];
 
-pub fn policy(alloc: Global) -> Result<Policy, Fail> {
-    let mut draft = PolicyDraft::new(alloc)?;
+fn add_role(
+    alloc: Global,
+    draft: &mut PolicyDraft,
+    name: &str,
+    action: Action,
+    reads_runs: bool,
+) -> Result<(), Fail> {
+    let role = role_at_b(alloc, name, action, reads_runs)?;
+    Ok(draft.add_role(role)?)
+}
+
+fn add_roles(alloc: Global, draft: &mut PolicyDraft) -> Result<(), Fail> {
     for (name, action, reads_runs) in ROLES {
-        draft.add_role(role_at_b(alloc, name, action, reads_runs)?)?;
+        add_role(alloc, draft, name, *action, *reads_runs)?;
     }
-    for (name, roles) in USERS {
-        draft.add_user(alloc, user(alloc, name, roles)?)?;
+    Ok(())
+}
+
+fn add_name(alloc: Global, names: &mut Vec<RoleName>, text: &str) -> Result<(), Fail> {
+    let name = RoleName::parse(alloc, text)?;
+    Ok(names.push(name)?)
+}
+
+fn role_names(alloc: Global, texts: &[&str]) -> Result<Vec<RoleName>, Fail> {
+    let mut names = Vec::new(alloc);
+    for text in texts {
+        add_name(alloc, &mut names, text)?;
     }
-    Ok(draft.finish(alloc)?)
+    Ok(names)
 }
 
 fn user(alloc: Global, name: &str, roles: &[&str]) -> Result<User, Fail> {
-    let mut names = Vec::new(alloc);
-    for role in roles {
-        names.push(RoleName::parse(alloc, *role)?)?;
-    }
     let digest = Sha256::digest(name.as_bytes());
-    Ok(User::new(UserName::parse(alloc, name)?, digest, names))
+    let name = UserName::parse(alloc, name)?;
+    Ok(User::new(name, digest, role_names(alloc, roles)?))
+}
+
+fn add_user(
+    alloc: Global,
+    draft: &mut PolicyDraft,
+    name: &str,
+    roles: &[&str],
+) -> Result<(), Fail> {
+    let user = user(alloc, name, roles)?;
+    Ok(draft.add_user(alloc, user)?)
+}
+
+fn add_users(alloc: Global, draft: &mut PolicyDraft) -> Result<(), Fail> {
+    for (name, roles) in USERS {
+        add_user(alloc, draft, name, roles)?;
+    }
+    Ok(())
+}
+
+fn draft(alloc: Global) -> Result<PolicyDraft, Fail> {
+    let mut draft = PolicyDraft::new(alloc)?;
+    match fill(alloc, &mut draft) {
+        Ok(()) => Ok(draft),
+        Err(fault) => {
+            drop(draft);
+            Err(fault)
+        }
+    }
+}
+
+fn fill(alloc: Global, draft: &mut PolicyDraft) -> Result<(), Fail> {
+    add_roles(alloc, draft)?;
+    add_users(alloc, draft)
+}
+
+pub fn policy(alloc: Global) -> Result<Policy, Fail> {
+    let draft = draft(alloc)?;
+    Ok(draft.finish(alloc)?)
 }
