@@ -1,4 +1,4 @@
-ghost use Rattle.std.specs.Prelude.{◌≡◌, ℕ, ◌+◌, ◌<◌, ◌≤◌, List, [], ◌∷◌, ◌++◌, All, Some, length, map, nat_eq, OnOk, slice_index_or, unwrap_or, vec_capacity, vec_len, if◌then◌else◌};
+ghost use Rattle.std.specs.Prelude.{◌≡◌, ℕ, ◌+◌, ◌<◌, ◌≤◌, List, [], ◌∷◌, ◌++◌, All, Some, length, map, nat_eq, IfNone, OnOk, slice_index_or, unwrap_or, vec_capacity, vec_len, if◌then◌else◌};
 ghost use Rattle.std.specs.HashMap.{get, spare};
 ghost use Rattle.std.specs.List.{remove};
 ghost use Rattle.std.specs.List.Sorted.{IsStrictlySortedBy};
@@ -28,15 +28,22 @@ impl Chains {
         }
     }
 
-    /// The number of the last row of a code, 0 where there is none, and a place where that row is likely to stand: where it does
-    /// if no row was taken out and each row has a code of its own, since codes are kept in the order in which they came.
-    pub(crate) fn last(&self, code: u64) -> (u64, usize)
-        ensures { result.0 ≡ last_of self.now code }
+    /// The number of the last row of a code, 0 where there is none.
+    pub(crate) fn last(&self, code: u64) -> u64
+        ensures { result ≡ last_of self.now code }
     {
-        match self.last.get_full(&code) {
-            Some((likely, _, number)) => (*number, likely),
-            None => (0, 0),
+        match self.last.get(&code) {
+            Some(number) => *number,
+            None => 0,
         }
+    }
+
+    /// A place where the last row of a code is likely to stand: where it does if no row was taken out and each row has a code of
+    /// its own, since codes are kept in the order in which they came. None only where no row has the code.
+    pub(crate) fn likely(&self, code: u64) -> Option<usize>
+        ensures { IfNone result (last_of self.now code ≡ 0) }
+    {
+        self.last.get_index_of(&code)
     }
 
     /// The number of the last row before the one at this place that has its code, 0 where there is none.
@@ -85,7 +92,7 @@ impl Chains {
         ensures len { vec_len self.new.earlier + 1 ≡ vec_len self.old.earlier }
     {
         let before = take_out(&mut self.earlier, place, number);
-        if self.last(code).0 == number {
+        if self.last(code) == number {
             if before == 0 {
                 let _last = self.last.swap_remove(&code);
             } else if let Some(last) = self.last.get_mut(&code) {

@@ -23,18 +23,6 @@ pub(crate) fn place_of(rows: &[Run], last: u64, number: u64) -> Option<usize>
     Some((number - 1) as usize)
 }
 
-/// Where the row of the run of this number stands, which is likely to be this place. Whether it is, is read off the row there: so
-/// that row is read before the number is known.
-fn place_near(rows: &[Run], last: u64, number: u64, likely: usize) -> Option<usize>
-    requires { AreRuns rows.now (last + 1) }
-    ensures { MatchOption result (StandsNowhere rows.now number) (StandsAt rows.now number) }
-{
-    if likely < rows.len() && rows[likely].number == number {
-        return Some(likely);
-    }
-    place_of(rows, last, number)
-}
-
 /// Where the row of the run of this number stands, by a binary search. The row stands at most where it would if no number
 /// before it had been taken out, and at least where it would if none after it had been: the search goes between the two.
 fn search(rows: &[Run], last: u64, number: u64) -> Option<usize>
@@ -59,7 +47,8 @@ fn search(rows: &[Run], last: u64, number: u64) -> Option<usize>
     None
 }
 
-/// Where the run that is wanted stands, by the chains of the rows.
+/// Where the run that is wanted stands, by the chains of the rows. The row that is likely to be it is looked at first, so that as a
+/// rule no number is read.
 pub(crate) fn find_place(
     rows: &[Run],
     last: u64,
@@ -71,9 +60,22 @@ pub(crate) fn find_place(
     ensures { MatchOption result (IsMetNowhere wanted.now rows.now) (IsMetAt wanted.now rows.now) }
 {
     let code = wanted.code();
-    let (mut number, likely) = chains.last(code);
+    match chains.likely(code) {
+        None => None,
+        Some(likely) if likely < rows.len() && wanted.is_met(&rows[likely]) => Some(likely),
+        Some(_) => follow(rows, last, chains, wanted),
+    }
+}
+
+/// Where the run that is wanted stands, from the last row of its code back along the chain.
+fn follow(rows: &[Run], last: u64, chains: &Chains, wanted: &Wanted<'_>) -> Option<usize>
+    requires runs { AreRuns rows.now (last + 1) }
+    requires chains { AreChains (map (key_of wanted.now) rows.now) chains.now }
+    ensures { MatchOption result (IsMetNowhere wanted.now rows.now) (IsMetAt wanted.now rows.now) }
+{
+    let mut number = chains.last(wanted.code());
     while number != 0 {
-        let Some(place) = place_near(rows, last, number, likely) else {
+        let Some(place) = place_of(rows, last, number) else {
             return None;
         };
         if wanted.is_met(&rows[place]) {

@@ -1,6 +1,6 @@
 use Rattle.std.proofs.Common.{ℕ}
 use Rattle.af_runs.proofs.FindLemmas.{Walks}
-use Rattle.af_runs.proofs.places.find_place.Given as goal
+use Rattle.af_runs.proofs.places.follow.Given as goal
 
 abbrev pub invariant-loop-number : goal.invariant-loop-number
 invariant-loop-number l = (m : ℕ) × Walks l.wanted l.rows m l.number
