@@ -78,7 +78,8 @@ def run_test(program, name, library, number):
 
 # Those that compare whole answers, where the fixed 503 is no fault of a test: the program itself is refused its memory.
 WHOLE = {"af_http_tests_tests", "af_server_tests_tests"}
-OUT_OF_MEMORY = re.compile(rb"([Ee]rror: (\w+\()*(OutOfMemory|AllocError|AllocFailed|Memory)\b|left: \S*(OutOfMemory|Memory|AllocError))")
+# What a test that is refused memory ends with: the fault after `Error`, or after the words for what should not fail; or the left of two that are compared.
+OUT_OF_MEMORY = re.compile(rb"(: (\w+\()*(OutOfMemory|AllocError|AllocFailed|Memory)\b|left: \S*(OutOfMemory|Memory|AllocError))")
 
 
 def refuse_each_of_test(program, name, library):

@@ -8,7 +8,7 @@ import unittest
 import oracle
 from oracle_table import OPERATIONS, having, route
 from refusal_cases import CHANGES, EXAMPLES, FAULTS, READINGS, request
-from refusals import NOW, NO_MEMORY, REFUSED, fronts_of, is_right
+from refusals import NOW, NO_MEMORY, OUT_OF_MEMORY, REFUSED, fronts_of, is_right
 
 BASE = os.path.join(EXAMPLES, "base.json")
 
@@ -41,6 +41,13 @@ class Right(unittest.TestCase):
         ends = self.ends(request("GET /own/me"))
         self.assertTrue(ends(0, b"", 3, REFUSED))
         self.assertFalse(ends(1, b"", 3, REFUSED))
+
+    def test_words(self):
+        """A test that is refused memory says so; other ends of a test are none of it."""
+        for text in (b"Error: OutOfMemory", b"Error: Reply(OutOfMemory)", b"\nthe id of a run: OutOfMemory\n", b"two tasks: AllocFailed { .. }", b"left: Err(OutOfMemory)\nright: Ok(1)"):
+            self.assertTrue(OUT_OF_MEMORY.search(text), text)
+        for text in (b"added once", b"Error: RunExists", b"the id of a run: BadName", b"left: Err(RunExists)\nright: Ok(1)"):
+            self.assertFalse(OUT_OF_MEMORY.search(text), text)
 
     def test_cases(self):
         """Each change of the state, each operation on the policy and the event logs have a case under their own name; what is to be refused is."""
