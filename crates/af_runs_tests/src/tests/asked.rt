@@ -1,10 +1,10 @@
-use super::moment;
+use super::making::maybe;
 use super::tasks::two_tasks;
-use af_graph::TaskIds;
-use af_names::{DagId, Instant, RunId, TaskId};
+use af_graph::{TaskIds, TaskSpec};
+use af_names::{DagId, RunId, TaskId};
 use af_runs::{ChosenTasks, RunFilter, Selection};
 use std::alloc::Global;
-use std::test::Fail;
+use std::process::Abort;
 
 /// The ids of tasks that are asked for.
 #[derive(Clone, Copy)]
@@ -20,8 +20,8 @@ pub struct Asked {
     pub ids: Ids,
     pub only_failed: bool,
     pub run_id: Option<&'static str>,
-    pub start_date: Option<u64>,
-    pub end_date: Option<u64>,
+    pub start_date: Option<u32>,
+    pub end_date: Option<u32>,
 }
 
 /// All instances of DAG a.
@@ -39,53 +39,51 @@ pub const FAILED: Asked = Asked {
     ..ALL
 };
 
-fn maybe(micros: Option<u64>) -> Result<Option<Instant>, Fail> {
-    match micros {
-        Some(micros) => Ok(Some(moment(micros)?)),
-        None => Ok(None),
-    }
-}
-
-fn maybe_run(alloc: Global, run_id: Option<&str>) -> Result<Option<RunId>, Fail> {
+fn maybe_run(rt: &impl Abort, alloc: Global, run_id: Option<&str>) -> Option<RunId> {
     match run_id {
-        Some(text) => Ok(Some(RunId::parse(alloc, text)?)),
-        None => Ok(None),
+        Some(text) => Some(RunId::parse(alloc, text).expect(rt, "the id of a run")),
+        None => None,
     }
 }
 
-pub fn filter_of(alloc: Global, asked: Asked) -> Result<RunFilter, Fail> {
-    let start_date = maybe(asked.start_date)?;
-    let end_date = maybe(asked.end_date)?;
-    let run_id = maybe_run(alloc, asked.run_id)?;
-    Ok(RunFilter {
-        dag_id: DagId::parse(alloc, "a")?,
-        run_id,
-        start_date,
-        end_date,
-    })
+/// The runs that are asked for.
+pub fn filter_of(rt: &impl Abort, alloc: Global, asked: &Asked) -> RunFilter {
+    RunFilter {
+        dag_id: DagId::parse(alloc, "a").expect(rt, "the id of a DAG"),
+        run_id: maybe_run(rt, alloc, asked.run_id),
+        start_date: maybe(asked.start_date),
+        end_date: maybe(asked.end_date),
+    }
 }
 
-fn task_ids(alloc: Global, texts: &[&str]) -> Result<TaskIds, Fail> {
+/// The ids of these tasks.
+fn task_ids(rt: &impl Abort, alloc: Global, texts: &[&str]) -> TaskIds {
     let mut ids = Vec::new(alloc);
     for text in texts {
-        ids.push(TaskId::parse(alloc, text)?)?;
+        let id = TaskId::parse(alloc, text).expect(rt, "the id of a task");
+        ids.push(id).expect(rt, "room for the id of a task");
     }
-    Ok(TaskIds::of(ids))
+    TaskIds::of(ids)
 }
 
-fn ids_of(alloc: Global, ids: Ids) -> Result<Option<TaskIds>, Fail> {
+/// Those of these tasks that are asked for.
+fn chosen_of(rt: &impl Abort, alloc: Global, tasks: &[TaskSpec], ids: Ids) -> ChosenTasks {
     match ids {
-        Ids::These(texts) => Ok(Some(task_ids(alloc, texts)?)),
-        Ids::Any => Ok(None),
+        Ids::These(texts) => {
+            let ids = task_ids(rt, alloc, texts);
+            ChosenTasks::of(alloc, tasks, Some(&ids)).expect(rt, "some tasks")
+        }
+        Ids::Any => ChosenTasks::of(alloc, tasks, None).expect(rt, "each task"),
     }
 }
 
 /// The selection, where task x has one retry and y has three.
-pub fn selection_of(alloc: Global, asked: Asked) -> Result<Selection, Fail> {
-    let tasks = two_tasks(alloc)?;
-    let ids = ids_of(alloc, asked.ids)?;
-    Ok(Selection {
-        tasks: ChosenTasks::of(alloc, tasks.as_slice(), ids.as_ref())?,
+pub fn selection_of(rt: &impl Abort, alloc: Global, asked: &Asked) -> Selection {
+    let specs = two_tasks(rt, alloc);
+    let tasks = chosen_of(rt, alloc, specs.as_slice(), asked.ids);
+    drop(specs);
+    Selection {
+        tasks,
         only_failed: asked.only_failed,
-    })
+    }
 }

@@ -1,27 +1,27 @@
-use super::{moment, run_of, untried};
+use super::making::{UNTRIED, moment, run_of};
 use af_graph::TaskState;
 use af_names::Instant;
 use af_runs::{Instance, Instances, NewRun, RunState, Runs};
 use std::alloc::Global;
-use std::test::Fail;
+use std::process::Abort;
 
 /// An instance in this state, of so many tries.
-fn tried((state, try_number): Tried) -> Result<Instance, Fail> {
-    Ok(Instance {
+fn tried((state, try_number): Tried) -> Instance {
+    Instance {
         state,
         try_number,
-        start_date: Some(moment(20)?),
-        end_date: Some(moment(21)?),
-        retry_at: Some(moment(22)?),
-        ..untried()
-    })
+        start_date: Some(moment(20)),
+        end_date: Some(moment(21)),
+        retry_at: Some(moment(22)),
+        ..UNTRIED
+    }
 }
 
 /// A state of an instance, and so many tries.
 type Tried = (TaskState, u32);
 
 /// A run: its DAG, its id, its date, its state, and its instances of tasks x and y.
-type Before = (&'static str, &'static str, u64, RunState, Tried, Tried);
+type Before = (&'static str, &'static str, u32, RunState, Tried, Tried);
 
 const HAS_FAILED: Tried = (TaskState::Failed, 1);
 
@@ -54,39 +54,32 @@ const FOUR: &[Before] = &[
     ),
 ];
 
-fn instances(alloc: Global, first: Tried, second: Tried) -> Result<Instances, Fail> {
-    let (first, second) = (tried(first)?, tried(second)?);
-    Ok(Instances::of(vec![in alloc; first, second]?))
-}
-
-fn new_before(alloc: Global, row: Before) -> Result<NewRun, Fail> {
-    let date = moment(row.2)?;
-    let instances = instances(alloc, row.4, row.5)?;
-    run_of(alloc, row.0, row.1, date, instances)
+fn new_before(rt: &impl Abort, alloc: Global, row: &Before) -> NewRun {
+    let instances = vec![in alloc; tried(row.4), tried(row.5)].expect(rt, "two instances");
+    run_of(rt, alloc, (row.0, row.1, row.2), Instances::of(instances))
 }
 
 /// When a run in this state has ended.
-fn end_of(state: RunState) -> Result<Option<Instant>, Fail> {
+fn end_of(state: RunState) -> Option<Instant> {
     if state.is_finished() {
-        Ok(Some(moment(31)?))
+        Some(moment(31))
     } else {
-        Ok(None)
+        None
     }
 }
 
 /// Adds a run of tasks x and y that began at 30 and, where it has ended, ended at 31.
-fn add(alloc: Global, runs: &mut Runs, row: Before) -> Result<(), Fail> {
-    let start = moment(30)?;
-    let end = end_of(row.3)?;
-    let number = runs.add_run(new_before(alloc, row)?)?;
-    runs.set_state(number, row.3, Some(start), end);
-    Ok(())
+fn add(rt: &impl Abort, alloc: Global, runs: &mut Runs, row: &Before) {
+    let new = new_before(rt, alloc, row);
+    let number = runs.add_run(new).expect(rt, "one of four runs is added");
+    runs.set_state(number, row.3, Some(moment(30)), end_of(row.3));
 }
 
-pub fn four_runs(alloc: Global) -> Result<Runs, Fail> {
+/// New runs, which are these four.
+pub fn four_runs(rt: &impl Abort, alloc: Global) -> Runs {
     let mut runs = Runs::new(alloc);
     for row in FOUR {
-        add(alloc, &mut runs, *row)?;
+        add(rt, alloc, &mut runs, row);
     }
-    Ok(runs)
+    runs
 }

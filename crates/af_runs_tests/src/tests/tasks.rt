@@ -1,55 +1,60 @@
-use super::untried;
+use super::making::UNTRIED;
 use crate::tests::asserts::holds;
 use af_graph::{Dag, DagSpec, Rule, TaskIds, TaskSpec, TaskSpecs};
 use af_names::{DagId, PoolName, TaskId};
 use af_runs::{Instance, new_instances};
 use std::alloc::Global;
-use std::test::Fail;
+use std::process::Abort;
 
-pub fn task(alloc: Global, task_id: &str, retries: u32) -> Result<TaskSpec, Fail> {
-    Ok(TaskSpec {
-        task_id: TaskId::parse(alloc, task_id)?,
+pub fn task(rt: &impl Abort, alloc: Global, task_id: &str, retries: u32) -> TaskSpec {
+    let task_id = TaskId::parse(alloc, task_id).expect(rt, "the id of a task");
+    let pool = PoolName::parse(alloc, "default_pool").expect(rt, "the name of a pool");
+    TaskSpec {
+        task_id,
         upstream: TaskIds::of(Vec::new(alloc)),
-        pool: PoolName::parse(alloc, "default_pool")?,
+        pool,
         pool_slots: 1,
         priority_weight: 1,
         retries,
         retry_delay: 300,
         trigger_rule: Rule::AllSuccess,
-    })
+    }
 }
 
 #[test]
-fn each_task_has_an_instance(rt: HostRuntime) -> Result<(), Fail> {
-    let instances = new_instances(rt.alloc(), &dag_of_two(rt.alloc())?)?;
+fn each_task_has_an_instance(rt: HostRuntime) {
+    let dag = dag_of_two(&rt, rt.alloc());
+    have_instances(&rt, rt.alloc(), &dag);
+    drop(dag);
+}
+
+/// Ends the test where a DAG of two tasks does not give an instance of each.
+fn have_instances(rt: &impl Abort, alloc: Global, dag: &Dag) {
+    let instances = new_instances(alloc, dag).expect(rt, "an instance of each task");
     let patient = Instance {
         max_tries: 3,
-        ..untried()
+        ..UNTRIED
     };
-    holds(
-        &rt,
-        instances.as_slice() == [untried(), patient].as_slice(),
-        "in order",
-    );
-    holds(&rt, instances.into_vec().len() == 2, "given back");
-    Ok(())
+    let wanted = [UNTRIED, patient];
+    holds(rt, instances.as_slice() == wanted.as_slice(), "in order");
+    holds(rt, instances.into_vec().len() == 2, "given back");
 }
 
 /// Tasks x of one retry and y of three.
-pub fn two_tasks(alloc: Global) -> Result<Vec<TaskSpec>, Fail> {
-    let first = task(alloc, "x", 1)?;
-    Ok(vec![in alloc; first, task(alloc, "y", 3)?]?)
+pub fn two_tasks(rt: &impl Abort, alloc: Global) -> Vec<TaskSpec> {
+    let first = task(rt, alloc, "x", 1);
+    let second = task(rt, alloc, "y", 3);
+    vec![in alloc; first, second].expect(rt, "two tasks")
 }
 
 /// DAG a of these two.
-fn dag_of_two(alloc: Global) -> Result<Dag, Fail> {
-    let tasks = two_tasks(alloc)?;
+fn dag_of_two(rt: &impl Abort, alloc: Global) -> Dag {
     let spec = DagSpec {
-        dag_id: DagId::parse(alloc, "a")?,
-        tasks: TaskSpecs::of(tasks),
+        dag_id: DagId::parse(alloc, "a").expect(rt, "the id of a DAG"),
+        tasks: TaskSpecs::of(two_tasks(rt, alloc)),
         schedule: None,
         catchup: true,
         max_active_runs: 16,
     };
-    Ok(Dag::new(alloc, spec)?)
+    Dag::new(alloc, spec).expect(rt, "a DAG of two tasks")
 }

@@ -1,7 +1,7 @@
 use super::asserts::holds;
 use af_runs::{RunFault, RunState, RunType};
 use std::alloc::Global;
-use std::test::Fail;
+use std::process::Abort;
 
 const STATES: &[(&str, Option<RunState>)] = &[
     ("queued", Some(RunState::Queued)),
@@ -17,20 +17,20 @@ const TYPES: &[(&str, Option<RunType>)] = &[
     ("backfill", None),
 ];
 
-/// Whether a fault is told in its words.
-fn is_told(alloc: Global) -> Result<bool, Fail> {
-    let told = format!(in alloc; "{}", RunFault::DateTaken)?;
-    Ok(told.as_str() == "the DAG has a run of that logical date")
+/// Ends the test where a fault is not told in its words.
+fn is_told(rt: &impl Abort, alloc: Global) {
+    let told = format!(in alloc; "{}", RunFault::DateTaken).expect(rt, "the words of a fault");
+    let is_told = told.as_str() == "the DAG has a run of that logical date";
+    holds(rt, is_told, "in words");
 }
 
 #[test]
-fn states_types_and_faults_have_texts(rt: HostRuntime) -> Result<(), Fail> {
+fn states_types_and_faults_have_texts(rt: HostRuntime) {
     for (text, want) in STATES {
         holds(&rt, RunState::read(text) == *want, text);
     }
     for (text, want) in TYPES {
         holds(&rt, RunType::read(text) == *want, text);
     }
-    holds(&rt, is_told(rt.alloc())?, "in words");
-    Ok(())
+    is_told(&rt, rt.alloc());
 }

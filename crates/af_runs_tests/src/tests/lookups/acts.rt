@@ -1,4 +1,4 @@
-use super::super::moment;
+use super::super::making::moment;
 use super::super::tasks::task;
 use af_graph::TaskState;
 use af_names::{DagId, RunId};
@@ -6,12 +6,14 @@ use af_runs::{
     ChosenTasks, Instance, Instances, Interval, Mark, NewRun, RunState, RunType, Runs, Selection,
 };
 use std::alloc::Global;
-use std::test::Fail;
+use std::process::Abort;
 
 /// The id of the run of a key.
-pub fn run_id(alloc: Global, key: u64) -> Result<RunId, Fail> {
-    let text = format!(in alloc; "manual__{key}")?;
-    Ok(RunId::parse(alloc, text.as_str())?)
+pub fn run_id(rt: &impl Abort, alloc: Global, key: u32) -> RunId {
+    let text = format!(in alloc; "manual__{key}").expect(rt, "the text of an id");
+    let id = RunId::parse(alloc, text.as_str()).expect(rt, "the id of a run");
+    drop(text);
+    id
 }
 
 fn instance(held: bool) -> Instance {
@@ -29,25 +31,35 @@ fn instance(held: bool) -> Instance {
     }
 }
 
-pub fn new_run(alloc: Global, dag_id: DagId, key: u64) -> Result<NewRun, Fail> {
-    let at = moment(key)?;
-    Ok(NewRun {
-        dag_id,
-        run_id: run_id(alloc, key)?,
+pub fn new_run(rt: &impl Abort, alloc: Global, dag_id: &DagId, key: u32) -> NewRun {
+    let at = moment(key);
+    let items = vec![in alloc; instance(false)].expect(rt, "one instance");
+    NewRun {
+        dag_id: dag_id.copied(alloc).expect(rt, "the id of a DAG again"),
+        run_id: run_id(rt, alloc, key),
         logical_date: at,
         interval: Interval { start: at, end: at },
         run_type: RunType::Manual,
-        instances: Instances::of(vec![in alloc; instance(false)]?),
-    })
+        instances: Instances::of(items),
+    }
 }
 
 /// All instances of a run of one task.
-pub fn all(alloc: Global) -> Result<Selection, Fail> {
-    let tasks = vec![in alloc; task(alloc, "x", 0)?]?;
-    Ok(Selection {
-        tasks: ChosenTasks::of(alloc, tasks.as_slice(), None)?,
+pub fn all(rt: &impl Abort, alloc: Global) -> Selection {
+    let specs = vec![in alloc; task(rt, alloc, "x", 0)].expect(rt, "one task");
+    let tasks = ChosenTasks::of(alloc, specs.as_slice(), None).expect(rt, "each task");
+    drop(specs);
+    Selection {
+        tasks,
         only_failed: false,
-    })
+    }
+}
+
+/// Clears all of the run of a number.
+fn clear_run(rt: &impl Abort, alloc: Global, runs: &mut Runs, number: u64) {
+    let all = all(rt, alloc);
+    runs.clear_run(number, &all);
+    drop(all);
 }
 
 /// The mark that an act is, if it is one.
@@ -71,16 +83,14 @@ fn set(runs: &mut Runs, act: u64, number: u64) {
     }
 }
 
-pub fn act_on_runs(alloc: Global, runs: &mut Runs, act: u64, number: u64) -> Result<(), Fail> {
-    let at = moment(9)?;
+pub fn act_on_runs(rt: &impl Abort, alloc: Global, runs: &mut Runs, act: u64, number: u64) {
     if let Some(mark) = mark_of(act) {
-        runs.mark(number, mark, at);
-        return Ok(());
+        runs.mark(number, mark, moment(9));
+        return;
     }
     match act {
-        4 => runs.reserve(3)?,
-        11 => runs.clear_run(number, &all(alloc)?),
+        4 => runs.reserve(3).expect(rt, "room for three"),
+        11 => clear_run(rt, alloc, runs, number),
         _ => set(runs, act, number),
     }
-    Ok(())
 }

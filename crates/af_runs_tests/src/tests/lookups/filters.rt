@@ -1,4 +1,4 @@
-use super::plain::{Plain, busy_count, count_of, nth_busy, nth_of, numbered, of_key};
+use super::plain::{Plain, Which, count, nth};
 use af_names::{DagId, Instant, RunId};
 use af_runs::{Run, RunFault, Runs};
 
@@ -14,7 +14,7 @@ fn is_it(run: Option<&Run>, plain: Option<Plain>) -> bool {
 fn is_page(runs: &Runs, plain: &[Plain], dag: usize, dag_id: &DagId, from: usize) -> bool {
     let mut page = runs.of_dag(dag_id, from);
     for place in 0..3 {
-        let wanted = nth_of(plain, dag, from.saturating_add(place));
+        let wanted = nth(plain, Which::Dag(dag), from.saturating_add(place));
         if !is_it(page.next(), wanted) {
             return false;
         }
@@ -65,27 +65,30 @@ pub fn agrees_of_dag(
     runs: &Runs,
     plain: &[Plain],
     dag: (usize, &DagId),
-    key: u64,
+    key: u32,
     ids: (&RunId, &RunId),
     date: Instant,
 ) -> bool {
-    let there = of_key(plain, dag.0, key);
+    let there = nth(plain, Which::Key(dag.0, key), 0);
     let place = (key % 400) as usize;
     is_it(runs.find(dag.1, ids.0), there)
         && are_faults(runs, dag.1, there.is_some(), ids, date)
-        && runs.count_of(dag.1) == count_of(plain, dag.0)
-        && is_it(runs.nth_of(dag.1, place), nth_of(plain, dag.0, place))
+        && runs.count_of(dag.1) == count(plain, Which::Dag(dag.0))
+        && is_it(
+            runs.nth_of(dag.1, place),
+            nth(plain, Which::Dag(dag.0), place),
+        )
         && is_page(runs, plain, dag.0, dag.1, (key % 300) as usize)
 }
 
 /// Whether the look-ups by number, among the busy runs, and among those that hold slots answer what a filter over the plain list
 /// answers.
-pub fn agrees_at(runs: &Runs, plain: &[Plain], key: u64) -> bool {
-    let number = key.saturating_add(1);
+pub fn agrees_at(runs: &Runs, plain: &[Plain], key: u32) -> bool {
+    let number = u64::from(key).saturating_add(1);
     let place = (key % 500) as usize;
     runs.rows().len() == plain.len()
-        && is_it(runs.get(number), numbered(plain, number))
-        && runs.busy_count() == busy_count(plain)
-        && is_it(runs.busy_at(place), nth_busy(plain, place))
+        && is_it(runs.get(number), nth(plain, Which::Number(number), 0))
+        && runs.busy_count() == count(plain, Which::Busy)
+        && is_it(runs.busy_at(place), nth(plain, Which::Busy, place))
         && (key % 16 != 0 || (are_busy(runs, plain) && are_holders(runs, plain)))
 }

@@ -5,13 +5,13 @@ use af_runs::RunState;
 pub struct Plain {
     pub number: u64,
     pub dag: usize,
-    pub key: u64,
+    pub key: u32,
     pub state: RunState,
     pub held: bool,
 }
 
 /// What it knows of a new run.
-pub fn queued(number: u64, dag: usize, key: u64) -> Plain {
+pub fn queued(number: u64, dag: usize, key: u32) -> Plain {
     Plain {
         number,
         dag,
@@ -21,37 +21,38 @@ pub fn queued(number: u64, dag: usize, key: u64) -> Plain {
     }
 }
 
+/// Which rows are looked for.
+#[derive(Clone, Copy)]
+pub enum Which {
+    /// That of a number.
+    Number(u64),
+    /// That of a DAG and a key.
+    Key(usize, u32),
+    /// Those of a DAG.
+    Dag(usize),
+    Busy,
+}
+
 impl Plain {
+    pub fn is(&self, which: Which) -> bool {
+        match which {
+            Which::Number(number) => self.number == number,
+            Which::Key(dag, key) => self.dag == dag && self.key == key,
+            Which::Dag(dag) => self.dag == dag,
+            Which::Busy => self.is_busy(),
+        }
+    }
+
     pub fn is_busy(&self) -> bool {
         self.held || !self.state.is_finished()
     }
 }
 
-/// The row of a number.
-pub fn numbered(plain: &[Plain], number: u64) -> Option<Plain> {
-    for row in plain {
-        if row.number == number {
-            return Some(*row);
-        }
-    }
-    None
-}
-
-/// The row of a DAG and a key.
-pub fn of_key(plain: &[Plain], dag: usize, key: u64) -> Option<Plain> {
-    for row in plain {
-        if row.dag == dag && row.key == key {
-            return Some(*row);
-        }
-    }
-    None
-}
-
-/// Of the rows of a DAG the one at a place.
-pub fn nth_of(plain: &[Plain], dag: usize, place: usize) -> Option<Plain> {
+/// Of the rows that are looked for the one at a place.
+pub fn nth(plain: &[Plain], which: Which, place: usize) -> Option<Plain> {
     let mut before = place;
     for row in plain {
-        if row.dag == dag {
+        if row.is(which) {
             if before == 0 {
                 return Some(*row);
             }
@@ -61,36 +62,11 @@ pub fn nth_of(plain: &[Plain], dag: usize, place: usize) -> Option<Plain> {
     None
 }
 
-/// How many rows a DAG has.
-pub fn count_of(plain: &[Plain], dag: usize) -> usize {
+/// How many rows are among those that are looked for.
+pub fn count(plain: &[Plain], which: Which) -> usize {
     let mut count: usize = 0;
     for row in plain {
-        if row.dag == dag {
-            count = count.saturating_add(1);
-        }
-    }
-    count
-}
-
-/// Of the busy rows the one at a place.
-pub fn nth_busy(plain: &[Plain], place: usize) -> Option<Plain> {
-    let mut before = place;
-    for row in plain {
-        if row.is_busy() {
-            if before == 0 {
-                return Some(*row);
-            }
-            before -= 1;
-        }
-    }
-    None
-}
-
-/// How many rows are busy.
-pub fn busy_count(plain: &[Plain]) -> usize {
-    let mut count: usize = 0;
-    for row in plain {
-        if row.is_busy() {
+        if row.is(which) {
             count = count.saturating_add(1);
         }
     }
@@ -131,7 +107,7 @@ fn clear(row: &mut Plain) {
 }
 
 /// Clears the rows of a DAG whose keys are from one on until another.
-pub fn clear_between(plain: &mut Vec<Plain>, dag: usize, first: u64, last: u64) {
+pub fn clear_between(plain: &mut Vec<Plain>, dag: usize, first: u32, last: u32) {
     for row in plain.iter_mut() {
         if row.dag == dag && row.key >= first && row.key <= last {
             clear(row);
