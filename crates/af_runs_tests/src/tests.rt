@@ -14,23 +14,19 @@ mod texts;
 use af_runs::{RunFault, RunState, Runs};
 use asserts::holds;
 use making::{FAILED, New, UNTRIED, add_runs, ids, moment, new_run};
-use seen::{Row, has_rows, have_instances, is_dated, is_row};
+use seen::{Row, has_rows, have_instances, is_dated, is_row, number_of};
 use std::alloc::Global;
 use std::process::Abort;
 
 /// A run that is to be added, by its DAG, its id and its date; what is told; and the words for it.
 type Asked<'a> = (&'a str, &'a str, u32, Result<u64, RunFault>, &'a str);
 
-fn adds(rt: &impl Abort, alloc: Global, runs: &mut Runs, row: &Asked<'_>) -> bool {
-    let new = new_run(rt, alloc, (row.0, row.1, row.2));
-    runs.add_run(new) == row.3
-}
-
 /// Ends the test where what is told of a run that is asked for is not what it should be.
 fn are_told_of(rt: &impl Abort, alloc: Global, runs: &mut Runs, rows: &[Asked<'_>]) {
     for row in rows {
-        let adds = adds(rt, alloc, runs, row);
-        holds(rt, adds, row.4);
+        let new = new_run(rt, alloc, (row.0, row.1, row.2));
+        let told = runs.add_run(new);
+        holds(rt, told == row.3, row.4);
     }
 }
 
@@ -64,7 +60,7 @@ fn runs_of_two_dags_are_added_or_refused(rt: HostRuntime) {
 const THREE: &[New<'static>] = &[("a", "r1", 1), ("b", "r2", 2), ("b", "r1", 1)];
 
 /// The number of the run of these ids.
-fn number_of(
+fn number_by_ids(
     rt: &impl Abort,
     alloc: Global,
     runs: &Runs,
@@ -72,10 +68,7 @@ fn number_of(
     run_id: &str,
 ) -> Option<u64> {
     let (dag_id, run_id) = ids(rt, alloc, dag_id, run_id);
-    match runs.find(&dag_id, &run_id) {
-        Some(run) => Some(run.number),
-        None => None,
-    }
+    number_of(runs.find(&dag_id, &run_id))
 }
 
 /// Why r3 of b would not be added, at the date of r2.
@@ -84,21 +77,13 @@ fn fault_of_b(rt: &impl Abort, alloc: Global, runs: &Runs) -> Option<RunFault> {
     runs.add_fault(&dag_id, &run_id, moment(2))
 }
 
-/// The row of a run.
-fn is_at(runs: &Runs, number: u64, wanted: &Row<'_>) -> bool {
-    match runs.get(number) {
-        Some(run) => is_row(run, wanted),
-        None => false,
-    }
-}
-
 /// Ids, and the number of the run of these.
 const FOUND: &[(&str, &str, Option<u64>)] = &[("b", "r1", Some(3)), ("b", "r3", None)];
 
 /// Ends the test where a run is not found by its ids.
 fn are_found(rt: &impl Abort, alloc: Global, runs: &Runs) {
     for (dag_id, run_id, wanted) in FOUND {
-        let told = number_of(rt, alloc, runs, dag_id, run_id);
+        let told = number_by_ids(rt, alloc, runs, dag_id, run_id);
         holds(rt, told == *wanted, run_id);
     }
 }
@@ -116,7 +101,10 @@ fn runs_are_found(rt: HostRuntime) {
 
 /// Ends the test where run 2 is not found by its number, or a run 4 is.
 fn have_numbers(rt: &impl Abort, runs: &Runs) {
-    let is_second = is_at(runs, 2, &(2, "b", "r2", RunState::Queued));
+    let is_second = match runs.get(2) {
+        Some(run) => is_row(run, &(2, "b", "r2", RunState::Queued)),
+        None => false,
+    };
     holds(rt, is_second, "number 2");
     holds(rt, runs.get(4).is_none(), "no number 4");
 }
@@ -127,40 +115,32 @@ const CHANGED: &[Row<'static>] = &[
     (3, "b", "r1", RunState::Queued),
 ];
 
-/// Sets the states of runs 1 and 2, and of 7, which is not there, at 9.
-fn set_states(runs: &mut Runs) {
-    let at = moment(9);
-    runs.set_state(2, RunState::Running, Some(at), None);
-    runs.set_state(1, RunState::Success, Some(at), Some(at));
-    runs.set_state(7, RunState::Success, Some(at), Some(at));
-}
-
+/// The states of runs 1 and 2 are set, and of 7, which is not there, at 9.
 #[test]
 fn one_run_is_set(rt: HostRuntime) {
     let mut runs = Runs::new(rt.alloc());
     add_runs(&rt, rt.alloc(), &mut runs, THREE);
-    set_states(&mut runs);
+    let at = moment(9);
+    runs.set_state(2, RunState::Running, Some(at), None);
+    runs.set_state(1, RunState::Success, Some(at), Some(at));
+    runs.set_state(7, RunState::Success, Some(at), Some(at));
     holds(&rt, has_rows(runs.rows(), CHANGED), "the rows of 1 and 2");
-    let is_dated = is_dated(&runs, 2, Some(moment(9)), None);
+    let is_dated = is_dated(&runs, 2, Some(at), None);
     holds(&rt, is_dated, "start");
     drop(runs);
 }
 
+/// The last instance of run 3 is set, and the one after it, which is not there.
 #[test]
 fn one_instance_is_set(rt: HostRuntime) {
     let mut runs = Runs::new(rt.alloc());
     add_runs(&rt, rt.alloc(), &mut runs, THREE);
-    set_last(&mut runs);
+    runs.set_instance(3, 1, FAILED);
+    runs.set_instance(3, 2, FAILED);
     let wanted = [UNTRIED, FAILED];
     let what = "the second of run 3";
     have_instances(&rt, rt.alloc(), &runs, ("b", "r1"), &wanted, what);
     drop(runs);
-}
-
-/// Sets the last instance of run 3, and the one after it, which is not there.
-fn set_last(runs: &mut Runs) {
-    runs.set_instance(3, 1, FAILED);
-    runs.set_instance(3, 2, FAILED);
 }
 
 /// Runs r1 and r2 of a that are to be added.
@@ -174,17 +154,12 @@ const TWO: &[Row<'static>] = &[
     (2, "a", "r2", RunState::Queued),
 ];
 
-/// Whether the run r3 of a, where it is refused for lack of memory, leaves two runs as they were.
-fn is_refused_or_added(rt: &impl Abort, alloc: Global, runs: &mut Runs) -> bool {
-    let third = new_run(rt, alloc, ("a", "r3", 3));
-    runs.add_run(third) != Err(RunFault::OutOfMemory) || has_rows(runs.rows(), TWO)
-}
-
 /// Ends the test where two runs are not added in reserve, or a third that is refused leaves them otherwise.
 fn are_added(rt: &impl Abort, alloc: Global, runs: &mut Runs) {
     holds(rt, runs.spare() >= 2, "room for two");
     are_told_of(rt, alloc, runs, IN_RESERVE);
-    let is_left = is_refused_or_added(rt, alloc, runs);
+    let told = runs.add_run(new_run(rt, alloc, ("a", "r3", 3)));
+    let is_left = told != Err(RunFault::OutOfMemory) || has_rows(runs.rows(), TWO);
     holds(rt, is_left, "as before");
     holds(rt, runs.rows().len() >= 2, "both are there");
 }

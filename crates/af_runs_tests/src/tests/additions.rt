@@ -2,17 +2,12 @@ use super::asserts::holds;
 use super::making::{FAILED, New, add_runs, moment, new_run, run_of};
 use super::seen::{Row, has_rows, have_instances, is_dated};
 use super::{Asked, DATE_TAKEN, ID_TAKEN};
-use af_runs::{Additions, Instances, NewRun, Run, RunFault, RunState, Runs};
+use af_runs::{Additions, NewRun, Run, RunFault, RunState, Runs};
 use std::alloc::Global;
 use std::process::Abort;
 
 /// The run r1 of a, the first.
 const ONE: &[New<'static>] = &[("a", "r1", 1)];
-
-fn adds(rt: &impl Abort, alloc: Global, additions: &mut Additions<'_>, row: &Asked<'_>) -> bool {
-    let new = new_run(rt, alloc, (row.0, row.1, row.2));
-    additions.add_run(new) == row.3
-}
 
 const ASKED: &[Asked<'static>] = &[
     ("b", "r2", 2, Ok(2), "after the lent run"),
@@ -32,8 +27,9 @@ const ADDED: &[Row<'static>] = &[
 /// Ends the test where what is told of a run that is asked for is not what it should be.
 fn are_told_of(rt: &impl Abort, alloc: Global, additions: &mut Additions<'_>) {
     for row in ASKED {
-        let adds = adds(rt, alloc, additions, row);
-        holds(rt, adds, row.4);
+        let new = new_run(rt, alloc, (row.0, row.1, row.2));
+        let told = additions.add_run(new);
+        holds(rt, told == row.3, row.4);
     }
 }
 
@@ -74,12 +70,6 @@ const APPENDED: &[Row<'static>] = &[
     (3, "a", "r3", RunState::Queued),
 ];
 
-/// The number of the run r4 of b, added to these.
-fn next_number(rt: &impl Abort, alloc: Global, runs: &mut Runs) -> u64 {
-    let new = new_run(rt, alloc, ("b", "r4", 4));
-    runs.add_run(new).expect(rt, "r4 of b is added")
-}
-
 #[test]
 fn additions_are_appended(rt: HostRuntime) {
     let mut runs = Runs::new(rt.alloc());
@@ -87,29 +77,25 @@ fn additions_are_appended(rt: HostRuntime) {
     let last = append(&rt, rt.alloc(), &mut runs);
     holds(&rt, last == 3, "the last of all");
     holds(&rt, has_rows(runs.rows(), APPENDED), "after the others");
-    let number = next_number(&rt, rt.alloc(), &mut runs);
+    let told = runs.add_run(new_run(&rt, rt.alloc(), ("b", "r4", 4)));
+    let number = told.expect(&rt, "r4 of b is added");
     holds(&rt, number == 4, "the next number");
     drop(runs);
 }
 
-/// Ends the test where additions are not as before: none, after the run that is borrowed.
-fn are_none(rt: &impl Abort, additions: Additions<'_>) {
-    holds(rt, additions.rows().is_empty(), "as before");
-    let (added, last) = additions.into_rows();
-    let is_last = added.is_empty() && last == 1;
-    drop(added);
-    holds(rt, is_last, "the lent run is the last");
-}
-
-/// Ends the test where a run was not added, and the additions are not as before.
+/// Ends the test where a run was not added, and the additions are not as before: none, after the run that is borrowed.
 fn are_left(rt: &impl Abort, additions: Additions<'_>, told: Result<u64, RunFault>) {
+    let is_empty = additions.rows().is_empty();
+    let has_second = has_rows(additions.rows(), THE_SECOND);
+    let (added, last) = additions.into_rows();
+    let is_none = added.is_empty() && last == 1;
+    drop(added);
     if told == Err(RunFault::OutOfMemory) {
-        are_none(rt, additions);
+        holds(rt, is_empty, "as before");
+        holds(rt, is_none, "the lent run is the last");
     } else {
         holds(rt, told == Ok(2), "added");
-        let has_rows = has_rows(additions.rows(), THE_SECOND);
-        drop(additions);
-        holds(rt, has_rows, "the one addition");
+        holds(rt, has_second, "the one addition");
     }
 }
 
@@ -133,7 +119,6 @@ const THE_SECOND: &[Row<'static>] = &[(2, "a", "r2", RunState::Queued)];
 
 /// The run of a number, ended at 9, with an instance that failed.
 fn ended(rt: &impl Abort, alloc: Global, number: u64) -> Run {
-    let items = vec![in alloc; FAILED].expect(rt, "one instance");
     let NewRun {
         dag_id,
         run_id,
@@ -141,7 +126,7 @@ fn ended(rt: &impl Abort, alloc: Global, number: u64) -> Run {
         interval,
         run_type,
         instances,
-    } = run_of(rt, alloc, ("c", "r7", 7), Instances::of(items));
+    } = run_of(rt, alloc, ("c", "r7", 7), &[FAILED]);
     Run {
         number,
         dag_id,
@@ -156,15 +141,6 @@ fn ended(rt: &impl Abort, alloc: Global, number: u64) -> Run {
     }
 }
 
-/// Advances these runs by later forms of the runs 2 and 3.
-fn advance(rt: &impl Abort, alloc: Global, runs: &mut Runs) {
-    for number in LATER {
-        runs.advance(ended(rt, alloc, *number));
-    }
-}
-
-const LATER: &[u64] = &[2, 3];
-
 /// The run r1 of a and the run r2 of b.
 const TWO: &[New<'static>] = &[("a", "r1", 1), ("b", "r2", 2)];
 
@@ -173,19 +149,15 @@ const ADVANCED: &[Row<'static>] = &[
     (2, "b", "r2", RunState::Failed),
 ];
 
-/// Ends the test where the states and the dates of the runs are not the advanced ones.
-fn are_told(rt: &impl Abort, runs: &Runs) {
-    holds(rt, has_rows(runs.rows(), ADVANCED), "the state of 2 alone");
-    let is_dated = is_dated(runs, 2, Some(moment(7)), Some(moment(9)));
-    holds(rt, is_dated, "start and end");
-}
-
 #[test]
 fn a_run_advances(rt: HostRuntime) {
     let mut runs = Runs::new(rt.alloc());
     add_runs(&rt, rt.alloc(), &mut runs, TWO);
-    advance(&rt, rt.alloc(), &mut runs);
-    are_told(&rt, &runs);
+    runs.advance(ended(&rt, rt.alloc(), 2));
+    runs.advance(ended(&rt, rt.alloc(), 3));
+    holds(&rt, has_rows(runs.rows(), ADVANCED), "the state of 2 alone");
+    let is_dated = is_dated(&runs, 2, Some(moment(7)), Some(moment(9)));
+    holds(&rt, is_dated, "start and end");
     let what = "the instances of the later one";
     have_instances(&rt, rt.alloc(), &runs, ("b", "r2"), &[FAILED], what);
     drop(runs);

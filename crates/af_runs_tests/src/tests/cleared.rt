@@ -1,5 +1,6 @@
 //! What a clear makes of the four runs.
 use super::four::four_runs;
+use super::seen::number_of;
 use af_graph::TaskState;
 use af_runs::{Instance, Run, RunState, Runs};
 use std::alloc::Global;
@@ -78,13 +79,6 @@ fn are_busy(runs: &Runs) -> bool {
         }
     }
     busy.next().is_none()
-}
-
-fn number_of(run: Option<&Run>) -> Option<u64> {
-    match run {
-        Some(run) => Some(run.number),
-        None => None,
-    }
 }
 
 fn are_all_after(before: &[Run], after: &[Run], wanted: &[(u64, usize)]) -> bool {

@@ -24,8 +24,8 @@ fn is_chosen(
 }
 
 fn are_chosen(chosen: &[ChosenInstance<'_>], wanted: &[(u64, usize)]) -> bool {
-    for (row, (number, place)) in chosen.iter().zip(wanted) {
-        if row.run.number != *number || row.place != *place {
+    for (row, want) in chosen.iter().zip(wanted) {
+        if (row.run.number, row.place) != *want {
             return false;
         }
     }

@@ -1,7 +1,7 @@
 use super::making::{UNTRIED, moment, run_of};
 use af_graph::TaskState;
 use af_names::Instant;
-use af_runs::{Instance, Instances, NewRun, RunState, Runs};
+use af_runs::{Instance, RunState, Runs};
 use std::alloc::Global;
 use std::process::Abort;
 
@@ -54,11 +54,6 @@ const FOUR: &[Before] = &[
     ),
 ];
 
-fn new_before(rt: &impl Abort, alloc: Global, row: &Before) -> NewRun {
-    let instances = vec![in alloc; tried(row.4), tried(row.5)].expect(rt, "two instances");
-    run_of(rt, alloc, (row.0, row.1, row.2), Instances::of(instances))
-}
-
 /// When a run in this state has ended.
 fn end_of(state: RunState) -> Option<Instant> {
     if state.is_finished() {
@@ -70,7 +65,8 @@ fn end_of(state: RunState) -> Option<Instant> {
 
 /// Adds a run of tasks x and y that began at 30 and, where it has ended, ended at 31.
 fn add(rt: &impl Abort, alloc: Global, runs: &mut Runs, row: &Before) {
-    let new = new_before(rt, alloc, row);
+    let instances = [tried(row.4), tried(row.5)];
+    let new = run_of(rt, alloc, (row.0, row.1, row.2), &instances);
     let number = runs.add_run(new).expect(rt, "one of four runs is added");
     runs.set_state(number, row.3, Some(moment(30)), end_of(row.3));
 }

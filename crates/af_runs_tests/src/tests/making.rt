@@ -47,8 +47,9 @@ pub fn ids(rt: &impl Abort, alloc: Global, dag_id: &str, run_id: &str) -> (DagId
 pub type New<'a> = (&'a str, &'a str, u32);
 
 /// A run of these instances.
-pub fn run_of(rt: &impl Abort, alloc: Global, row: New<'_>, instances: Instances) -> NewRun {
+pub fn run_of(rt: &impl Abort, alloc: Global, row: New<'_>, instances: &[Instance]) -> NewRun {
     let (dag_id, run_id) = ids(rt, alloc, row.0, row.1);
+    let instances = Vec::from_slice(alloc, instances).expect(rt, "the instances of a run");
     let date = moment(row.2);
     NewRun {
         dag_id,
@@ -59,14 +60,13 @@ pub fn run_of(rt: &impl Abort, alloc: Global, row: New<'_>, instances: Instances
             end: date,
         },
         run_type: RunType::Manual,
-        instances,
+        instances: Instances::of(instances),
     }
 }
 
 /// A run of two tasks.
 pub fn new_run(rt: &impl Abort, alloc: Global, row: New<'_>) -> NewRun {
-    let items = vec![in alloc; UNTRIED, UNTRIED].expect(rt, "two instances");
-    run_of(rt, alloc, row, Instances::of(items))
+    run_of(rt, alloc, row, &[UNTRIED, UNTRIED])
 }
 
 /// Adds new runs of two tasks.

@@ -1,7 +1,8 @@
 use super::asserts::{holds, row_holds};
 use super::making::{UNTRIED, maybe, moment, run_of};
+use super::seen::number_of;
 use af_graph::TaskState;
-use af_runs::{Instance, Instances, Mark, NewRun, Run, RunState, Runs};
+use af_runs::{Instance, Mark, RunState, Runs};
 use std::alloc::Global;
 use std::process::Abort;
 
@@ -18,17 +19,11 @@ fn in_state(state: TaskState) -> Instance {
     }
 }
 
-/// A new run of this id and date, of one instance in this state.
-fn new_of(rt: &impl Abort, alloc: Global, run_id: &str, date: u32, state: TaskState) -> NewRun {
-    let items = vec![in alloc; in_state(state)].expect(rt, "one instance");
-    run_of(rt, alloc, ("a", run_id, date), Instances::of(items))
-}
-
 /// Two runs, told so, of one instance in this state.
 fn two_runs(rt: &impl Abort, alloc: Global, told: Told, state: TaskState) -> Runs {
     let mut runs = Runs::new(alloc);
     for (run_id, date) in IDS_AND_DATES {
-        let new = new_of(rt, alloc, run_id, *date, state);
+        let new = run_of(rt, alloc, ("a", run_id, *date), &[in_state(state)]);
         let number = runs.add_run(new).expect(rt, "one of two runs is added");
         runs.set_state(number, told.0, maybe(told.1), maybe(told.2));
     }
@@ -37,14 +32,11 @@ fn two_runs(rt: &impl Abort, alloc: Global, told: Told, state: TaskState) -> Run
 
 const IDS_AND_DATES: &[(&str, u32)] = &[("r0", 0), ("r1", 1)];
 
-fn is_told(run: &Run, told: Told) -> bool {
-    run.state == told.0 && run.start_date == maybe(told.1) && run.end_date == maybe(told.2)
-}
-
 /// Whether the run of a number is told so.
 fn is_told_at(runs: &Runs, number: u64, told: Told) -> bool {
     match runs.get(number) {
-        Some(run) => is_told(run, told),
+        Some(run) => (run.state, run.start_date, run.end_date)
+            == (told.0, maybe(told.1), maybe(told.2)),
         None => false,
     }
 }
@@ -57,8 +49,8 @@ fn has_skipped(runs: &Runs) -> bool {
     }
 }
 
-/// Whether the first of two runs, told so, is told otherwise once it is marked at 9, as run 3 is, which is not there, and the
-/// second is as it was.
+/// Whether the first of two runs, told so, is told otherwise once it is marked at 9, and the second is as it was. Run 3, which
+/// is not there, is marked before.
 fn goes(rt: &impl Abort, alloc: Global, before: Told, mark: Mark, after: Told) -> bool {
     let mut runs = two_runs(rt, alloc, before, TaskState::Skipped);
     runs.mark(3, mark, moment(8));
@@ -150,25 +142,9 @@ fn first_instance(rt: &impl Abort, runs: &Runs) -> Instance {
     *run.instances.as_slice().first().expect(rt, "no instance")
 }
 
-/// Whether a mark at 9 makes this of an instance, and whether it was told beforehand, by the run's instance alone, that it changes
-/// nothing where it does not.
+/// Ends the test where a mark at 9 does not make this of an instance, or it was not told beforehand, by the run's instance alone,
+/// that it changes nothing where it does not.
 fn makes(
-    rt: &impl Abort,
-    alloc: Global,
-    mark: Mark,
-    before: TaskState,
-    after: TaskState,
-) -> (bool, bool) {
-    let mut runs = two_runs(rt, alloc, (mark.state(), None, None), before);
-    let stood = is_marked(&runs, mark);
-    runs.mark(1, mark, moment(9));
-    let is_made = first_instance(rt, &runs) == marked(before, after);
-    drop(runs);
-    (is_made, stood == (after == before))
-}
-
-/// Ends the test where a mark does not make this of an instance, or that is not told beforehand.
-fn is_made(
     rt: &impl Abort,
     alloc: Global,
     row: usize,
@@ -176,17 +152,21 @@ fn is_made(
     before: TaskState,
     after: TaskState,
 ) {
-    let (is_made, is_told) = makes(rt, alloc, mark, before, after);
+    let mut runs = two_runs(rt, alloc, (mark.state(), None, None), before);
+    let stood = is_marked(&runs, mark);
+    runs.mark(1, mark, moment(9));
+    let is_made = first_instance(rt, &runs) == marked(before, after);
+    drop(runs);
     row_holds(rt, is_made, row);
-    row_holds(rt, is_told, row);
+    row_holds(rt, stood == (after == before), row);
 }
 
 #[test]
 fn each_mark_of_each_instance(rt: HostRuntime) {
     for (row, (before, succeeded, failed)) in STATES.iter().enumerate() {
-        is_made(&rt, rt.alloc(), row, Mark::Success, *before, *succeeded);
-        is_made(&rt, rt.alloc(), row, Mark::Failed, *before, *failed);
-        is_made(&rt, rt.alloc(), row, Mark::Queued, *before, *before);
+        makes(&rt, rt.alloc(), row, Mark::Success, *before, *succeeded);
+        makes(&rt, rt.alloc(), row, Mark::Failed, *before, *failed);
+        makes(&rt, rt.alloc(), row, Mark::Queued, *before, *before);
     }
 }
 
@@ -206,7 +186,7 @@ fn ends(rt: &impl Abort, alloc: Global, mark: Mark) {
     let mut runs = two_runs(rt, alloc, RUNNING, TaskState::Running);
     runs.mark(1, mark, moment(9));
     holds(rt, runs.busy_count() == 1, "one is left");
-    holds(rt, first_busy(&runs) == Some(2), "the other");
+    holds(rt, number_of(runs.busy_at(0)) == Some(2), "the other");
     runs.mark(1, Mark::Queued, moment(10));
     holds(rt, runs.busy_count() == 2, "queued again");
     drop(runs);
@@ -216,12 +196,4 @@ fn ends(rt: &impl Abort, alloc: Global, mark: Mark) {
 fn what_a_mark_ends_is_not_busy(rt: HostRuntime) {
     ends(&rt, rt.alloc(), Mark::Success);
     ends(&rt, rt.alloc(), Mark::Failed);
-}
-
-/// The number of the first busy run.
-fn first_busy(runs: &Runs) -> Option<u64> {
-    match runs.busy_at(0) {
-        Some(run) => Some(run.number),
-        None => None,
-    }
 }

@@ -18,10 +18,20 @@ pub fn has_rows(rows: &[Run], wanted: &[Row<'_>]) -> bool {
 }
 
 pub fn is_row(run: &Run, wanted: &Row<'_>) -> bool {
-    run.number == wanted.0
-        && run.dag_id.as_str() == wanted.1
-        && run.run_id.as_str() == wanted.2
-        && run.state == wanted.3
+    (
+        run.number,
+        run.dag_id.as_str(),
+        run.run_id.as_str(),
+        run.state,
+    ) == *wanted
+}
+
+/// The number of a run, where there is one.
+pub fn number_of(run: Option<&Run>) -> Option<u64> {
+    match run {
+        Some(run) => Some(run.number),
+        None => None,
+    }
 }
 
 /// Whether a run started and ended so.

@@ -107,10 +107,12 @@ impl Twins {
     }
 }
 
+const DAGS: &[&str] = &["a", "b", "a.b"];
+
 /// The ids of three DAGs.
 fn three_dags(rt: &impl Abort, alloc: Global) -> Vec<DagId> {
     let mut dags = Vec::new(alloc);
-    for text in ["a", "b", "a.b"] {
+    for text in DAGS {
         let id = DagId::parse(alloc, text).expect(rt, "the id of a DAG");
         dags.push(id).expect(rt, "room for the id of a DAG");
     }
