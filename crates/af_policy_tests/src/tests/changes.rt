@@ -137,7 +137,9 @@ fn fault_in(
     steps: &[(Step, &str)],
 ) -> Result<Option<usize>, Fail> {
     let mut policy = policy_of(alloc, members)?;
-    first_fault(alloc, &mut policy, steps)
+    let fault = first_fault(alloc, &mut policy, steps);
+    drop(policy);
+    fault
 }
 
 /// What changes are of, the members before them, and the changes.
@@ -159,8 +161,10 @@ fn changes_are_made_or_refused_in_order(rt: HostRuntime) -> Result<(), Fail> {
 /// The first step of users that is not told as it says, and the first of who is then found that is another.
 fn of_users(alloc: Global) -> Result<(Option<usize>, Option<usize>), Fail> {
     let mut policy = policy(alloc)?;
-    let fault = first_fault(alloc, &mut policy, OF_USERS)?;
-    Ok((fault, first_other(&policy)))
+    let fault = first_fault(alloc, &mut policy, OF_USERS);
+    let other = first_other(&policy);
+    drop(policy);
+    Ok((fault?, other))
 }
 
 #[test]

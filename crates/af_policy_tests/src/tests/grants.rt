@@ -44,14 +44,9 @@ const A_ALONE: &[&str] = &[A];
 fn dags(alloc: Global, ids: &[&str]) -> Result<Vec<DagId>, Fail> {
     let mut dags = Vec::new(alloc);
     for id in ids {
-        add_dag(alloc, &mut dags, id)?;
+        dags.push(DagId::parse(alloc, id)?)?;
     }
     Ok(dags)
-}
-
-fn add_dag(alloc: Global, dags: &mut Vec<DagId>, id: &str) -> Result<(), Fail> {
-    let dag = DagId::parse(alloc, id)?;
-    Ok(dags.push(dag)?)
 }
 
 /// What a user lacks where the request is about a DAG, and those DAGs are there.
@@ -174,7 +169,9 @@ fn first_other(alloc: Global, policy: &Policy) -> Result<Option<usize>, Fail> {
 /// The same of the policy of the five.
 fn first_other_of_five(alloc: Global) -> Result<Option<usize>, Fail> {
     let policy = policy(alloc)?;
-    first_other(alloc, &policy)
+    let other = first_other(alloc, &policy);
+    drop(policy);
+    other
 }
 
 #[test]
@@ -224,11 +221,27 @@ fn refusals(alloc: Global, draft: &mut PolicyDraft) -> Result<(bool, Option<usiz
     Ok((is_role_refused, first_row(alloc, draft)?))
 }
 
+/// Whether a draft makes no policy.
+fn is_no_policy(alloc: Global, draft: PolicyDraft) -> bool {
+    match draft.finish(alloc) {
+        Ok(policy) => {
+            drop(policy);
+            false
+        }
+        Err(_) => true,
+    }
+}
+
 /// The same of a draft that opens, and whether it makes no policy then.
 fn refused(alloc: Global) -> Result<((bool, Option<usize>), bool), Fail> {
     let mut draft = PolicyDraft::new(alloc)?;
-    let refusals = refusals(alloc, &mut draft)?;
-    Ok((refusals, draft.finish(alloc).is_err()))
+    match refusals(alloc, &mut draft) {
+        Ok(refusals) => Ok((refusals, is_no_policy(alloc, draft))),
+        Err(fault) => {
+            drop(draft);
+            Err(fault)
+        }
+    }
 }
 
 #[test]

@@ -110,14 +110,9 @@ fn add_permission(
 pub fn names(alloc: Global, texts: &[&str]) -> Result<Vec<RoleName>, Fail> {
     let mut names = Vec::new(alloc);
     for text in texts {
-        add_name(alloc, &mut names, text)?;
+        names.push(RoleName::parse(alloc, text)?)?;
     }
     Ok(names)
-}
-
-fn add_name(alloc: Global, names: &mut Vec<RoleName>, text: &str) -> Result<(), Fail> {
-    let name = RoleName::parse(alloc, text)?;
-    Ok(names.push(name)?)
 }
 
 /// The user of this name, this token and these roles.
@@ -140,8 +135,13 @@ pub enum Members {
 /// The policy of these members.
 pub fn policy_of(alloc: Global, members: Members) -> Result<Policy, Fail> {
     let mut draft = PolicyDraft::new(alloc)?;
-    add_members(alloc, &mut draft, members)?;
-    Ok(draft.finish(alloc)?)
+    match add_members(alloc, &mut draft, members) {
+        Ok(()) => Ok(draft.finish(alloc)?),
+        Err(fault) => {
+            drop(draft);
+            Err(fault)
+        }
+    }
 }
 
 /// The policy of the five.

@@ -245,11 +245,21 @@ fn first_self(alloc: Global, versions: &Versions) -> Result<Option<usize>, Fail>
     Ok(None)
 }
 
+/// Both numbers.
+fn first_of_both(
+    alloc: Global,
+    versions: &Versions,
+) -> Result<(Option<usize>, Option<usize>), Fail> {
+    let read = first_read(alloc, versions)?;
+    Ok((read, first_self(alloc, versions)?))
+}
+
 /// Both on the versions of the policy of the five.
 fn first_others(alloc: Global) -> Result<(Option<usize>, Option<usize>), Fail> {
     let versions = opened(alloc)?;
-    let read = first_read(alloc, &versions)?;
-    Ok((read, first_self(alloc, &versions)?))
+    let others = first_of_both(alloc, &versions);
+    drop(versions);
+    others
 }
 
 #[test]
@@ -266,7 +276,10 @@ const MORE_ROLES: &[&str] = &[PUBLIC, ONLY_B, ONLY_B];
 fn change(alloc: Global, versions: &mut Versions) -> Result<bool, Fail> {
     let ask = Ask::Made(change_of(alloc, Step::SetRoles(BOB, MORE_ROLES))?);
     let made = versions.submit(alloc, Some(ADAMS.as_bytes()), &ask);
-    Ok(made.is_ok())
+    drop(ask);
+    let is_made = made.is_ok();
+    drop(made);
+    Ok(is_made)
 }
 
 /// Whether that is made, and then bob is told it under the next version.
@@ -279,7 +292,9 @@ fn is_changed(alloc: Global, versions: &mut Versions) -> Result<(bool, bool), Fa
 /// The same of the versions of the policy of the five.
 fn is_changed_of_five(alloc: Global) -> Result<(bool, bool), Fail> {
     let mut versions = opened(alloc)?;
-    is_changed(alloc, &mut versions)
+    let changed = is_changed(alloc, &mut versions);
+    drop(versions);
+    changed
 }
 
 #[test]

@@ -202,7 +202,9 @@ fn word(fault: &ChangeFault) -> &'static str {
 /// A copy of the change of a step.
 fn copied(alloc: Global, step: Step) -> Result<Change, Fail> {
     let change = change_of(alloc, step)?;
-    Ok(change.copy(alloc)?)
+    let copy = change.copy(alloc);
+    drop(change);
+    Ok(copy?)
 }
 
 /// What is told of a change, and the policy that it leaves in place of the one before.
@@ -215,18 +217,26 @@ fn change_by(alloc: Global, policy: &mut Policy, change: &Change) -> Result<Stri
 
 /// What is told of a change that is made, and the policy that it leaves in place of the one before.
 fn put(alloc: Global, policy: &mut Policy, later: Policy) -> Result<String, AllocError> {
-    *policy = later;
+    replace(policy, later);
     String::from_str(alloc, DONE)
 }
 
 /// What is told of a fault, and a copy of the policy in its place.
 fn keep(alloc: Global, policy: &mut Policy, fault: &ChangeFault) -> Result<String, AllocError> {
-    *policy = policy.copy()?;
+    let copy = policy.copy()?;
+    replace(policy, copy);
     told(alloc, fault)
+}
+
+/// Puts a policy in the place of another, which is dropped by `drop`: that is proved once, and not at each way out.
+fn replace(policy: &mut Policy, later: Policy) {
+    drop(std::mem::replace(policy, later));
 }
 
 /// Makes the change of a step of a policy: what is told of it.
 pub fn take(alloc: Global, policy: &mut Policy, step: Step) -> Result<String, Fail> {
     let change = copied(alloc, step)?;
-    Ok(change_by(alloc, policy, &change)?)
+    let told = change_by(alloc, policy, &change);
+    drop(change);
+    Ok(told?)
 }

@@ -136,7 +136,9 @@ fn first_other(alloc: Global, policy: &mut Policy) -> Result<Option<usize>, Fail
 /// The same of the policy of the five.
 fn first_other_of_five(alloc: Global) -> Result<Option<usize>, Fail> {
     let mut policy = policy(alloc)?;
-    first_other(alloc, &mut policy)
+    let other = first_other(alloc, &mut policy);
+    drop(policy);
+    other
 }
 
 #[test]
@@ -188,7 +190,9 @@ fn left_by(alloc: Global, policy: &mut Policy) -> Result<Left, Fail> {
 /// The same of the policy of the five.
 fn left(alloc: Global) -> Result<Left, Fail> {
     let mut policy = policy(alloc)?;
-    left_by(alloc, &mut policy)
+    let left = left_by(alloc, &mut policy);
+    drop(policy);
+    left
 }
 
 #[test]

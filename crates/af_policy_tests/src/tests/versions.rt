@@ -77,7 +77,10 @@ fn asked_for(
 ) -> Result<String, Fail> {
     let ask = ask_of(alloc, asked)?;
     let made = versions.submit(alloc, Some(token.as_bytes()), &ask);
-    Ok(outcome(alloc, &made)?)
+    drop(ask);
+    let told = outcome(alloc, &made);
+    drop(made);
+    Ok(told?)
 }
 
 /// Whether this is told of what the bearer of a token asks for.
@@ -114,8 +117,10 @@ fn first_other(
 /// That number where so many versions are left, and the latest version then.
 fn after(alloc: Global, left: u32, rows: &[Row]) -> Result<(Option<usize>, u32), Fail> {
     let mut versions = opened(alloc, left)?;
-    let other = first_other(alloc, &mut versions, rows)?;
-    Ok((other, versions.current()))
+    let other = first_other(alloc, &mut versions, rows);
+    let current = versions.current();
+    drop(versions);
+    Ok((other?, current))
 }
 
 /// One version is left more than are made; the last Admin stays.
@@ -174,8 +179,11 @@ fn first_version(versions: &Versions) -> Option<usize> {
 /// That number after all that is asked for, and whether there is no version past the latest.
 fn played(alloc: Global) -> Result<(Option<usize>, bool), Fail> {
     let mut versions = opened(alloc, 2)?;
-    let _other = first_other(alloc, &mut versions, ASKED)?;
-    Ok((first_version(&versions), versions.policy(3).is_none()))
+    let played = first_other(alloc, &mut versions, ASKED);
+    let seen = (first_version(&versions), versions.policy(3).is_none());
+    drop(versions);
+    let _other = played?;
+    Ok(seen)
 }
 
 #[test]

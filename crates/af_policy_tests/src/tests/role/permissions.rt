@@ -45,12 +45,20 @@ pub(super) fn permissions_of(
 
 const LISTED: &str = "DAGs.can_read,Users.can_read,DAG:B.can_read,DAG:b.can_read,DAG:b.can_edit,";
 
+/// How many pairs these texts are, and whether they stand in order.
+fn in_order(alloc: Global) -> Result<(usize, bool), AllocError> {
+    let permissions = permissions_of(alloc, TEXTS)?;
+    let count = permissions.len();
+    let text = listed(alloc, &permissions);
+    drop(permissions);
+    Ok((count, text?.as_str() == LISTED))
+}
+
 #[test]
 fn permissions_stand_in_order_and_once(rt: HostRuntime) -> Result<(), AllocError> {
-    let permissions = permissions_of(rt.alloc(), TEXTS)?;
-    holds(&rt, permissions.len() == 5, "five pairs");
-    let text = listed(rt.alloc(), &permissions)?;
-    holds(&rt, text.as_str() == LISTED, "in order");
+    let (count, is_in_order) = in_order(rt.alloc())?;
+    holds(&rt, count == 5, "five pairs");
+    holds(&rt, is_in_order, "in order");
     Ok(())
 }
 
