@@ -6,15 +6,15 @@ use crate::tests::openings::policy;
 use crate::tests::steps::{Step, change_of};
 use crate::tests::words::{
     ADAMS, BAD, BLANK, BOB, BOB_CHANGED, BOBS, CLOSE, COLON, COMMA, DENIED, NO_SUCH_ANSWER,
-    NO_SUCH_ROLE, NO_SUCH_USER, ONLY_B, OPEN, PUBLIC, SEMICOLON, UNAUTHENTICATED,
+    NO_SUCH_ROLE, NO_SUCH_USER, OPEN, SEMICOLON, UNAUTHENTICATED,
 };
 use af_names::{RoleName, UserName};
 use af_policy::{
-    Ask, BadInput, Me, MeFault, Page, Parameter, PolicyRead, PolicyReply, ReadFault, ReadKind,
-    RoleShown, Span, UserShown, Versions,
+    Ask, Me, MeFault, Page, PolicyRead, PolicyReply, ReadFault, RoleShown, Span, UserShown,
+    Versions,
 };
 use af_role::{Pair, Permissions};
-use rows::{Asked, READS, SELVES};
+use rows::{Asked, BAD_ROLES, MORE_ROLES, READS, SELVES};
 use std::alloc::{AllocError, Global};
 use std::test::Fail;
 
@@ -27,11 +27,6 @@ fn read_of(alloc: Global, asked: Asked) -> Result<PolicyRead, Fail> {
         Asked::BadRoles => Ok(BAD_ROLES),
     }
 }
-
-const BAD_ROLES: PolicyRead = PolicyRead::Bad(
-    ReadKind::Roles,
-    BadInput::Parameter(Parameter::Limit),
-);
 
 fn read_of_role(alloc: Global, name: &str) -> Result<PolicyRead, Fail> {
     Ok(PolicyRead::Role(RoleName::parse(alloc, name)?))
@@ -269,8 +264,6 @@ fn reads_are_told_or_refused_in_order(rt: HostRuntime) -> Result<(), Fail> {
     all_hold(&rt, one_self, "who one is");
     Ok(())
 }
-
-const MORE_ROLES: &[&str] = &[PUBLIC, ONLY_B, ONLY_B];
 
 /// Has bob get a further role, and one twice: whether that is made.
 fn change(alloc: Global, versions: &mut Versions) -> Result<bool, Fail> {

@@ -3,6 +3,7 @@ use crate::tests::words::{
     LAST_ROLE, NO_SUCH_ROLE, NO_SUCH_USER, NO_USER, NOBODY, ONLY_B, ONLY_B_SHOWN, PAT_SELF, PATS,
     PUBLIC, PUBLIC_SHOWN, STRANGERS, THIRD_TO_FIFTH, TWO_ROLES, UNAUTHENTICATED, VERAS,
 };
+use af_policy::{BadInput, Parameter, PolicyRead, ReadKind};
 
 /// What is asked for.
 #[derive(Clone, Copy)]
@@ -45,3 +46,12 @@ pub const SELVES: &[(&str, &str)] = &[
     (PATS, PAT_SELF),
     (EDNAS, EDNA_SELF),
 ];
+
+/// Roles, asked for with a limit that is none.
+pub const BAD_ROLES: PolicyRead = PolicyRead::Bad(
+    ReadKind::Roles,
+    BadInput::Parameter(Parameter::Limit),
+);
+
+/// The further role that bob gets, and one twice.
+pub const MORE_ROLES: &[&str] = &[PUBLIC, ONLY_B, ONLY_B];
