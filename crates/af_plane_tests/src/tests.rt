@@ -1,7 +1,9 @@
 mod asserts;
+mod calls;
 mod due;
 mod opening;
 mod planes;
 mod playing;
 mod solos;
 mod users;
+mod world;

@@ -86,7 +86,9 @@ fn made_by(
 /// What that is of a player that is due so.
 fn made(alloc: Global, due: Due, rows: &[Row], made: Made) -> Result<(usize, bool), Fail> {
     let mut player = make_player(alloc, 1_000_000, due)?;
-    made_by(alloc, &mut player, rows, made)
+    let told = made_by(alloc, &mut player, rows, made);
+    drop(player);
+    told
 }
 
 #[test]

@@ -1,7 +1,8 @@
 //! Stories of a plane: a history that fills, and a run that fails, is cleared and goes again.
 use crate::tests::asserts::story_holds;
+use crate::tests::calls::Asked;
 use crate::tests::opening::MONTHLY;
-use crate::tests::playing::{Asked, Row, Step, make_player, played};
+use crate::tests::playing::{Row, Step, make_player, played};
 use af_audit::{AuditFault, ReportRefusal};
 use af_ops::{Endpoint, Status};
 use af_sched::{Outcome, ReportFault};
@@ -12,9 +13,9 @@ const JANUARY: &str = "2024-01-01T00:00:00Z";
 
 const MARCH: &str = "2024-03-01T00:00:00Z";
 
-const PAUSE: Asked = ("uma", Endpoint::PauseDag, "b", "{\"is_paused\":true}");
+const PAUSE: Asked = ("uma", Endpoint::PauseDag, &["b"], "{\"is_paused\":true}");
 
-const GO_ON: Asked = ("uma", Endpoint::PauseDag, "b", "{\"is_paused\":false}");
+const GO_ON: Asked = ("uma", Endpoint::PauseDag, &["b"], "{\"is_paused\":false}");
 
 const PAUSED: &str =
     r#"{"dag_id":"b","is_paused":true,"max_active_runs":16,"next_dagrun":null,"schedule_interval":null}"#;
@@ -45,7 +46,7 @@ const THREE: &[Row] = &[
     (Step::Ask(PAUSE, Status::Ok, PAUSED), JANUARY, 3),
     (
         Step::Ask(
-            ("vera", Endpoint::PauseDag, "b", "{"),
+            ("vera", Endpoint::PauseDag, &["b"], "{"),
             Status::Forbidden,
             DENIED,
         ),
@@ -54,7 +55,7 @@ const THREE: &[Row] = &[
     ),
     (
         Step::Ask(
-            ("", Endpoint::PauseDag, "b", "{"),
+            ("", Endpoint::PauseDag, &["b"], "{"),
             Status::Unauthorized,
             NOBODY,
         ),
@@ -63,11 +64,21 @@ const THREE: &[Row] = &[
     ),
 ];
 
-const TRIGGER: Asked = ("uma", Endpoint::TriggerRun, "b", "{\"dag_run_id\":\"r1\"}");
+const TRIGGER: Asked = (
+    "uma",
+    Endpoint::TriggerRun,
+    &["b"],
+    "{\"dag_run_id\":\"r1\"}",
+);
 
-const CLEAR: Asked = ("uma", Endpoint::ClearInstances, "b", "{}");
+const CLEAR: Asked = ("uma", Endpoint::ClearInstances, &["b"], "{}");
 
-const CLEAR_INDEED: Asked = ("uma", Endpoint::ClearInstances, "b", "{\"dry_run\":false}");
+const CLEAR_INDEED: Asked = (
+    "uma",
+    Endpoint::ClearInstances,
+    &["b"],
+    "{\"dry_run\":false}",
+);
 
 const RUN: &str =
     r#"{"dag_id":"b","dag_run_id":"r1","data_interval_end":"2024-01-01T00:00:00+00:00","data_interval_start":"2024-01-01T00:00:00+00:00","end_date":null,"logical_date":"2024-01-01T00:00:00+00:00","run_type":"manual","start_date":null,"state":"queued"}"#;
@@ -158,7 +169,9 @@ const STORIES: &[Story] = &[
 /// How many rows of a story go as they should.
 fn told_of(alloc: Global, story: &Story) -> Result<usize, Fail> {
     let mut player = make_player(alloc, story.limit, MONTHLY)?;
-    played(alloc, &mut player, story.rows)
+    let told = played(alloc, &mut player, story.rows);
+    drop(player);
+    told
 }
 
 #[test]

@@ -1,17 +1,16 @@
-//! A plane beside the versions of a policy, and rows of what is done there.
-use crate::tests::opening::{Due, call, plane};
-use crate::tests::users::{policy, token};
+//! A plane beside the versions of a policy, and rows of what is done there. Who owns a player, a call or what is told lends it, and
+//! hands it to `drop`, which is proved once, and not at each way out.
+use crate::tests::calls::{Asked, call};
+use crate::tests::opening::{Dags, Due, opened};
+use crate::tests::users::OF_PLANES;
 use af_audit::{AuditFault, ReportRefusal};
 use af_names::Instant;
-use af_ops::{Call, Endpoint, Served, Shown, Status};
+use af_ops::{Call, Served, Shown, Status};
 use af_plane::Plane;
 use af_policy::Versions;
 use af_sched::{Claim, Outcome};
 use std::alloc::Global;
 use std::test::Fail;
-
-/// What a user asks for, with which part of the path and which body.
-pub type Asked = (&'static str, Endpoint, &'static str, &'static str);
 
 /// What is done, and what is told of it.
 #[derive(Clone, Copy)]
@@ -39,12 +38,21 @@ pub struct Player {
 
 /// A plane with room for so many entries, and one DAG that is due so.
 pub fn make_player(alloc: Global, limit: u32, due: Due) -> Result<Player, Fail> {
-    let policy = policy(alloc)?;
+    let (policy, state) = opened(alloc, OF_PLANES, Dags::AndDue(due))?;
     Ok(Player {
-        plane: plane(alloc, limit, due)?,
+        plane: Plane::open(alloc, state, limit),
         versions: Versions::open(alloc, policy, 9),
         claims: Vec::new(alloc),
     })
+}
+
+/// The token of a user, or none for nobody.
+pub fn token(who: &str) -> Option<&[u8]> {
+    if who.is_empty() {
+        None
+    } else {
+        Some(who.as_bytes())
+    }
 }
 
 /// What a look and an apply give.
@@ -63,13 +71,42 @@ fn served(
     plane.apply(alloc, versions, version, token(who), call, at)
 }
 
-/// Whether what is told has this status and this body.
-fn is_told(shown: &Shown, status: Status, text: &str) -> bool {
-    let is_text = match &shown.body {
+/// Whether what is told has this body.
+pub fn is_text(shown: &Shown, text: &str) -> bool {
+    match &shown.body {
         Some(body) => body.as_bytes() == text.as_bytes(),
         None => false,
-    };
-    is_text && shown.status == status
+    }
+}
+
+/// Whether what is told is that, with this number of entries.
+fn is_told(gave: &Option<Served>, status: Status, text: &str, count: u32) -> bool {
+    match gave {
+        Some(Served::Shown(shown)) => {
+            is_text(shown, text) && shown.status == status && shown.seq == Some(count)
+        }
+        _ => false,
+    }
+}
+
+/// What is given for what is asked.
+fn given(
+    alloc: Global,
+    player: &mut Player,
+    what: Asked,
+    at: Instant,
+) -> Result<Option<Served>, Fail> {
+    let call = call(alloc, what)?;
+    let gave = served(
+        alloc,
+        &mut player.plane,
+        &player.versions,
+        what.0,
+        &call,
+        at,
+    );
+    drop(call);
+    Ok(gave)
 }
 
 /// Whether what is asked for is told so, with the number of entries.
@@ -80,22 +117,11 @@ fn asked(
     told: (Status, &str),
     at: Instant,
 ) -> Result<bool, Fail> {
-    let call = call(alloc, what.1, what.2, what.3)?;
-    let gave = served(
-        alloc,
-        &mut player.plane,
-        &player.versions,
-        what.0,
-        &call,
-        at,
-    );
+    let gave = given(alloc, player, what, at)?;
     let count = player.plane.ledger().audit().count();
-    Ok(match gave {
-        Some(Served::Shown(shown)) => {
-            is_told(&shown, told.0, told.1) && shown.seq == Some(count)
-        }
-        _ => false,
-    })
+    let is_told = is_told(&gave, told.0, told.1, count);
+    drop(gave);
+    Ok(is_told)
 }
 
 /// Claims, and tells which try of it is claimed, if any.
@@ -139,12 +165,17 @@ fn goes(alloc: Global, player: &mut Player, step: Step, at: Instant) -> Result<b
     }
 }
 
+/// Whether the step of a row goes as it says, and there are then so many entries.
+fn goes_row(alloc: Global, player: &mut Player, row: &Row) -> Result<bool, Fail> {
+    let at = Instant::read(row.1)?;
+    let goes = goes(alloc, player, row.0, at)?;
+    Ok(goes && player.plane.ledger().audit().count() == row.2)
+}
+
 /// Takes the steps of these rows: how many go as they should, up to the first that does not.
 pub fn played(alloc: Global, player: &mut Player, rows: &[Row]) -> Result<usize, Fail> {
     for (place, row) in rows.iter().enumerate() {
-        let at = Instant::read(row.1)?;
-        let goes = goes(alloc, player, row.0, at)?;
-        if !goes || player.plane.ledger().audit().count() != row.2 {
+        if !goes_row(alloc, player, row)? {
             return Ok(place);
         }
     }

@@ -1,6 +1,6 @@
 //! A history and a list of versions that are full.
-use crate::tests::playing::agrees;
-use crate::tests::steps::{Does, Row, Says};
+use crate::tests::world::playing::agrees;
+use crate::tests::world::steps::{Does, Row, Says};
 use af_ops::{Endpoint, Status};
 use af_sched::Outcome;
 use std::test::Fail;
@@ -61,8 +61,7 @@ const THREE: &[Row] = &[
 
 #[test]
 fn a_full_history_refuses_changes(rt: HostRuntime) -> Result<(), Fail> {
-    assert!(rt; agrees(rt.alloc(), (100, 3), THREE)?, "a history of three");
-    Ok(())
+    agrees(&rt, rt.alloc(), (100, 3), THREE, "a history of three")
 }
 
 const FULL_TICK: &[Row] = &[
@@ -101,20 +100,17 @@ const FULL_REPORT: &[Row] = &[
 
 #[test]
 fn a_full_history_refuses_ticks(rt: HostRuntime) -> Result<(), Fail> {
-    assert!(rt; agrees(rt.alloc(), (100, 1), FULL_TICK)?, "a tick");
-    Ok(())
+    agrees(&rt, rt.alloc(), (100, 1), FULL_TICK, "a tick")
 }
 
 #[test]
 fn a_full_history_refuses_claims(rt: HostRuntime) -> Result<(), Fail> {
-    assert!(rt; agrees(rt.alloc(), (100, 2), FULL_CLAIM)?, "a claim");
-    Ok(())
+    agrees(&rt, rt.alloc(), (100, 2), FULL_CLAIM, "a claim")
 }
 
 #[test]
 fn a_full_history_refuses_reports(rt: HostRuntime) -> Result<(), Fail> {
-    assert!(rt; agrees(rt.alloc(), (100, 3), FULL_REPORT)?, "a report");
-    Ok(())
+    agrees(&rt, rt.alloc(), (100, 3), FULL_REPORT, "a report")
 }
 
 /// Where version 2 is the last that there may be, the third change is refused.
@@ -135,6 +131,5 @@ const TWO_VERSIONS: &[Row] = &[
 
 #[test]
 fn no_version_is_made_after_the_last(rt: HostRuntime) -> Result<(), Fail> {
-    assert!(rt; agrees(rt.alloc(), (2, 100), TWO_VERSIONS)?, "two versions");
-    Ok(())
+    agrees(&rt, rt.alloc(), (2, 100), TWO_VERSIONS, "two versions")
 }

@@ -1,9 +1,8 @@
 //! Changes of the policy whose body is bad, or a member of it: each is told under the version that it was handed in under, after who asks
 //! and what is lacked, before what the change itself is refused for; and no version is made.
-use crate::tests::playing::{agrees, agrees_but};
-use crate::tests::steps::{Does, Row, Says};
+use crate::tests::world::playing::{ROOM, agrees, each_differs};
+use crate::tests::world::steps::{Does, Other, Row, Says};
 use af_ops::{Endpoint, Status};
-use std::alloc::Global;
 use std::test::Fail;
 
 const BAD_BODY: &str =
@@ -147,8 +146,7 @@ const BAD: &[Row] = &[
 
 #[test]
 fn a_bad_body_is_told_under_the_version_of_its_change(rt: HostRuntime) -> Result<(), Fail> {
-    assert!(rt; agrees(rt.alloc(), (100, 100), BAD)?, "bad bodies");
-    Ok(())
+    agrees(&rt, rt.alloc(), ROOM, BAD, "bad bodies")
 }
 
 /// Under an earlier version a bad body is told to who has seen no later one; to who has, that the policy moved.
@@ -184,11 +182,7 @@ const BAD_AND_MOVED: &[Row] = &[
 
 #[test]
 fn a_bad_body_of_an_overtaken_change(rt: HostRuntime) -> Result<(), Fail> {
-    assert!(rt;
-        agrees(rt.alloc(), (100, 100), BAD_AND_MOVED)?,
-        "bad and overtaken"
-    );
-    Ok(())
+    agrees(&rt, rt.alloc(), ROOM, BAD_AND_MOVED, "bad and overtaken")
 }
 
 /// It comes before a list of versions that is full.
@@ -216,8 +210,7 @@ const BAD_AND_FULL: &[Row] = &[
 
 #[test]
 fn a_bad_body_is_told_before_a_full_list_of_versions(rt: HostRuntime) -> Result<(), Fail> {
-    assert!(rt; agrees(rt.alloc(), (0, 100), BAD_AND_FULL)?, "bad and full");
-    Ok(())
+    agrees(&rt, rt.alloc(), (0, 100), BAD_AND_FULL, "bad and full")
 }
 
 /// Who hands in a bad body no longer holds the plane; another session's hold stays.
@@ -244,12 +237,11 @@ const HOLDS: &[Row] = &[
 
 #[test]
 fn a_bad_body_ends_the_hold_of_its_session(rt: HostRuntime) -> Result<(), Fail> {
-    assert!(rt; agrees(rt.alloc(), (100, 100), HOLDS)?, "holds");
-    Ok(())
+    agrees(&rt, rt.alloc(), ROOM, HOLDS, "holds")
 }
 
 /// At a place of the bad bodies, another answer: another version, another status, another fault, one byte of the text, no answer.
-const OTHERS: &[(usize, Says)] = &[
+const OTHERS: &[Other] = &[
     (2, Says::Policy(Status::BadRequest, 1, BAD_BODY)),
     (2, Says::Policy(Status::Conflict, 0, BAD_BODY)),
     (2, Says::Policy(Status::BadRequest, 0, BAD_ROLES)),
@@ -259,18 +251,7 @@ const OTHERS: &[(usize, Says)] = &[
     (10, Says::Nothing),
 ];
 
-/// How many of these differ, up to the first that agrees.
-fn differing(alloc: Global) -> Result<usize, Fail> {
-    for (at, other) in OTHERS.iter().enumerate() {
-        if agrees_but(alloc, (100, 100), BAD, other.0, other.1)? {
-            return Ok(at);
-        }
-    }
-    Ok(OTHERS.len())
-}
-
 #[test]
 fn bad_bodies_with_one_thing_changed_differ(rt: HostRuntime) -> Result<(), Fail> {
-    assert_eq!(rt; differing(rt.alloc())?, OTHERS.len());
-    Ok(())
+    each_differs(&rt, rt.alloc(), BAD, OTHERS)
 }

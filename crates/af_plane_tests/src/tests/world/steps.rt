@@ -28,3 +28,9 @@ pub enum Says {
 
 /// A step and its answer.
 pub type Row = (Does, Says);
+
+/// A place, and the answer that stands there in place of the row's own.
+pub type Other = (usize, Says);
+
+/// Each row has its own answer.
+pub const NO_OTHER: Other = (usize::MAX, Says::Nothing);

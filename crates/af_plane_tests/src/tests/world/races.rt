@@ -1,6 +1,6 @@
 //! Two sessions: a lost race, and a publish between a look and its act.
-use crate::tests::playing::agrees;
-use crate::tests::steps::{Does, Row, Says};
+use crate::tests::world::playing::{ROOM, agrees};
+use crate::tests::world::steps::{Does, Row, Says};
 use af_ops::{Endpoint, Status};
 use std::test::Fail;
 
@@ -59,8 +59,7 @@ const RACE: &[Row] = &[
 
 #[test]
 fn a_lost_race_is_told_to_which_version_the_policy_moved(rt: HostRuntime) -> Result<(), Fail> {
-    assert!(rt; agrees(rt.alloc(), (100, 100), RACE)?, "a lost race");
-    Ok(())
+    agrees(&rt, rt.alloc(), ROOM, RACE, "a lost race")
 }
 
 /// A publish between a look and its act: the act is decided under the version that was looked at; the next one under the later.
@@ -80,9 +79,11 @@ const BETWEEN: &[Row] = &[
 
 #[test]
 fn an_act_is_decided_under_the_version_of_its_look(rt: HostRuntime) -> Result<(), Fail> {
-    assert!(rt;
-        agrees(rt.alloc(), (100, 100), BETWEEN)?,
-        "a publish between look and act"
-    );
-    Ok(())
+    agrees(
+        &rt,
+        rt.alloc(),
+        ROOM,
+        BETWEEN,
+        "a publish between look and act",
+    )
 }

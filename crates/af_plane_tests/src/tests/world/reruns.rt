@@ -1,6 +1,6 @@
 //! A run that failed is cleared, and its task tried again.
-use crate::tests::playing::agrees;
-use crate::tests::steps::{Does, Row, Says};
+use crate::tests::world::playing::{ROOM, agrees};
+use crate::tests::world::steps::{Does, Row, Says};
 use af_ops::{Endpoint, Status};
 use af_sched::Outcome;
 use std::test::Fail;
@@ -66,9 +66,5 @@ const ROWS: &[Row] = &[
 
 #[test]
 fn a_cleared_run_is_tried_again(rt: HostRuntime) -> Result<(), Fail> {
-    assert!(rt;
-        agrees(rt.alloc(), (100, 100), ROWS)?,
-        "a run that is cleared"
-    );
-    Ok(())
+    agrees(&rt, rt.alloc(), ROOM, ROWS, "a run that is cleared")
 }

@@ -1,5 +1,10 @@
 //! Traces of worlds, as rows that one loop plays: what each step is answered, and what a check of a trace says.
-#![tactic(auto)]
-
-#[cfg(test)]
-mod tests;
+mod bodies;
+mod limits;
+mod making;
+mod playing;
+mod races;
+mod reruns;
+mod sights;
+mod steps;
+mod stories;

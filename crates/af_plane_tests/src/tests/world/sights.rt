@@ -1,9 +1,10 @@
 //! What one session is told: its versions never fall.
-use crate::tests::opening::opening;
-use crate::tests::playing::add_step;
-use crate::tests::steps::Does;
+use crate::tests::asserts::are_told;
+use crate::tests::world::making::step;
+use crate::tests::world::playing::{ROOM, opening};
+use crate::tests::world::steps::Does;
 use af_ops::{Endpoint, Shown};
-use af_world::{Opening, Step, World};
+use af_world::{Opening, World};
 use std::alloc::Global;
 use std::test::Fail;
 
@@ -47,47 +48,49 @@ fn named(does: Does, answer: &Option<Shown>) -> Option<u32> {
     }
 }
 
-/// Takes a step, and gives the version that session 1 is told, if it is told one.
-fn taken(alloc: Global, world: &mut World, step: &Step, does: Does) -> Result<Option<u32>, Fail> {
-    let answer = world.take(alloc, step)?;
-    Ok(named(does, &answer))
+/// What a world answers to a step.
+fn answered(alloc: Global, world: &mut World, does: Does) -> Result<Option<Shown>, Fail> {
+    let step = step(alloc, does)?;
+    let answer = world.take(alloc, &step);
+    drop(step);
+    Ok(answer?)
 }
 
-fn told_in(alloc: Global, world: &mut World, steps: &[Step]) -> Result<Vec<u32>, Fail> {
+/// Takes a step, and gives the version that session 1 is told, if it is told one.
+fn taken(alloc: Global, world: &mut World, does: Does) -> Result<Option<u32>, Fail> {
+    let answer = answered(alloc, world, does)?;
+    let told = named(does, &answer);
+    drop(answer);
+    Ok(told)
+}
+
+fn told_in(alloc: Global, world: &mut World) -> Result<Vec<u32>, Fail> {
     let mut versions = Vec::new(alloc);
-    for (step, does) in steps.iter().zip(STEPS) {
-        if let Some(version) = taken(alloc, world, step, *does)? {
+    for does in STEPS {
+        if let Some(version) = taken(alloc, world, *does)? {
             versions.push(version)?;
         }
     }
     Ok(versions)
 }
 
-fn told_by(alloc: Global, opening: &Opening, steps: &[Step]) -> Result<Vec<u32>, Fail> {
+fn told_by(alloc: Global, opening: &Opening) -> Result<Vec<u32>, Fail> {
     let mut world = World::open(alloc, opening)?;
-    told_in(alloc, &mut world, steps)
-}
-
-fn steps(alloc: Global) -> Result<Vec<Step>, Fail> {
-    let mut steps = Vec::new(alloc);
-    for does in STEPS {
-        add_step(alloc, &mut steps, *does)?;
-    }
-    Ok(steps)
-}
-
-fn told_from(alloc: Global, steps: &[Step]) -> Result<Vec<u32>, Fail> {
-    let opening = opening(alloc, 100, 100)?;
-    told_by(alloc, &opening, steps)
+    let told = told_in(alloc, &mut world);
+    drop(world);
+    told
 }
 
 fn told(alloc: Global) -> Result<Vec<u32>, Fail> {
-    let steps = steps(alloc)?;
-    told_from(alloc, steps.as_slice())
+    let opening = opening(alloc, ROOM)?;
+    let told = told_by(alloc, &opening);
+    drop(opening);
+    told
 }
 
 #[test]
 fn versions_told_to_a_session_never_fall(rt: HostRuntime) -> Result<(), Fail> {
-    assert_eq!(rt; told(rt.alloc())?.as_slice(), TOLD.as_slice());
+    let told = told(rt.alloc())?;
+    are_told(&rt, told.as_slice(), TOLD.as_slice());
     Ok(())
 }

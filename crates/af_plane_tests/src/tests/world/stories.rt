@@ -1,9 +1,8 @@
 //! A trace with every kind of step; the same with one thing changed; steps that do not fit.
-use crate::tests::playing::{agrees, agrees_but, are_answered_as};
-use crate::tests::steps::{Does, Row, Says};
+use crate::tests::world::playing::{ROOM, agrees, differs, each_differs};
+use crate::tests::world::steps::{Does, NO_OTHER, Other, Row, Says};
 use af_ops::{Endpoint, Status};
 use af_sched::Outcome;
-use std::alloc::Global;
 use std::test::Fail;
 
 /// The run r1 of b, as it is triggered.
@@ -97,12 +96,11 @@ const STORY: &[Row] = &[
 
 #[test]
 fn a_trace_of_every_kind_of_step_agrees(rt: HostRuntime) -> Result<(), Fail> {
-    assert!(rt; agrees(rt.alloc(), (100, 100), STORY)?, "the story");
-    Ok(())
+    agrees(&rt, rt.alloc(), ROOM, STORY, "the story")
 }
 
 /// At a place of the story, another answer: one status, one number, one byte of a body, one answer too few or too many.
-const OTHERS: &[(usize, Says)] = &[
+const OTHERS: &[Other] = &[
     (0, Says::Plane(Status::Ok, 0, 0, "")),
     (1, Says::Nothing),
     (1, Says::Plane(Status::Conflict, 0, 1, R1)),
@@ -125,20 +123,9 @@ const OTHERS: &[(usize, Says)] = &[
     (20, Says::Policy(Status::NoContent, 2, "")),
 ];
 
-/// How many of these differ, up to the first that agrees.
-fn differing(alloc: Global) -> Result<usize, Fail> {
-    for (at, other) in OTHERS.iter().enumerate() {
-        if agrees_but(alloc, (100, 100), STORY, other.0, other.1)? {
-            return Ok(at);
-        }
-    }
-    Ok(OTHERS.len())
-}
-
 #[test]
 fn a_trace_with_one_thing_changed_differs(rt: HostRuntime) -> Result<(), Fail> {
-    assert_eq!(rt; differing(rt.alloc())?, OTHERS.len());
-    Ok(())
+    each_differs(&rt, rt.alloc(), STORY, OTHERS)
 }
 
 /// The first steps of the story, and no answer to the second.
@@ -151,20 +138,26 @@ const TWO_STEPS: &[Row] = &[
 
 #[test]
 fn an_answer_too_few_differs(rt: HostRuntime) -> Result<(), Fail> {
-    assert!(rt;
-        !are_answered_as(rt.alloc(), TWO_STEPS, ONE_LOOK)?,
-        "an answer too few"
-    );
-    Ok(())
+    differs(
+        &rt,
+        rt.alloc(),
+        TWO_STEPS,
+        ONE_LOOK,
+        NO_OTHER,
+        "an answer too few",
+    )
 }
 
 #[test]
 fn an_answer_too_many_differs(rt: HostRuntime) -> Result<(), Fail> {
-    assert!(rt;
-        !are_answered_as(rt.alloc(), ONE_LOOK, TWO_STEPS)?,
-        "an answer too many"
-    );
-    Ok(())
+    differs(
+        &rt,
+        rt.alloc(),
+        ONE_LOOK,
+        TWO_STEPS,
+        NO_OTHER,
+        "an answer too many",
+    )
 }
 
 /// Steps that do not fit are answered nothing, and change nothing: who has not looked, whose hold has ended, a session or a version
@@ -202,11 +195,7 @@ const UNFIT: &[Row] = &[
 
 #[test]
 fn steps_that_do_not_fit_are_answered_nothing(rt: HostRuntime) -> Result<(), Fail> {
-    assert!(rt;
-        agrees(rt.alloc(), (100, 100), UNFIT)?,
-        "steps that do not fit"
-    );
-    Ok(())
+    agrees(&rt, rt.alloc(), ROOM, UNFIT, "steps that do not fit")
 }
 
 const LIST_FOR_PAT: Does = Does::Act(0, "bar", Endpoint::ListDags, &[], "");
@@ -222,20 +211,19 @@ const DENIED: &[Row] = &[
 
 #[test]
 fn a_denial_agrees(rt: HostRuntime) -> Result<(), Fail> {
-    assert!(rt; agrees(rt.alloc(), (100, 100), DENIED)?, "a denial");
-    Ok(())
+    agrees(&rt, rt.alloc(), ROOM, DENIED, "a denial")
 }
 
-fn denied_at_one(alloc: Global) -> Result<bool, Fail> {
-    let other = Says::Plane(Status::Forbidden, 0, 1, NO_DAG_READ);
-    agrees_but(alloc, (100, 100), DENIED, 1, other)
-}
+const DENIED_AT_ONE: Other = (1, Says::Plane(Status::Forbidden, 0, 1, NO_DAG_READ));
 
 #[test]
 fn a_denial_that_counts_an_entry_differs(rt: HostRuntime) -> Result<(), Fail> {
-    assert!(rt;
-        !denied_at_one(rt.alloc())?,
-        "a denial that counts an entry"
-    );
-    Ok(())
+    differs(
+        &rt,
+        rt.alloc(),
+        DENIED,
+        DENIED,
+        DENIED_AT_ONE,
+        "a denial that counts an entry",
+    )
 }
