@@ -1,5 +1,6 @@
 mod asks;
 mod asserts;
+mod calls;
 mod entries;
 mod event_logs;
 mod long;
@@ -10,4 +11,5 @@ mod rows;
 mod runs;
 mod same;
 mod steps;
+mod stories;
 mod users;

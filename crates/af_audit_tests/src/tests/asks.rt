@@ -1,10 +1,8 @@
 //! What users ask for on a long connection: of three DAGs, b, a scheduled one and one of several tasks, and of their runs; of pools and
 //! variables.
+use crate::tests::calls::Ask;
 use crate::tests::rows::{PAUSED, RUNNING};
 use af_ops::Endpoint;
-
-/// What is asked for: the endpoint, the names of its path, and the body.
-pub type Ask = (Endpoint, &'static [&'static str], &'static str);
 
 /// Who asks, mostly those who may; the last is nobody. Each user's name is the token.
 pub const USERS: &[&str] = &["adam", "adam", "adam", "uma", "uma", "bea", "pat", ""];

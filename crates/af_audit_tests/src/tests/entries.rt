@@ -1,9 +1,9 @@
 //! What the entries of a ledger say: their numbers, who did what, when, and under which policy version.
-use crate::tests::asserts::row_holds;
-use crate::tests::opening::ledger;
-use crate::tests::playing::{EVERYBODY, NOBODY, Readers, played};
+use crate::tests::asserts::part_holds;
+use crate::tests::opening::Dags;
+use crate::tests::playing::{EVERYBODY, NOBODY, Readers};
 use crate::tests::rows::{FAILED, JANUARY, MARCH, POOLS, VARIABLES};
-use crate::tests::steps::Row;
+use crate::tests::stories::{Part, Story, Titled, all_go};
 use af_audit::{Act, Actor, Audit, AuditFault, Entry, Ledger, entries_page};
 use af_listing::Window;
 use af_names::Instant;
@@ -30,44 +30,44 @@ const EVENTS_OF_VARIABLES: &[&str] = &[
     "post_variable",
 ];
 
-/// The ledger after these rows.
-fn after(alloc: Global, rows: &[Row]) -> Result<Ledger, Fail> {
-    let mut ledger = ledger(alloc, 1_000_000)?;
-    let _count = played(alloc, &mut ledger, rows)?;
-    Ok(ledger)
-}
-
-fn failed(alloc: Global) -> Result<Ledger, Fail> {
-    after(alloc, FAILED)
-}
-
-/// Whether the entries after these rows are of these events, and name no DAG.
-fn are_events(alloc: Global, rows: &[Row], events: &[&str]) -> Result<bool, Fail> {
-    let ledger = after(alloc, rows)?;
-    Ok(have_events(ledger.audit().entries(), events))
-}
-
-fn have_events(entries: &[Entry], events: &[&str]) -> bool {
-    for (entry, event) in entries.iter().zip(events) {
+/// How many entries are of these events and name no DAG, up to the first that is not so.
+pub fn have_events(entries: &[Entry], events: &[&str]) -> usize {
+    for (place, (entry, event)) in entries.iter().zip(events).enumerate() {
         if !is_event(entry, event) {
-            return false;
+            return place;
         }
     }
-    entries.len() == events.len()
+    entries.len()
 }
 
 fn is_event(entry: &Entry, event: &str) -> bool {
     entry.act.event() == event && entry.act.dag().is_none()
 }
 
+const CHANGES: &[Story] = &[
+    Story {
+        name: "pools",
+        dags: Dags::Two,
+        limit: 1_000_000,
+        parts: &[
+            ("steps", Part::Steps(POOLS)),
+            ("events", Part::Events(EVENTS)),
+        ],
+    },
+    Story {
+        name: "variables",
+        dags: Dags::Two,
+        limit: 1_000_000,
+        parts: &[
+            ("steps", Part::Steps(VARIABLES)),
+            ("events", Part::Events(EVENTS_OF_VARIABLES)),
+        ],
+    },
+];
+
 #[test]
 fn entries_name_changes_of_pools_and_variables(rt: HostRuntime) -> Result<(), Fail> {
-    assert!(rt; are_events(rt.alloc(), POOLS, EVENTS)?, "pools");
-    assert!(rt;
-        are_events(rt.alloc(), VARIABLES, EVENTS_OF_VARIABLES)?,
-        "variables"
-    );
-    Ok(())
+    all_go(&rt, rt.alloc(), CHANGES)
 }
 
 /// How many entries are told as these rows, up to the first that is not.
@@ -86,25 +86,29 @@ fn is_told_as(alloc: Global, entry: &Entry, row: &[u8]) -> Result<bool, Fail> {
     Ok(text.as_slice() == row)
 }
 
-/// How many entries of a run that fails are told as they should be.
-fn told(alloc: Global) -> Result<usize, Fail> {
-    let ledger = failed(alloc)?;
-    told_as(alloc, ledger.audit().entries(), LOGS)
-}
+/// A run fails.
+const FAILS: Titled = ("steps", Part::Steps(FAILED));
+
+const TOLD: &[Story] = &[Story {
+    name: "a run that fails",
+    dags: Dags::Two,
+    limit: 1_000_000,
+    parts: &[
+        FAILS,
+        (
+            "the entries that are told as they should be",
+            Part::Logs(LOGS),
+        ),
+    ],
+}];
 
 #[test]
 fn entries_say_how_a_run_fails(rt: HostRuntime) -> Result<(), Fail> {
-    let told = told(rt.alloc())?;
-    assert_eq!(rt;
-        told,
-        LOGS.len(),
-        "the entries that are told as they should be"
-    );
-    Ok(())
+    all_go(&rt, rt.alloc(), TOLD)
 }
 
 /// Who reads, what of the entries is asked for, where the rows stand that are told, and how many are shown.
-type PageRow = (Readers, &'static [u8], &'static [usize], usize);
+pub type PageRow = (Readers, &'static [u8], &'static [usize], usize);
 
 const PAGES: &[PageRow] = &[
     (EVERYBODY, b"", &[0, 1, 2, 3, 4], 5),
@@ -128,41 +132,43 @@ fn is_page(alloc: Global, entries: &[Entry], row: PageRow) -> Result<bool, Fail>
     Ok(page.places() == row.2 && page.total() == row.3)
 }
 
-/// How many pages are as they should be, up to the first that is not.
-fn pages(alloc: Global, entries: &[Entry]) -> Result<usize, Fail> {
-    for (place, row) in PAGES.iter().enumerate() {
+/// How many pages are as these rows say, up to the first that is not.
+pub fn pages(alloc: Global, entries: &[Entry], rows: &[PageRow]) -> Result<usize, Fail> {
+    for (place, row) in rows.iter().enumerate() {
         if !is_page(alloc, entries, *row)? {
             return Ok(place);
         }
     }
-    Ok(PAGES.len())
+    Ok(rows.len())
 }
 
-/// How many pages of the entries of a run that fails are as they should be.
-fn pages_shown(alloc: Global) -> Result<usize, Fail> {
-    let ledger = failed(alloc)?;
-    pages(alloc, ledger.audit().entries())
-}
+const SHOWN: &[Story] = &[Story {
+    name: "a run that fails",
+    dags: Dags::Two,
+    limit: 1_000_000,
+    parts: &[
+        FAILS,
+        ("the pages that are as they should be", Part::Pages(PAGES)),
+    ],
+}];
 
 #[test]
 fn pages_show_entries_that_are_read(rt: HostRuntime) -> Result<(), Fail> {
-    let shown = pages_shown(rt.alloc())?;
-    assert_eq!(rt; shown, PAGES.len(), "the pages that are as they should be");
-    Ok(())
+    all_go(&rt, rt.alloc(), SHOWN)
 }
 
-/// Whether the entry of a tick in March says that moment, and the version that was looked at before.
-fn is_under_the_version(alloc: Global) -> Result<bool, Fail> {
-    let at = Instant::read(MARCH)?;
-    let mut ledger = ledger(alloc, 9)?;
-    Ok(ticks_under(alloc, &mut ledger, at))
-}
-
-/// Whether a tick at this moment is entered under version 7, once that was looked at.
-fn ticks_under(alloc: Global, ledger: &mut Ledger, at: Instant) -> bool {
-    look(ledger, 7);
+/// One where a tick at this moment is entered under this version, once that was looked at; else none.
+pub fn ticks_under(
+    alloc: Global,
+    ledger: &mut Ledger,
+    version: u32,
+    moment: &str,
+) -> Result<usize, Fail> {
+    let at = Instant::read(moment)?;
+    look(ledger, version);
     let _changed = ledger.tick(alloc, at);
-    ledger.version() == 7 && is_of(ledger.audit().entries().first(), 7, at)
+    let is_under = is_of(ledger.audit().entries().first(), version, at);
+    Ok(usize::from(is_under && ledger.version() == version))
 }
 
 /// Looks at a version, if it is no earlier one.
@@ -180,13 +186,19 @@ fn is_of(entry: Option<&Entry>, version: u32, at: Instant) -> bool {
     }
 }
 
+const UNDER_SEVEN: &[Story] = &[Story {
+    name: "a tick under version 7",
+    dags: Dags::Two,
+    limit: 9,
+    parts: &[(
+        "the version and the moment of an entry",
+        Part::Version(7, MARCH),
+    )],
+}];
+
 #[test]
 fn entries_stand_under_the_version_looked_at(rt: HostRuntime) -> Result<(), Fail> {
-    assert!(rt;
-        is_under_the_version(rt.alloc())?,
-        "the version and the moment of an entry"
-    );
-    Ok(())
+    all_go(&rt, rt.alloc(), UNDER_SEVEN)
 }
 
 /// What an audit with room for two entries says before and after each of three.
@@ -205,25 +217,38 @@ fn counts(audit: &mut Audit, at: Instant, row: CountRow) -> bool {
     next == row.0 && told == row.1 && audit.count() == row.2
 }
 
+/// How many entries go as these rows say, up to the first that does not.
+fn counted(audit: &mut Audit, at: Instant, rows: &[CountRow]) -> usize {
+    for (place, row) in rows.iter().enumerate() {
+        if !counts(audit, at, *row) {
+            return place;
+        }
+    }
+    rows.len()
+}
+
 #[test]
 fn an_audit_counts_from_one(rt: HostRuntime) -> Result<(), Fail> {
     let at = Instant::read(JANUARY)?;
     let mut audit = Audit::new(rt.alloc(), 2);
-    for (place, row) in COUNTED.iter().enumerate() {
-        let counts = counts(&mut audit, at, *row);
-        row_holds(&rt, counts, place);
-    }
+    let told = counted(&mut audit, at, COUNTED);
+    drop(audit);
+    part_holds(&rt, "an audit", "entries", (told, COUNTED.len()));
     Ok(())
 }
 
-/// The runs that there are, and the most entries.
-fn kept(alloc: Global) -> Result<(usize, u32), Fail> {
-    let ledger = failed(alloc)?;
-    Ok((ledger.state().runs().len(), ledger.audit().limit()))
-}
+const KEPT: &[Story] = &[Story {
+    name: "a run that fails",
+    dags: Dags::Two,
+    limit: 1_000_000,
+    parts: &[
+        FAILS,
+        ("the runs that there are", Part::Runs(1)),
+        ("the most entries", Part::Limit(1_000_000)),
+    ],
+}];
 
 #[test]
 fn a_ledger_keeps_its_runs_and_its_limit(rt: HostRuntime) -> Result<(), Fail> {
-    assert_eq!(rt; kept(rt.alloc())?, (1, 1_000_000));
-    Ok(())
+    all_go(&rt, rt.alloc(), KEPT)
 }

@@ -1,18 +1,18 @@
 //! Requests for event logs: who is told which entries.
-use crate::tests::opening::{ledger, op};
-use crate::tests::playing::{played, shown_to};
-use crate::tests::rows::{JANUARY, MIXED, PAUSED};
-use crate::tests::users::{policy, token};
+use crate::tests::opening::Dags;
+use crate::tests::requests::Request;
+use crate::tests::rows::{MIXED, PAUSED};
+use crate::tests::stories::{Part, Story, all_go};
+use crate::tests::users::token;
 use af_audit::Ledger;
 use af_listing::Window;
-use af_names::Instant;
 use af_ops::{Endpoint, Served, Shown, Status};
 use af_policy::Policy;
 use std::alloc::Global;
 use std::test::Fail;
 
 /// Who asks for event logs, with which query, and the status and the body that are told.
-type Row = (&'static str, &'static [u8], Status, &'static [u8]);
+pub type Reading = (&'static str, &'static [u8], Status, &'static [u8]);
 
 const NOBODY: &[u8] =
     br#"{"detail":"authentication required","status":401,"title":"Unauthorized","type":"about:blank"}"#;
@@ -44,7 +44,7 @@ const LAST_OF_B: &[u8] =
 const NONE_OF_THREE: &[u8] = br#"{"event_logs":[],"total_entries":3}"#;
 
 /// After a pause of b, an entry of a tick, and one of a claim of another DAG. Who lacks the permission is told so first.
-const ROWS: &[Row] = &[
+const ROWS: &[Reading] = &[
     ("", b"", Status::Unauthorized, NOBODY),
     ("", b"limit=x", Status::Unauthorized, NOBODY),
     ("nobody", b"", Status::Unauthorized, NOBODY),
@@ -72,73 +72,62 @@ fn is_told(shown: &Shown, status: Status, body: &[u8], count: u32) -> bool {
 }
 
 /// Whether a request for event logs is told what its row says.
-fn is_served(alloc: Global, ledger: &Ledger, policy: &Policy, row: Row) -> bool {
+fn is_served(alloc: Global, ledger: &Ledger, policy: &Policy, row: Reading) -> bool {
     let asked = Window::read(row.1);
     match ledger.entries(alloc, policy, token(row.0), &asked) {
-        Served::Shown(shown) => is_told(&shown, row.2, row.3, ledger.audit().count()),
+        Served::Shown(shown) => {
+            let is_told = is_told(&shown, row.2, row.3, ledger.audit().count());
+            drop(shown);
+            is_told
+        }
         _ => false,
     }
 }
 
 /// How many requests are told what their rows say, up to the first that is not.
-fn served(alloc: Global, ledger: &Ledger) -> Result<usize, Fail> {
-    let policy = policy(alloc)?;
-    Ok(served_under(alloc, ledger, &policy))
-}
-
-fn served_under(alloc: Global, ledger: &Ledger, policy: &Policy) -> usize {
-    for (place, row) in ROWS.iter().enumerate() {
+pub fn readings(alloc: Global, ledger: &Ledger, policy: &Policy, rows: &[Reading]) -> usize {
+    for (place, row) in rows.iter().enumerate() {
         if !is_served(alloc, ledger, policy, *row) {
             return place;
         }
     }
-    ROWS.len()
+    rows.len()
 }
 
-/// How many rows go as they should on a ledger of three entries, and how many of them are told.
-fn mixed_on(alloc: Global, ledger: &mut Ledger) -> Result<(usize, usize), Fail> {
-    let count = played(alloc, ledger, MIXED)?;
-    Ok((count, served(alloc, ledger)?))
-}
-
-fn mixed(alloc: Global) -> Result<(usize, usize), Fail> {
-    let mut ledger = ledger(alloc, 1_000_000)?;
-    mixed_on(alloc, &mut ledger)
-}
+const THREE_ENTRIES: &[Story] = &[Story {
+    name: "three entries",
+    dags: Dags::Two,
+    limit: 1_000_000,
+    parts: &[
+        ("steps", Part::Steps(MIXED)),
+        ("requests for event logs", Part::Readings(ROWS)),
+    ],
+}];
 
 #[test]
 fn event_logs_are_told_to_those_who_may_read_them(rt: HostRuntime) -> Result<(), Fail> {
-    assert_eq!(rt; mixed(rt.alloc())?, (MIXED.len(), ROWS.len()));
-    Ok(())
+    all_go(&rt, rt.alloc(), THREE_ENTRIES)
 }
 
-/// Has uma pause b, in January.
-fn pause(alloc: Global, ledger: &mut Ledger, policy: &Policy) -> Result<(), Fail> {
-    let now = Instant::read(JANUARY)?;
-    let op = op(alloc, Endpoint::PauseDag, PAUSED)?;
-    let _shown = shown_to(alloc, ledger, policy, "uma", &op, now);
-    Ok(())
-}
+/// Uma pauses b twice, of which the second is no change.
+const PAUSES: &[Request] = &[
+    ("uma", Endpoint::PauseDag, PAUSED, Status::Ok, Some(1)),
+    ("uma", Endpoint::PauseDag, PAUSED, Status::Ok, Some(1)),
+];
 
-/// Whether adam is told one entry after uma paused b twice.
-fn is_one_told(alloc: Global, ledger: &mut Ledger, policy: &Policy) -> Result<bool, Fail> {
-    pause(alloc, ledger, policy)?;
-    pause(alloc, ledger, policy)?;
-    Ok(is_served(alloc, ledger, policy, ("adam", b"", Status::Ok, ONE)))
-}
+const ONE_PAUSE: &[Reading] = &[("adam", b"", Status::Ok, ONE)];
 
-fn is_one_told_under(alloc: Global, policy: &Policy) -> Result<bool, Fail> {
-    let mut ledger = ledger(alloc, 1_000_000)?;
-    is_one_told(alloc, &mut ledger, policy)
-}
-
-fn is_one_pause_told(alloc: Global) -> Result<bool, Fail> {
-    let policy = policy(alloc)?;
-    is_one_told_under(alloc, &policy)
-}
+const ONE_ENTRY: &[Story] = &[Story {
+    name: "a pause is one entry",
+    dags: Dags::Two,
+    limit: 1_000_000,
+    parts: &[
+        ("pauses", Part::Requests(PAUSES)),
+        ("one entry, of uma's", Part::Readings(ONE_PAUSE)),
+    ],
+}];
 
 #[test]
 fn a_pause_is_one_entry(rt: HostRuntime) -> Result<(), Fail> {
-    assert!(rt; is_one_pause_told(rt.alloc())?, "one entry, of uma's");
-    Ok(())
+    all_go(&rt, rt.alloc(), ONE_ENTRY)
 }

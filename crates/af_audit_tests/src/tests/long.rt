@@ -1,14 +1,14 @@
 //! A long connection of acts that a seed chooses: requests of several users, some of them denied, refused or without a change; ticks,
 //! claims and reports. Each act has one entry exactly where the state is another after it; and the entries make the state again.
 use crate::tests::asks::{ASKS, USERS};
-use crate::tests::opening::{op_at, wide_ledger, wide_state};
-use crate::tests::playing::shown_to;
+use crate::tests::calls::{Ask, shown_to};
+use crate::tests::opening::Dags;
 use crate::tests::rows::JANUARY;
 use crate::tests::same::is_same;
-use crate::tests::users::policy;
-use af_audit::{Ledger, ReportRefusal, replay};
+use crate::tests::stories::{Part, Story, all_go};
+use af_audit::{Ledger, ReportRefusal};
 use af_names::Instant;
-use af_ops::{Op, Shown, Status};
+use af_ops::{Shown, Status};
 use af_policy::Policy;
 use af_sched::{Claim, Outcome, State};
 use std::alloc::Global;
@@ -37,7 +37,7 @@ enum Told {
 }
 
 /// How many acts told each, and how many were as they should be.
-#[derive(Clone, Copy, PartialEq, Eq)]
+#[derive(Clone, Copy)]
 struct Tally {
     good: usize,
     changes: usize,
@@ -53,23 +53,20 @@ impl Tally {
     }
 }
 
-/// What is played on: a ledger, under a policy; what was claimed on it; and the moment.
+/// What is kept from act to act: what the next choice is made of, the moment, and what was claimed.
 #[derive(Drop)]
-struct Stage {
-    ledger: Ledger,
-    policy: Policy,
-    claims: Vec<Claim>,
+struct Course {
+    seed: u64,
     at: Instant,
+    claims: Vec<Claim>,
 }
 
-fn opened(alloc: Global) -> Result<Stage, Fail> {
+fn opened(alloc: Global) -> Result<Course, Fail> {
     let at = Instant::read(JANUARY)?;
-    let policy = policy(alloc)?;
-    Ok(Stage {
-        ledger: wide_ledger(alloc, 1_000_000)?,
-        policy,
-        claims: Vec::new(alloc),
+    Ok(Course {
+        seed: 1,
         at,
+        claims: Vec::new(alloc),
     })
 }
 
@@ -82,9 +79,9 @@ fn who(seed: &mut u64) -> &'static str {
 }
 
 /// What is asked for.
-fn what(alloc: Global, seed: &mut u64) -> Result<Op, Fail> {
+fn what(seed: &mut u64) -> Result<Ask, Fail> {
     match ASKS.get(next_of(seed) % 40) {
-        Some(ask) => op_at(alloc, ask.0, ask.1, ask.2),
+        Some(ask) => Ok(*ask),
         None => Err(Fail::new("fewer than forty requests")),
     }
 }
@@ -95,7 +92,10 @@ fn is_done(status: Status) -> bool {
 }
 
 /// What is told of a request. The number of entries stands in the answer.
-fn told_of(shown: &Shown, count: u32) -> Result<Told, Fail> {
+fn told_of(shown: Option<&Shown>, count: u32) -> Result<Told, Fail> {
+    let Some(shown) = shown else {
+        return Err(Fail::new("no answer"));
+    };
     if shown.seq != Some(count) {
         return Err(Fail::new("another number of entries"));
     }
@@ -107,22 +107,22 @@ fn told_of(shown: &Shown, count: u32) -> Result<Told, Fail> {
 }
 
 /// Somebody asks for something.
-fn ask(alloc: Global, stage: &mut Stage, seed: &mut u64) -> Result<Told, Fail> {
-    let user = who(seed);
-    let op = what(alloc, seed)?;
-    asked(alloc, stage, user, &op)
+fn ask(
+    alloc: Global,
+    ledger: &mut Ledger,
+    policy: &Policy,
+    course: &mut Course,
+) -> Result<Told, Fail> {
+    let user = who(&mut course.seed);
+    let asked = what(&mut course.seed)?;
+    let shown = shown_to(alloc, ledger, policy, user, asked, course.at)?;
+    let told = told_of(shown.as_ref(), ledger.audit().count());
+    drop(shown);
+    told
 }
 
-fn asked(alloc: Global, stage: &mut Stage, user: &str, op: &Op) -> Result<Told, Fail> {
-    let at = stage.at;
-    match shown_to(alloc, &mut stage.ledger, &stage.policy, user, op, at) {
-        Some(shown) => told_of(&shown, stage.ledger.audit().count()),
-        None => Err(Fail::new("no answer")),
-    }
-}
-
-fn tick(alloc: Global, stage: &mut Stage) -> Result<Told, Fail> {
-    match stage.ledger.tick(alloc, stage.at) {
+fn tick(alloc: Global, ledger: &mut Ledger, at: Instant) -> Result<Told, Fail> {
+    match ledger.tick(alloc, at) {
         Ok(true) => Ok(Told::Changed),
         Ok(false) => Ok(Told::Same),
         Err(_) => Err(Fail::new("no tick")),
@@ -130,10 +130,10 @@ fn tick(alloc: Global, stage: &mut Stage) -> Result<Told, Fail> {
 }
 
 /// Claims, and keeps what is claimed.
-fn claim(alloc: Global, stage: &mut Stage) -> Result<Told, Fail> {
-    match stage.ledger.claim(alloc, stage.at) {
+fn claim(alloc: Global, ledger: &mut Ledger, course: &mut Course) -> Result<Told, Fail> {
+    match ledger.claim(alloc, course.at) {
         Ok(Some(claim)) => {
-            stage.claims.push(claim)?;
+            course.claims.push(claim)?;
             Ok(Told::Changed)
         }
         Ok(None) => Ok(Told::Same),
@@ -150,13 +150,13 @@ fn outcome(seed: &mut u64) -> Outcome {
 }
 
 /// Reports one of the claims, or none where there is none: of the last, or of an older one that is often too late.
-fn report(alloc: Global, stage: &mut Stage, seed: &mut u64) -> Result<Told, Fail> {
-    let back = next_of(seed) % 3;
-    let outcome = outcome(seed);
-    let Some(claim) = stage.claims.as_slice().iter().rev().nth(back) else {
+fn report(alloc: Global, ledger: &mut Ledger, course: &mut Course) -> Result<Told, Fail> {
+    let back = next_of(&mut course.seed) % 3;
+    let outcome = outcome(&mut course.seed);
+    let Some(claim) = course.claims.as_slice().iter().rev().nth(back) else {
         return Ok(Told::Same);
     };
-    match stage.ledger.report(alloc, claim, outcome, stage.at) {
+    match ledger.report(alloc, claim, outcome, course.at) {
         Ok(()) => Ok(Told::Changed),
         Err(ReportRefusal::Fault(_)) => Ok(Told::Refused),
         Err(ReportRefusal::Audit(_)) => Err(Fail::new("no report")),
@@ -164,14 +164,19 @@ fn report(alloc: Global, stage: &mut Stage, seed: &mut u64) -> Result<Told, Fail
 }
 
 /// The next act, up to eighteen hours later.
-fn act(alloc: Global, stage: &mut Stage, seed: &mut u64) -> Result<Told, Fail> {
-    let seconds = (next_of(seed) % 64_801) as u32;
-    stage.at = stage.at.plus_seconds(seconds).unwrap_or(stage.at);
-    match next_of(seed) % 8 {
-        0 | 1 => tick(alloc, stage),
-        2 => claim(alloc, stage),
-        3 => report(alloc, stage, seed),
-        _ => ask(alloc, stage, seed),
+fn act(
+    alloc: Global,
+    ledger: &mut Ledger,
+    policy: &Policy,
+    course: &mut Course,
+) -> Result<Told, Fail> {
+    let seconds = (next_of(&mut course.seed) % 64_801) as u32;
+    course.at = course.at.plus_seconds(seconds).unwrap_or(course.at);
+    match next_of(&mut course.seed) % 8 {
+        0 | 1 => tick(alloc, ledger, course.at),
+        2 => claim(alloc, ledger, course),
+        3 => report(alloc, ledger, course),
+        _ => ask(alloc, ledger, policy, course),
     }
 }
 
@@ -188,77 +193,92 @@ fn fits(told: Told, is_changed: bool, new: Option<u32>) -> bool {
 /// The next act on this state: what it tells, whether that is as it should be, and whether it changed anything.
 fn turn(
     alloc: Global,
-    stage: &mut Stage,
-    seed: &mut u64,
+    ledger: &mut Ledger,
+    policy: &Policy,
+    course: &mut Course,
     before: &State,
 ) -> Result<(Told, bool, bool), Fail> {
-    let count = stage.ledger.audit().count();
-    let told = act(alloc, stage, seed)?;
-    let is_changed = !is_same(before, stage.ledger.state());
-    let new = stage.ledger.audit().count().checked_sub(count);
+    let count = ledger.audit().count();
+    let told = act(alloc, ledger, policy, course)?;
+    let is_changed = !is_same(before, ledger.state());
+    let new = ledger.audit().count().checked_sub(count);
     Ok((told, fits(told, is_changed, new), is_changed))
 }
 
 /// The next act, counted.
 fn counted(
     alloc: Global,
-    stage: &mut Stage,
-    seed: &mut u64,
+    ledger: &mut Ledger,
+    policy: &Policy,
+    course: &mut Course,
     tally: &mut Tally,
 ) -> Result<(), Fail> {
-    let before = stage.ledger.state().copied(alloc)?;
-    let (told, is_good, is_changed) = turn(alloc, stage, seed, &before)?;
+    let before = ledger.state().copied(alloc)?;
+    let turned = turn(alloc, ledger, policy, course, &before);
+    drop(before);
+    let (told, is_good, is_changed) = turned?;
     tally.count(told, is_good, is_changed);
     Ok(())
 }
 
 /// Takes so many acts.
-fn played(alloc: Global, stage: &mut Stage, acts: usize) -> Result<Tally, Fail> {
+fn played(
+    alloc: Global,
+    ledger: &mut Ledger,
+    policy: &Policy,
+    course: &mut Course,
+    acts: usize,
+) -> Result<Tally, Fail> {
     let mut tally = Tally {
         good: 0,
         changes: 0,
         refusals: 0,
     };
-    let mut seed = 1;
     for _ in 0..acts {
-        counted(alloc, stage, &mut seed, &mut tally)?;
+        counted(alloc, ledger, policy, course, &mut tally)?;
     }
     Ok(tally)
 }
 
-/// Whether the entries make the state, of one like that which the ledger was opened with.
-fn is_replay(alloc: Global, ledger: &Ledger) -> Result<bool, Fail> {
-    let again = replay(alloc, wide_state(alloc)?, ledger.audit().entries())?;
-    Ok(is_same(&again, ledger.state()))
+/// How many acts were as they should be, where they tell enough: a quarter of them and more change something, and an eighth of them
+/// and more is refused.
+fn good_of(tally: Tally) -> Result<usize, Fail> {
+    if tally.changes < 100 {
+        return Err(Fail::new("fewer than a quarter of the acts change something"));
+    }
+    if tally.refusals < 50 {
+        return Err(Fail::new("fewer than an eighth of the acts is refused"));
+    }
+    Ok(tally.good)
 }
 
-/// What so many acts come to, and whether their entries make the state.
-fn told_and_made(alloc: Global, stage: &mut Stage) -> Result<(Tally, bool), Fail> {
-    let tally = played(alloc, stage, ACTS)?;
-    Ok((tally, is_replay(alloc, &stage.ledger)?))
+/// Of so many acts, how many have one entry where they change something, and none where not.
+pub fn connected(
+    alloc: Global,
+    ledger: &mut Ledger,
+    policy: &Policy,
+    acts: usize,
+) -> Result<usize, Fail> {
+    let mut course = opened(alloc)?;
+    let tally = played(alloc, ledger, policy, &mut course, acts);
+    drop(course);
+    good_of(tally?)
 }
 
-fn connected(alloc: Global) -> Result<(Tally, bool), Fail> {
-    let mut stage = opened(alloc)?;
-    told_and_made(alloc, &mut stage)
-}
+const CONNECTION: &[Story] = &[Story {
+    name: "a long connection",
+    dags: Dags::Three,
+    limit: 1_000_000,
+    parts: &[
+        (
+            "each act has one entry where it changes something",
+            Part::Acts(ACTS),
+        ),
+        ("the entries make the state", Part::Replay(Dags::Three)),
+    ],
+}];
 
 #[test]
 fn entries_of_a_long_connection_make_its_state(rt: HostRuntime) -> Result<(), Fail> {
-    let (tally, is_replay) = connected(rt.alloc())?;
-    assert_eq!(rt;
-        tally.good,
-        ACTS,
-        "each act has one entry where it changes something"
-    );
-    assert!(rt; is_replay, "the entries make the state");
-    assert!(rt;
-        tally.changes >= 100,
-        "a quarter of the acts and more change something"
-    );
-    assert!(rt;
-        tally.refusals >= 50,
-        "an eighth of them and more is refused"
-    );
-    Ok(())
+    all_go(&rt, rt.alloc(), CONNECTION)
 }

@@ -1,18 +1,68 @@
+//! What a ledger is opened with: its DAGs, and their tasks.
 use af_audit::Ledger;
 use af_graph::{Dag, DagSpec, Points, Rule, Schedule, TaskIds, TaskSpec, TaskSpecs};
 use af_names::{DagId, Instant, PoolName, Preset, TaskId};
-use af_ops::{Call, Endpoint, Op, read_row};
 use af_sched::{DagRow, State};
-use json::Scratch;
 use std::alloc::Global;
 use std::test::Fail;
 
-/// A task after these, with so many retries.
-fn task(alloc: Global, id: &str, upstream: Vec<TaskId>, retries: u32) -> Result<TaskSpec, Fail> {
+/// A task: its id, those that it comes after, and how many retries it has.
+type TaskOf = (&'static str, &'static [&'static str], u32);
+
+/// A DAG: its id, its tasks, and whether it is due each month from February 2024 on.
+type DagOf = (&'static str, &'static [TaskOf], bool);
+
+/// The one task t.
+const ONE_TASK: &[TaskOf] = &[("t", &[], 0)];
+
+/// The task t, and u and v after it, each of which may fail once.
+const THREE_TASKS: &[TaskOf] = &[("t", &[], 1), ("u", &["t"], 1), ("v", &["t"], 1)];
+
+const TWO_DAGS: &[DagOf] = &[("b", ONE_TASK, false), ("monthly", ONE_TASK, true)];
+
+const THREE_DAGS: &[DagOf] = &[
+    ("b", ONE_TASK, false),
+    ("monthly", ONE_TASK, true),
+    ("wide", THREE_TASKS, false),
+];
+
+/// Which DAGs there are.
+#[derive(Clone, Copy)]
+pub enum Dags {
+    /// The DAG b, and one that is due each month.
+    Two,
+    /// The DAG wide, of three tasks, beside those two.
+    Three,
+}
+
+fn rows_of(dags: Dags) -> &'static [DagOf] {
+    match dags {
+        Dags::Two => TWO_DAGS,
+        Dags::Three => THREE_DAGS,
+    }
+}
+
+fn add_id(alloc: Global, ids: &mut Vec<TaskId>, text: &str) -> Result<(), Fail> {
+    let id = TaskId::parse(alloc, text)?;
+    Ok(ids.push(id)?)
+}
+
+fn task_ids(alloc: Global, texts: &[&str]) -> Result<TaskIds, Fail> {
+    let mut ids = Vec::new(alloc);
+    for text in texts {
+        add_id(alloc, &mut ids, text)?;
+    }
+    Ok(TaskIds::of(ids))
+}
+
+fn task_spec(alloc: Global, task: TaskOf) -> Result<TaskSpec, Fail> {
+    let (id, upstream, retries) = task;
+    let task_id = TaskId::parse(alloc, id)?;
+    let pool = PoolName::parse(alloc, "default_pool")?;
     Ok(TaskSpec {
-        task_id: TaskId::parse(alloc, id)?,
-        upstream: TaskIds::of(upstream),
-        pool: PoolName::parse(alloc, "default_pool")?,
+        task_id,
+        upstream: task_ids(alloc, upstream)?,
+        pool,
         pool_slots: 1,
         priority_weight: 1,
         retries,
@@ -21,123 +71,78 @@ fn task(alloc: Global, id: &str, upstream: Vec<TaskId>, retries: u32) -> Result<
     })
 }
 
-/// The one task t.
-fn one_task(alloc: Global) -> Result<Vec<TaskSpec>, Fail> {
-    Ok(vec![in alloc; task(alloc, "t", Vec::new(alloc), 0)?]?)
+fn add_task(alloc: Global, tasks: &mut Vec<TaskSpec>, task: TaskOf) -> Result<(), Fail> {
+    let spec = task_spec(alloc, task)?;
+    Ok(tasks.push(spec)?)
 }
 
-/// The task t, and u and v after it, each of which may fail once.
-fn three_tasks(alloc: Global) -> Result<Vec<TaskSpec>, Fail> {
-    let mut tasks = vec![in alloc; task(alloc, "t", Vec::new(alloc), 1)?]?;
-    add_after(alloc, &mut tasks, "u")?;
-    add_after(alloc, &mut tasks, "v")?;
-    Ok(tasks)
-}
-
-/// Adds a task after t.
-fn add_after(alloc: Global, tasks: &mut Vec<TaskSpec>, id: &str) -> Result<(), Fail> {
-    let upstream = vec![in alloc; TaskId::parse(alloc, "t")?]?;
-    tasks.push(task(alloc, id, upstream, 1)?)?;
+fn add_tasks(alloc: Global, specs: &mut Vec<TaskSpec>, tasks: &[TaskOf]) -> Result<(), Fail> {
+    for task in tasks {
+        add_task(alloc, specs, *task)?;
+    }
     Ok(())
 }
 
-/// A DAG of these tasks.
-fn dag(
-    alloc: Global,
-    id: &str,
-    tasks: Vec<TaskSpec>,
-    schedule: Option<Schedule>,
-) -> Result<DagRow, Fail> {
+fn task_specs(alloc: Global, tasks: &[TaskOf]) -> Result<TaskSpecs, Fail> {
+    let mut specs = Vec::new(alloc);
+    add_tasks(alloc, &mut specs, tasks)?;
+    Ok(TaskSpecs::of(specs))
+}
+
+/// Due each month from February 2024 on, or never.
+fn schedule(is_monthly: bool) -> Result<Option<Schedule>, Fail> {
+    if !is_monthly {
+        return Ok(None);
+    }
+    Ok(Some(Schedule {
+        points: Points::Preset(Preset::Monthly),
+        start_date: Instant::read("2024-01-31T00:00:00Z")?,
+    }))
+}
+
+fn dag_spec(alloc: Global, dag: DagOf) -> Result<DagSpec, Fail> {
+    let (id, tasks, is_monthly) = dag;
+    let schedule = schedule(is_monthly)?;
     let dag_id = DagId::parse(alloc, id)?;
-    let spec = DagSpec {
+    Ok(DagSpec {
         dag_id,
-        tasks: TaskSpecs::of(tasks),
+        tasks: task_specs(alloc, tasks)?,
         schedule,
         catchup: true,
         max_active_runs: 16,
-    };
-    Ok(DagRow::opened(Dag::new(alloc, spec)?, false))
-}
-
-/// Due each month from February 2024 on.
-fn monthly() -> Result<Schedule, Fail> {
-    Ok(Schedule {
-        points: Points::Preset(Preset::Monthly),
-        start_date: Instant::read("2024-01-31T00:00:00Z")?,
     })
 }
 
-/// The DAG b, and one that is due each month.
-pub fn state(alloc: Global) -> Result<State, Fail> {
+fn dag_row(alloc: Global, dag: DagOf) -> Result<DagRow, Fail> {
+    let spec = dag_spec(alloc, dag)?;
+    Ok(DagRow::opened(Dag::new(alloc, spec)?, false))
+}
+
+fn add_dag(alloc: Global, state: &mut State, dag: DagOf) -> Result<(), Fail> {
+    let row = dag_row(alloc, dag)?;
+    Ok(state.add_dag(row)?)
+}
+
+fn add_dags(alloc: Global, state: &mut State, dags: &[DagOf]) -> Result<(), Fail> {
+    for dag in dags {
+        add_dag(alloc, state, *dag)?;
+    }
+    Ok(())
+}
+
+/// A state of these DAGs.
+pub fn state(alloc: Global, dags: Dags) -> Result<State, Fail> {
     let mut state = State::new(alloc)?;
-    add_both(alloc, &mut state)?;
-    Ok(state)
-}
-
-fn add_both(alloc: Global, state: &mut State) -> Result<(), Fail> {
-    add(alloc, state, "b", None)?;
-    add(alloc, state, "monthly", Some(monthly()?))
-}
-
-/// Adds a DAG of one task.
-fn add(alloc: Global, state: &mut State, id: &str, schedule: Option<Schedule>) -> Result<(), Fail> {
-    state.add_dag(dag(alloc, id, one_task(alloc)?, schedule)?)?;
-    Ok(())
-}
-
-/// The DAG wide, of three tasks, beside those two.
-pub fn wide_state(alloc: Global) -> Result<State, Fail> {
-    let mut state = state(alloc)?;
-    add_wide(alloc, &mut state)?;
-    Ok(state)
-}
-
-fn add_wide(alloc: Global, state: &mut State) -> Result<(), Fail> {
-    let tasks = three_tasks(alloc)?;
-    state.add_dag(dag(alloc, "wide", tasks, None)?)?;
-    Ok(())
-}
-
-/// A ledger of the three DAGs with room for so many entries.
-pub fn wide_ledger(alloc: Global, limit: u32) -> Result<Ledger, Fail> {
-    Ok(Ledger::open(alloc, wide_state(alloc)?, limit))
-}
-
-/// A ledger with room for so many entries.
-pub fn ledger(alloc: Global, limit: u32) -> Result<Ledger, Fail> {
-    Ok(Ledger::open(alloc, state(alloc)?, limit))
-}
-
-/// The id of the run of b that is triggered in January 2024.
-const RUN: &str = "manual__2024-01-01T00:00:00+00:00";
-
-/// An operation of DAG b.
-pub fn op(alloc: Global, endpoint: Endpoint, body: &str) -> Result<Op, Fail> {
-    let parts = vec![in alloc; String::from_str(alloc, "b")?]?;
-    read(alloc, endpoint, parts.as_slice(), body)
-}
-
-/// An operation of the run of DAG b.
-pub fn op_of_run(alloc: Global, endpoint: Endpoint, body: &str) -> Result<Op, Fail> {
-    let dag = String::from_str(alloc, "b")?;
-    let parts = vec![in alloc; dag, String::from_str(alloc, RUN)?]?;
-    read(alloc, endpoint, parts.as_slice(), body)
-}
-
-/// An operation of what these names of a path are.
-pub fn op_at(alloc: Global, endpoint: Endpoint, names: &[&str], body: &str) -> Result<Op, Fail> {
-    let mut parts = Vec::new(alloc);
-    for name in names {
-        parts.push(String::from_str(alloc, name)?)?;
+    match add_dags(alloc, &mut state, rows_of(dags)) {
+        Ok(()) => Ok(state),
+        Err(fault) => {
+            drop(state);
+            Err(fault)
+        }
     }
-    read(alloc, endpoint, parts.as_slice(), body)
 }
 
-fn read(alloc: Global, endpoint: Endpoint, parts: &[String], body: &str) -> Result<Op, Fail> {
-    let mut scratch = Scratch::new(alloc);
-    match read_row(alloc, endpoint, parts, b"", body.as_bytes(), &mut scratch)? {
-        Some(Call::State(op)) => Ok(op),
-        Some(_) => Err(Fail::new("no operation on the state")),
-        None => Err(Fail::new("a part is no name")),
-    }
+/// A ledger of these DAGs with room for so many entries.
+pub fn ledger(alloc: Global, dags: Dags, limit: u32) -> Result<Ledger, Fail> {
+    Ok(Ledger::open(alloc, state(alloc, dags)?, limit))
 }

@@ -1,11 +1,12 @@
-use crate::tests::opening::{op, op_of_run, state};
+//! Steps on a ledger, one after another, and whether the entries then make the state.
+use crate::tests::calls::{Ask, B, RUN_OF_B, shown_to};
+use crate::tests::opening::{Dags, state};
 use crate::tests::same::is_same;
 use crate::tests::steps::{Row, Step, Told};
-use crate::tests::users::{policy, token};
 use af_audit::{AuditFault, Ledger, ReportRefusal, replay};
 use af_graph::TaskState;
 use af_names::{DagId, Instant};
-use af_ops::{Op, Served, Shown, Status};
+use af_ops::{Shown, Status};
 use af_policy::{Policy, Reader};
 use af_runs::{Run, RunState};
 use af_sched::{Claim, Outcome, ReportFault};
@@ -34,47 +35,24 @@ pub const EVERYBODY: Readers = Readers { all: true };
 
 pub const NOBODY: Readers = Readers { all: false };
 
-/// What somebody is shown who asks for an operation.
-pub fn shown_to(
+/// What comes of something that adam asks for, who may do all.
+fn asked(
     alloc: Global,
     ledger: &mut Ledger,
     policy: &Policy,
-    who: &str,
-    op: &Op,
-    at: Instant,
-) -> Option<Shown> {
-    match ledger.answer(alloc, policy, token(who), op, at) {
-        Served::Shown(shown) => Some(shown),
-        _ => None,
-    }
-}
-
-/// What comes of an operation of adam's, who may do all.
-fn asked(alloc: Global, ledger: &mut Ledger, policy: &Policy, op: &Op, at: Instant) -> Told {
-    match shown_to(alloc, ledger, policy, "adam", op, at) {
-        Some(shown) => shown_as(&shown),
-        None => Told::Other,
-    }
-}
-
-/// What comes of one that is asked for of b, or of its run.
-fn asked_of(
-    alloc: Global,
-    ledger: &mut Ledger,
-    policy: &Policy,
-    step: Step,
+    ask: Ask,
     at: Instant,
 ) -> Result<Told, Fail> {
-    let op = op_of(alloc, step)?;
-    Ok(asked(alloc, ledger, policy, &op, at))
+    let shown = shown_to(alloc, ledger, policy, "adam", ask, at)?;
+    let told = told_of(shown.as_ref());
+    drop(shown);
+    Ok(told)
 }
 
-/// What is asked for.
-fn op_of(alloc: Global, step: Step) -> Result<Op, Fail> {
-    match step {
-        Step::Ask(endpoint, body) => op(alloc, endpoint, body),
-        Step::AskOfRun(endpoint, body) => op_of_run(alloc, endpoint, body),
-        _ => Err(Fail::new("nothing is asked for")),
+fn told_of(shown: Option<&Shown>) -> Told {
+    match shown {
+        Some(shown) => shown_as(shown),
+        None => Told::Other,
     }
 }
 
@@ -126,7 +104,7 @@ fn ticked(alloc: Global, ledger: &mut Ledger, at: Instant) -> Told {
 fn claimed(alloc: Global, ledger: &mut Ledger, last: &mut Option<Claim>, at: Instant) -> Told {
     match ledger.claim(alloc, at) {
         Ok(Some(claim)) => {
-            *last = Some(claim);
+            drop(last.replace(claim));
             Told::Done
         }
         Ok(None) => Told::Nothing,
@@ -152,6 +130,7 @@ fn reported(
     }
 }
 
+/// What comes of a step.
 fn taken(
     alloc: Global,
     ledger: &mut Ledger,
@@ -161,7 +140,10 @@ fn taken(
     at: Instant,
 ) -> Result<Told, Fail> {
     match step {
-        Step::Ask(_, _) | Step::AskOfRun(_, _) => asked_of(alloc, ledger, policy, step, at),
+        Step::Ask(endpoint, body) => asked(alloc, ledger, policy, (endpoint, B, body), at),
+        Step::AskOfRun(endpoint, body) => {
+            asked(alloc, ledger, policy, (endpoint, RUN_OF_B, body), at)
+        }
         Step::Tick => Ok(ticked(alloc, ledger, at)),
         Step::Claim => Ok(claimed(alloc, ledger, last, at)),
         Step::Report(outcome) => Ok(reported(alloc, ledger, last, outcome, at)),
@@ -181,39 +163,57 @@ fn goes(
     Ok(told == row.2 && ledger.audit().count() == row.3)
 }
 
-/// Takes the steps of these rows on a ledger: how many go as they should, up to the first that does not.
-pub fn played(alloc: Global, ledger: &mut Ledger, rows: &[Row]) -> Result<usize, Fail> {
-    let policy = policy(alloc)?;
-    played_under(alloc, ledger, &policy, rows)
-}
-
-fn played_under(
+/// Takes the steps of these rows, where this was claimed last: how many go as they should, up to the first that does not.
+fn played_after(
     alloc: Global,
     ledger: &mut Ledger,
     policy: &Policy,
+    last: &mut Option<Claim>,
     rows: &[Row],
 ) -> Result<usize, Fail> {
-    let mut last = None;
     for (place, row) in rows.iter().enumerate() {
-        if !goes(alloc, ledger, policy, &mut last, *row)? {
+        if !goes(alloc, ledger, policy, last, *row)? {
             return Ok(place);
         }
     }
     Ok(rows.len())
 }
 
-/// Whether the entries of a ledger make its state of the one that it was opened with.
-pub fn is_replay(alloc: Global, ledger: &Ledger) -> Result<bool, Fail> {
-    let again = replay(alloc, state(alloc)?, ledger.audit().entries())?;
-    Ok(is_same(&again, ledger.state()))
+/// Takes the steps of these rows on a ledger: how many go as they should, up to the first that does not.
+pub fn played(
+    alloc: Global,
+    ledger: &mut Ledger,
+    policy: &Policy,
+    rows: &[Row],
+) -> Result<usize, Fail> {
+    let mut last = None;
+    let played = played_after(alloc, ledger, policy, &mut last, rows);
+    drop(last);
+    played
+}
+
+/// One where the entries of a ledger make its state of one of these DAGs, as it was opened with; else none.
+pub fn is_replay(alloc: Global, ledger: &Ledger, dags: Dags) -> Result<usize, Fail> {
+    let again = replay(alloc, state(alloc, dags)?, ledger.audit().entries())?;
+    let is_same = is_same(&again, ledger.state());
+    drop(again);
+    Ok(usize::from(is_same))
 }
 
 /// Whether a run failed, and each of its instances at the first try.
-pub fn is_failed(run: &Run) -> bool {
+fn is_failed(run: &Run) -> bool {
     for instance in run.instances.as_slice() {
         if instance.state != TaskState::Failed || instance.try_number != 1 {
             return false;
         }
     }
     run.state == RunState::Failed
+}
+
+/// Whether the first run of a ledger failed, and its task at the first try.
+pub fn is_first_failed(ledger: &Ledger) -> bool {
+    match ledger.state().runs().first() {
+        Some(run) => is_failed(run),
+        None => false,
+    }
 }

@@ -1,12 +1,9 @@
 //! Acts on ledgers of two DAGs, b and a scheduled one: what is told of each, and how many entries there then are.
-use crate::tests::asserts::story_holds;
-use crate::tests::opening::ledger;
-use crate::tests::playing::{is_failed, is_replay, played};
+use crate::tests::opening::Dags;
 use crate::tests::steps::{Row, Step, Told};
-use af_audit::Ledger;
+use crate::tests::stories::{Part, REPLAY, Story, all_go};
 use af_ops::Endpoint;
 use af_sched::Outcome;
-use std::alloc::Global;
 use std::test::Fail;
 
 pub const PAUSED: &str = "{\"is_paused\":true}";
@@ -158,96 +155,76 @@ const LONG: &[Row] = &[
     (DELETE_VARIABLE, MARCH, Told::Full, 19),
 ];
 
-/// Rows on a ledger with room for so many entries.
-#[derive(Clone, Copy)]
-struct Story {
-    name: &'static str,
-    limit: u32,
-    rows: &'static [Row],
-}
-
 const STORIES: &[Story] = &[
     Story {
         name: "a change has one entry",
+        dags: Dags::Two,
         limit: 1_000_000,
-        rows: PAUSES,
+        parts: &[("steps", Part::Steps(PAUSES)), REPLAY],
     },
     Story {
         name: "a full history takes no change",
+        dags: Dags::Two,
         limit: 3,
-        rows: THREE,
+        parts: &[("steps", Part::Steps(THREE)), REPLAY],
     },
     Story {
         name: "a full history takes no claim",
+        dags: Dags::Two,
         limit: 2,
-        rows: CLAIMED,
+        parts: &[("steps", Part::Steps(CLAIMED)), REPLAY],
     },
     Story {
         name: "a full history takes no report",
+        dags: Dags::Two,
         limit: 3,
-        rows: REPORTED,
+        parts: &[("steps", Part::Steps(REPORTED)), REPLAY],
     },
     Story {
         name: "a change of pools has one entry",
+        dags: Dags::Two,
         limit: 1_000_000,
-        rows: POOLS,
+        parts: &[("steps", Part::Steps(POOLS)), REPLAY],
     },
     Story {
         name: "a change of variables has one entry",
+        dags: Dags::Two,
         limit: 4,
-        rows: VARIABLES,
+        parts: &[("steps", Part::Steps(VARIABLES)), REPLAY],
     },
     Story {
         name: "changes of all kinds",
+        dags: Dags::Two,
         limit: 19,
-        rows: LONG,
+        parts: &[("steps", Part::Steps(LONG)), REPLAY],
     },
     Story {
         name: "a run fails",
+        dags: Dags::Two,
         limit: 1_000_000,
-        rows: FAILED,
+        parts: &[("steps", Part::Steps(FAILED)), REPLAY],
     },
 ];
 
-/// How many of these rows go as they should, and whether the entries then make the state.
-fn told_on(alloc: Global, ledger: &mut Ledger, rows: &[Row]) -> Result<(usize, bool), Fail> {
-    let count = played(alloc, ledger, rows)?;
-    Ok((count, is_replay(alloc, ledger)?))
-}
-
-fn told_of(alloc: Global, story: &Story) -> Result<(usize, bool), Fail> {
-    let mut ledger = ledger(alloc, story.limit)?;
-    told_on(alloc, &mut ledger, story.rows)
-}
-
 #[test]
 fn acts_have_entries_and_these_make_the_state(rt: HostRuntime) -> Result<(), Fail> {
-    for story in STORIES {
-        let told = told_of(rt.alloc(), story)?;
-        story_holds(&rt, told, story.rows.len(), story.name);
-    }
-    Ok(())
+    all_go(&rt, rt.alloc(), STORIES)
 }
 
-/// Whether the first run of a ledger failed, after these rows.
-fn fails_on(alloc: Global, ledger: &mut Ledger) -> Result<bool, Fail> {
-    let _count = played(alloc, ledger, FAILED)?;
-    Ok(match ledger.state().runs().first() {
-        Some(run) => is_failed(run),
-        None => false,
-    })
-}
-
-fn fails(alloc: Global) -> Result<bool, Fail> {
-    let mut ledger = ledger(alloc, 1_000_000)?;
-    fails_on(alloc, &mut ledger)
-}
+const A_RUN_FAILS: &[Story] = &[Story {
+    name: "a run fails with its only task",
+    dags: Dags::Two,
+    limit: 1_000_000,
+    parts: &[
+        ("steps", Part::Steps(FAILED)),
+        (
+            "the run failed, and its task at the first try",
+            Part::FirstFailed,
+        ),
+    ],
+}];
 
 #[test]
 fn a_run_fails_with_its_only_task(rt: HostRuntime) -> Result<(), Fail> {
-    assert!(rt;
-        fails(rt.alloc())?,
-        "the run failed, and its task at the first try"
-    );
-    Ok(())
+    all_go(&rt, rt.alloc(), A_RUN_FAILS)
 }

@@ -1,12 +1,9 @@
 //! Which run the entries of a DAG's runs name: of a trigger the one that it added, of a clear the one that its body names.
-use crate::tests::entries::told_as;
-use crate::tests::opening::ledger;
-use crate::tests::playing::{is_replay, played};
+use crate::tests::opening::Dags;
 use crate::tests::rows::{DELETE_RUN, FAIL_RUN, JANUARY, MARCH};
 use crate::tests::steps::{Row, Step, Told};
-use af_audit::Ledger;
+use crate::tests::stories::{Part, REPLAY, Story, all_go};
 use af_ops::Endpoint;
-use std::alloc::Global;
 use std::test::Fail;
 
 /// Clears the instances of one run, which the body names.
@@ -92,20 +89,18 @@ const LOGS: &[&[u8]] = &[
     br#"{"dag_id":"b","event":"delete_dag_run","event_log_id":10,"owner":"adam","policy_version":0,"run_id":"manual__2024-01-01T00:00:00+00:00","task_id":null,"when":"2024-03-01T00:00:00+00:00"}"#,
 ];
 
-/// How many of these steps go as they should, how many of the entries are told as they should be, and whether these make the state.
-fn told_on(alloc: Global, ledger: &mut Ledger) -> Result<(usize, usize, bool), Fail> {
-    let count = played(alloc, ledger, ASKED)?;
-    let told = told_as(alloc, ledger.audit().entries(), LOGS)?;
-    Ok((count, told, is_replay(alloc, ledger)?))
-}
-
-fn told(alloc: Global) -> Result<(usize, usize, bool), Fail> {
-    let mut ledger = ledger(alloc, 10)?;
-    told_on(alloc, &mut ledger)
-}
+const CHANGES: &[Story] = &[Story {
+    name: "changes of runs",
+    dags: Dags::Two,
+    limit: 10,
+    parts: &[
+        ("steps", Part::Steps(ASKED)),
+        ("entries, as they are told", Part::Logs(LOGS)),
+        REPLAY,
+    ],
+}];
 
 #[test]
 fn entries_name_the_runs_that_were_triggered(rt: HostRuntime) -> Result<(), Fail> {
-    assert_eq!(rt; told(rt.alloc())?, (ASKED.len(), LOGS.len(), true));
-    Ok(())
+    all_go(&rt, rt.alloc(), CHANGES)
 }
