@@ -1,4 +1,5 @@
-//! What worlds, the plane and the server for one thread tell of calls, ticks, claims and reports, as rows that loops play.
+//! What the ledger, worlds, the plane and the server for one thread tell of calls, ticks, claims and reports, and what their
+//! entries say of them, as rows that loops play.
 #![tactic(auto)]
 
 #[cfg(test)]

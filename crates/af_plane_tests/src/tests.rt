@@ -1,4 +1,5 @@
 mod asserts;
+mod audit;
 mod calls;
 mod due;
 mod opening;

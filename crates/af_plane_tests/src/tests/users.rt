@@ -16,7 +16,7 @@ pub struct Users {
     has_only_b: bool,
 }
 
-/// Who asks a plane: each user's name is the token.
+/// Who asks a plane, or the server for one thread: each user's name is the token.
 pub const OF_PLANES: Users = Users {
     named: &[
         ("adam", "adam", "Admin"),
@@ -114,7 +114,7 @@ fn draft(alloc: Global, users: Users) -> Result<PolicyDraft, Fail> {
     }
 }
 
-/// The policy of all users.
+/// The policy of these users.
 pub fn policy(alloc: Global, users: Users) -> Result<Policy, Fail> {
     let draft = draft(alloc, users)?;
     Ok(draft.finish(alloc)?)

@@ -1,3 +1,4 @@
+//! What is told of acts on a ledger, and what its entries say of them, as rows that one loop plays.
 mod asks;
 mod asserts;
 mod calls;

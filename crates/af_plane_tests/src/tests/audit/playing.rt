@@ -1,8 +1,8 @@
 //! Steps on a ledger, one after another, and whether the entries then make the state.
-use crate::tests::calls::{Ask, B, RUN_OF_B, shown_to};
-use crate::tests::opening::{Dags, state};
-use crate::tests::same::is_same;
-use crate::tests::steps::{Row, Step, Told};
+use crate::tests::audit::calls::{Ask, B, RUN_OF_B, shown_to};
+use crate::tests::audit::opening::{Dags, state};
+use crate::tests::audit::same::is_same;
+use crate::tests::audit::steps::{Row, Step, Told};
 use af_audit::{AuditFault, Ledger, ReportRefusal, replay};
 use af_graph::TaskState;
 use af_names::{DagId, Instant};

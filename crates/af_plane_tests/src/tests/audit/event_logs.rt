@@ -1,9 +1,9 @@
 //! Requests for event logs: who is told which entries.
-use crate::tests::opening::Dags;
-use crate::tests::requests::Request;
-use crate::tests::rows::{MIXED, PAUSED};
-use crate::tests::stories::{Part, Story, all_go};
-use crate::tests::users::token;
+use crate::tests::audit::opening::Dags;
+use crate::tests::audit::requests::Request;
+use crate::tests::audit::rows::{MIXED, PAUSED};
+use crate::tests::audit::stories::{Part, Story, all_go};
+use crate::tests::audit::users::token;
 use af_audit::Ledger;
 use af_listing::Window;
 use af_ops::{Endpoint, Served, Shown, Status};

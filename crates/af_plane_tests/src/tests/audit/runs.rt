@@ -1,8 +1,8 @@
 //! Which run the entries of a DAG's runs name: of a trigger the one that it added, of a clear the one that its body names.
-use crate::tests::opening::Dags;
-use crate::tests::rows::{DELETE_RUN, FAIL_RUN, JANUARY, MARCH};
-use crate::tests::steps::{Row, Step, Told};
-use crate::tests::stories::{Part, REPLAY, Story, all_go};
+use crate::tests::audit::opening::Dags;
+use crate::tests::audit::rows::{DELETE_RUN, FAIL_RUN, JANUARY, MARCH};
+use crate::tests::audit::steps::{Row, Step, Told};
+use crate::tests::audit::stories::{Part, REPLAY, Story, all_go};
 use af_ops::Endpoint;
 use std::test::Fail;
 

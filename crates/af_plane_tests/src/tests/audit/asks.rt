@@ -1,7 +1,7 @@
 //! What users ask for on a long connection: of three DAGs, b, a scheduled one and one of several tasks, and of their runs; of pools and
 //! variables.
-use crate::tests::calls::Ask;
-use crate::tests::rows::{PAUSED, RUNNING};
+use crate::tests::audit::calls::Ask;
+use crate::tests::audit::rows::{PAUSED, RUNNING};
 use af_ops::Endpoint;
 
 /// Who asks, mostly those who may; the last is nobody. Each user's name is the token.

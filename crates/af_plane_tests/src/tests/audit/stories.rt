@@ -1,14 +1,14 @@
 //! What is done on new ledgers, and seen of them: who owns a ledger, or the policy of all users, lends it to the function that plays
 //! the parts of a story, and hands it to `drop`, which is proved once, and not at each way out.
-use crate::tests::asserts::part_holds;
-use crate::tests::entries::{PageRow, have_events, pages, ticks_under, told_as};
-use crate::tests::event_logs::{Reading, readings};
-use crate::tests::long::connected;
-use crate::tests::opening::{Dags, ledger};
-use crate::tests::playing::{is_first_failed, is_replay, played};
-use crate::tests::requests::{Request, are_umas, is_b_paused, served};
-use crate::tests::steps::Row;
-use crate::tests::users::policy;
+use crate::tests::audit::asserts::part_holds;
+use crate::tests::audit::entries::{PageRow, have_events, pages, ticks_under, told_as};
+use crate::tests::audit::event_logs::{Reading, readings};
+use crate::tests::audit::long::connected;
+use crate::tests::audit::opening::{Dags, ledger};
+use crate::tests::audit::playing::{is_first_failed, is_replay, played};
+use crate::tests::audit::requests::{Request, are_umas, is_b_paused, served};
+use crate::tests::audit::steps::Row;
+use crate::tests::audit::users::policy;
 use af_audit::Ledger;
 use af_policy::Policy;
 use std::alloc::Global;
@@ -63,7 +63,7 @@ pub struct Story {
     pub parts: &'static [Titled],
 }
 
-/// How many rows of a part, one after another, go as they should, up to the first that does not.
+/// How many rows of a part, one after another, go as they should, up to the first that does not; of acts, how many do.
 fn told(alloc: Global, ledger: &mut Ledger, policy: &Policy, part: Part) -> Result<usize, Fail> {
     match part {
         Part::Steps(rows) => played(alloc, ledger, policy, rows),
@@ -85,7 +85,8 @@ fn made(alloc: Global, ledger: &Ledger, part: Part) -> Result<usize, Fail> {
     }
 }
 
-/// The same of what is seen of a ledger as it stands. Of what either holds or not: one where it holds.
+/// The same of what is seen of a ledger as it stands. Of what either holds or not: one where it holds; of its runs and of its
+/// limit: how many there are.
 fn seen(ledger: &Ledger, part: Part) -> usize {
     match part {
         Part::FirstFailed => usize::from(is_first_failed(ledger)),

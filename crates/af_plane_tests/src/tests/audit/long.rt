@@ -1,11 +1,11 @@
 //! A long connection of acts that a seed chooses: requests of several users, some of them denied, refused or without a change; ticks,
 //! claims and reports. Each act has one entry exactly where the state is another after it; and the entries make the state again.
-use crate::tests::asks::{ASKS, USERS};
-use crate::tests::calls::{Ask, shown_to};
-use crate::tests::opening::Dags;
-use crate::tests::rows::JANUARY;
-use crate::tests::same::is_same;
-use crate::tests::stories::{Part, Story, all_go};
+use crate::tests::audit::asks::{ASKS, USERS};
+use crate::tests::audit::calls::{Ask, shown_to};
+use crate::tests::audit::opening::Dags;
+use crate::tests::audit::rows::JANUARY;
+use crate::tests::audit::same::is_same;
+use crate::tests::audit::stories::{Part, Story, all_go};
 use af_audit::{Ledger, ReportRefusal};
 use af_names::Instant;
 use af_ops::{Shown, Status};
@@ -240,14 +240,14 @@ fn played(
     Ok(tally)
 }
 
-/// How many acts were as they should be, where they tell enough: a quarter of them and more change something, and an eighth of them
-/// and more is refused.
-fn good_of(tally: Tally) -> Result<usize, Fail> {
-    if tally.changes < 100 {
+/// How many of so many acts were as they should be. Where all were, they are to tell enough: a quarter of them and more change
+/// something, and an eighth of them and more are refused.
+fn good_of(tally: Tally, acts: usize) -> Result<usize, Fail> {
+    if tally.good == acts && tally.changes < acts / 4 {
         return Err(Fail::new("fewer than a quarter of the acts change something"));
     }
-    if tally.refusals < 50 {
-        return Err(Fail::new("fewer than an eighth of the acts is refused"));
+    if tally.good == acts && tally.refusals < acts / 8 {
+        return Err(Fail::new("fewer than an eighth of the acts are refused"));
     }
     Ok(tally.good)
 }
@@ -262,7 +262,7 @@ pub fn connected(
     let mut course = opened(alloc)?;
     let tally = played(alloc, ledger, policy, &mut course, acts);
     drop(course);
-    good_of(tally?)
+    good_of(tally?, acts)
 }
 
 const CONNECTION: &[Story] = &[Story {

@@ -1,7 +1,7 @@
 //! Acts on ledgers of two DAGs, b and a scheduled one: what is told of each, and how many entries there then are.
-use crate::tests::opening::Dags;
-use crate::tests::steps::{Row, Step, Told};
-use crate::tests::stories::{Part, REPLAY, Story, all_go};
+use crate::tests::audit::opening::Dags;
+use crate::tests::audit::steps::{Row, Step, Told};
+use crate::tests::audit::stories::{Part, REPLAY, Story, all_go};
 use af_ops::Endpoint;
 use af_sched::Outcome;
 use std::test::Fail;

@@ -1,5 +1,5 @@
 //! What is read of the requests of the tests, and what is shown of it.
-use crate::tests::users::token;
+use crate::tests::audit::users::token;
 use af_audit::Ledger;
 use af_names::Instant;
 use af_ops::{Call, Endpoint, Op, Served, Shown, read_row};

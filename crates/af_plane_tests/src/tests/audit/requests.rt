@@ -1,9 +1,9 @@
 //! Requests of several users on a ledger: the status that each is told, and the number of entries.
-use crate::tests::calls::{B, shown_to};
-use crate::tests::opening::Dags;
-use crate::tests::rows::{JANUARY, MARCH, PAUSED, RUNNING};
-use crate::tests::steps::{Row, Step, Told};
-use crate::tests::stories::{Part, REPLAY, Story, all_go};
+use crate::tests::audit::calls::{B, shown_to};
+use crate::tests::audit::opening::Dags;
+use crate::tests::audit::rows::{JANUARY, MARCH, PAUSED, RUNNING};
+use crate::tests::audit::steps::{Row, Step, Told};
+use crate::tests::audit::stories::{Part, REPLAY, Story, all_go};
 use af_audit::{Actor, Entry, Ledger};
 use af_names::Instant;
 use af_ops::{Endpoint, Shown, Status};

@@ -1,9 +1,9 @@
 //! What the entries of a ledger say: their numbers, who did what, when, and under which policy version.
-use crate::tests::asserts::part_holds;
-use crate::tests::opening::Dags;
-use crate::tests::playing::{EVERYBODY, NOBODY, Readers};
-use crate::tests::rows::{FAILED, JANUARY, MARCH, POOLS, VARIABLES};
-use crate::tests::stories::{Part, Story, Titled, all_go};
+use crate::tests::audit::asserts::part_holds;
+use crate::tests::audit::opening::Dags;
+use crate::tests::audit::playing::{EVERYBODY, NOBODY, Readers};
+use crate::tests::audit::rows::{FAILED, JANUARY, MARCH, POOLS, VARIABLES};
+use crate::tests::audit::stories::{Part, Story, Titled, all_go};
 use af_audit::{Act, Actor, Audit, AuditFault, Entry, Ledger, entries_page};
 use af_listing::Window;
 use af_names::Instant;
@@ -30,7 +30,7 @@ const EVENTS_OF_VARIABLES: &[&str] = &[
     "post_variable",
 ];
 
-/// How many entries are of these events and name no DAG, up to the first that is not so.
+/// How many entries there are, where each is of its event and names no DAG; else the place of the first that is not so.
 pub fn have_events(entries: &[Entry], events: &[&str]) -> usize {
     for (place, (entry, event)) in entries.iter().zip(events).enumerate() {
         if !is_event(entry, event) {
