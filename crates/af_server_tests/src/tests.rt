@@ -5,6 +5,7 @@ mod calls;
 mod clears;
 mod configurations;
 mod connections;
+mod consoles;
 mod dags;
 mod denials;
 mod histories;
@@ -23,11 +24,9 @@ mod versions;
 
 use af_http::{Counted, Ended};
 use af_names::Instant;
-use af_server::Reason;
 use af_server::once::once;
 use std::alloc::Global;
-use std::io::{self, Read, Write};
-use std::test::Fail;
+use std::io::{self, ErrorKind, Read};
 
 /// The sample configuration: eight users, three roles of its own, three DAGs.
 const BASE: &str = r#"{"roles":[
@@ -49,15 +48,19 @@ const BASE: &str = r#"{"roles":[
 {"dag_id":"c","tasks":[{"task_id":"t"}]}]}
 "#;
 
-/// The bytes of some input that are still to be read, at most so many at once.
+/// The bytes of some input that are still to be read, at most so many at once; where there are none left, a read may fail.
 #[derive(Drop)]
-struct Pieces<'a> {
+pub struct Pieces<'a> {
     rest: &'a [u8],
     size: usize,
+    fails: bool,
 }
 
 impl Read for Pieces<'_> {
     fn read(&mut self, buffer: &mut [u8]) -> io::Result<usize> {
+        if self.fails && self.rest.is_empty() {
+            return Err(ErrorKind::Other.into());
+        }
         let count = self.size.min(buffer.len()).min(self.rest.len());
         let (now, rest) = self.rest.split_at(count);
         buffer[..count].copy_from_slice(now);
@@ -66,79 +69,40 @@ impl Read for Pieces<'_> {
     }
 }
 
-/// The bytes that were written.
-#[derive(Drop)]
-struct Paper {
-    bytes: Vec<u8>,
-}
-
-impl Write for Paper {
-    fn write(&mut self, bytes: &[u8]) -> io::Result<usize> {
-        self.bytes.extend_from_slice(bytes)?;
-        Ok(bytes.len())
-    }
-
-    fn flush(&mut self) -> io::Result<()> {
-        Ok(())
-    }
-}
-
-/// Nothing was written yet.
-fn blank_paper(alloc: Global) -> Counted<Paper> {
-    Counted::new(Paper {
-        bytes: Vec::new(alloc),
+/// These bytes, of which a read gives so many at most.
+fn in_pieces(rest: &[u8], size: usize) -> Counted<Pieces<'_>> {
+    Counted::new(Pieces {
+        rest,
+        size,
+        fails: false,
     })
 }
 
-/// How a connection with this input, of which at most so many bytes come at once, ends under a configuration, and what is written
-/// in it.
-fn run(
+/// The moment of all that is asked; there is one.
+fn now() -> Option<Instant> {
+    Instant::read("2024-01-01T00:00:00Z").ok()
+}
+
+/// How a connection with this input, of which at most so many bytes come at once, ends under a configuration, or none where that is
+/// refused. What is told in it is written here.
+fn ended(
     alloc: Global,
     config: &str,
     input: &[u8],
     size: usize,
-) -> Result<(Result<Ended, Reason>, Vec<u8>), Fail> {
-    let now = Instant::read("2024-01-01T00:00:00Z")?;
-    let mut reader = Counted::new(Pieces { rest: input, size });
-    let mut writer = blank_paper(alloc);
-    let ended = once(alloc, config.as_bytes(), now, &mut reader, &mut writer);
-    Ok((ended, writer.into_inner().bytes))
+    written: &mut Vec<u8>,
+) -> Option<Ended> {
+    let now = now()?;
+    let mut reader = in_pieces(input, size);
+    let mut writer = Counted::new(written);
+    once(alloc, config.as_bytes(), now, &mut reader, &mut writer).ok()
 }
 
-/// Whether this is what is written in a connection with this input under the sample configuration, and how it ends.
-fn is_told(alloc: Global, input: &[u8], size: usize, told: &str, end: Ended) -> Result<bool, Fail> {
-    let (ended, written) = run(alloc, BASE, input, size)?;
-    Ok(written.as_slice() == told.as_bytes() && ended == Ok(end))
-}
-
-/// Whether this is what is written in a connection with this input under a configuration, which then closes.
-fn is_told_under(alloc: Global, config: &str, input: &str, told: &str) -> Result<bool, Fail> {
-    let (ended, written) = run(alloc, config, input.as_bytes(), 4_096)?;
-    Ok(written.as_slice() == told.as_bytes() && ended == Ok(Ended::Closed))
-}
-
-/// A request, and what is told of it.
-type Exchange = (&'static str, &'static str);
-
-/// The requests of these exchanges, one after another, and their answers.
-fn texts(alloc: Global, exchanges: &[Exchange]) -> Result<(String, String), Fail> {
-    let mut requests = String::new(alloc);
-    let mut answers = String::new(alloc);
-    for exchange in exchanges {
-        requests.push_str(exchange.0)?;
-        answers.push_str(exchange.1)?;
-    }
-    Ok((requests, answers))
-}
-
-/// Whether the exchanges go as they should in one connection, of which at most so many bytes come at once.
-fn are_told(alloc: Global, exchanges: &[Exchange], size: usize) -> Result<bool, Fail> {
-    let (requests, answers) = texts(alloc, exchanges)?;
-    is_told(
-        alloc,
-        requests.as_bytes(),
-        size,
-        answers.as_str(),
-        Ended::Closed,
-    )
+/// Whether this is what is written in a connection with this input under a configuration, and how it ends.
+fn is_told(alloc: Global, config: &str, input: &[u8], size: usize, told: &str, end: Ended) -> bool {
+    let mut written = Vec::new(alloc);
+    let ended = ended(alloc, config, input, size, &mut written);
+    let is_written = written.as_slice() == told.as_bytes();
+    drop(written);
+    is_written && ended == Some(end)
 }

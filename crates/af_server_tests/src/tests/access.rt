@@ -1,13 +1,11 @@
 //! The access control of the DAGs of a configuration: each reason, and what users are granted by it.
-use super::asserts::{all_go, holds};
-use super::configurations::{ADMIN, are_refused, first_fault};
-use super::rows::{Row, rows_are_told_under};
+use super::asserts::all_go;
+use super::configurations::{ADMIN, BESIDE, Frame, Refusal, first_refusal};
+use super::rows::{Row, Story, fault_in};
 use af_server::Reason;
-use std::alloc::Global;
-use std::test::Fail;
 
 /// The access control of one DAG, beside a role `R`.
-const ACCESS: [(&str, Option<Reason>); 22] = [
+const ACCESS: [Refusal; 22] = [
     ("null", None),
     ("{}", None),
     (r#"{"R":[]}"#, None),
@@ -45,7 +43,7 @@ const ACCESS: [(&str, Option<Reason>); 22] = [
 ];
 
 /// What stands in the other members is told before, and the limits after; DAGs are taken in the order of the file.
-const ORDER: [(&str, Option<Reason>); 5] = [
+const ORDER: [Refusal; 5] = [
     (
         r#""dags":[{"dag_id":"a","access_control":7,"tasks":[{"task_id":"t"}]},{"dag_id":"b"}]"#,
         Some(Reason::Graph),
@@ -68,20 +66,20 @@ const ORDER: [(&str, Option<Reason>); 5] = [
     ),
 ];
 
-/// The first of these values of `access_control` that is not refused for its reason.
-fn first_of_access(alloc: Global) -> Result<Option<usize>, Fail> {
-    let before = format!(in alloc;
-        "{{\"roles\":[{{\"name\":\"R\",\"actions\":[]}}],{ADMIN},\"dags\":[{{\"dag_id\":\"a\",\"access_control\":"
-    )?;
-    let after = r#","tasks":[{"task_id":"t"}]}]}"#;
-    first_fault(alloc, before.as_str(), after, &ACCESS)
-}
+/// The DAG, and the role, round the value of `access_control`.
+const ROUND_ACCESS: Frame = [
+    r#"{"roles":[{"name":"R","actions":[]}],"#,
+    ADMIN,
+    r#","dags":[{"dag_id":"a","access_control":"#,
+    r#","tasks":[{"task_id":"t"}]}]}"#,
+];
 
 #[test]
-fn each_reason_of_access_control(rt: HostRuntime) -> Result<(), Fail> {
-    all_go(&rt, first_of_access(rt.alloc())?, "access control");
-    holds(&rt, are_refused(rt.alloc(), &ORDER)?, "its place");
-    Ok(())
+fn each_reason_of_access_control(rt: HostRuntime) {
+    let fault = first_refusal(rt.alloc(), ROUND_ACCESS, &ACCESS);
+    all_go(&rt, fault, "access control");
+    let fault = first_refusal(rt.alloc(), BESIDE, &ORDER);
+    all_go(&rt, fault, "its place");
 }
 
 /// The DAG a lets Public and Admin read it; of b all roles lose what they had; c says nothing.
@@ -134,8 +132,11 @@ const GRANTED: [Row; 4] = [
 ];
 
 #[test]
-fn who_is_granted_what(rt: HostRuntime) -> Result<(), Fail> {
-    let are_told = rows_are_told_under(rt.alloc(), CONFIG, &GRANTED)?;
-    holds(&rt, are_told, "what each user is told of the DAGs");
-    Ok(())
+fn who_is_granted_what(rt: HostRuntime) {
+    let fault = fault_in(rt.alloc(), CONFIG, Story::Rows(&GRANTED));
+    all_go(
+        &rt,
+        fault,
+        "what each user is told of the DAGs, in pieces of",
+    );
 }

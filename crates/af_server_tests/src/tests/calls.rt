@@ -1,19 +1,66 @@
-use super::asserts::{holds, number_holds, row_holds};
-use super::{BASE, Pieces, blank_paper};
+//! What words ask for, what the program says, and how files are refused.
+use super::asserts::{all_go, first_fault, holds};
+use super::consoles::{Act, does};
+use super::{BASE, Pieces};
 use af_http::Counted;
-use af_names::Instant;
-use af_server::{Command, Console, Reason, ended, read_whole, run_once, usage};
-use std::alloc::Global;
-use std::io::{self, ErrorKind, Read};
-use std::test::Fail;
+use af_server::{Command, Reason, read_whole};
+use std::alloc::{AllocError, Global};
+
+fn add_word(alloc: Global, all: &mut Vec<String>, word: &str) -> Result<(), AllocError> {
+    let word = String::from_str(alloc, word)?;
+    Ok(all.push(word)?)
+}
+
+fn add_words(alloc: Global, all: &mut Vec<String>, words: &[&str]) -> Result<(), AllocError> {
+    for word in words {
+        add_word(alloc, all, *word)?;
+    }
+    Ok(())
+}
 
 /// What words ask for.
-pub fn asked(alloc: Global, words: &[&str]) -> Result<Command, Fail> {
+pub fn command_of(alloc: Global, words: &[&str]) -> Result<Command, AllocError> {
     let mut all = Vec::new(alloc);
-    for word in words {
-        all.push(String::from_str(alloc, word)?)?;
+    match add_words(alloc, &mut all, words) {
+        Ok(()) => Ok(Command::of_words(all.into_iter())),
+        Err(error) => {
+            drop(all);
+            Err(error)
+        }
     }
-    Ok(Command::of_words(all.into_iter()))
+}
+
+/// What words may ask for: one connection under the configuration at a path, or whether the trace at a path agrees.
+#[derive(Clone, Copy)]
+pub enum Asked {
+    Once(&'static str),
+    Verify(&'static str),
+    Usage,
+}
+
+fn is_asked(command: &Command, asked: Asked) -> bool {
+    match command {
+        Command::Once { config, .. } => match asked {
+            Asked::Once(path) => config.as_str() == path,
+            Asked::Verify(_) | Asked::Usage => false,
+        },
+        Command::Verify { trace } => match asked {
+            Asked::Verify(path) => trace.as_str() == path,
+            Asked::Once(_) | Asked::Usage => false,
+        },
+        Command::Usage => match asked {
+            Asked::Usage => true,
+            Asked::Once(_) | Asked::Verify(_) => false,
+        },
+    }
+}
+
+/// Whether the words ask for this.
+pub fn asks(alloc: Global, words: &[&str], wanted: Asked) -> Result<bool, AllocError> {
+    let command = command_of(alloc, words)?;
+    let is_asked = is_asked(&command, wanted);
+    drop(command);
+    Ok(is_asked)
 }
 
 /// Words that ask for nothing that there is.
@@ -36,50 +83,19 @@ const WRONG: [&[&str]; 10] = [
     &["afplane", "twice", "base.json", "2024-01-01T00:00:00Z"],
 ];
 
-/// Whether the words ask for one connection under the configuration at this path.
-fn asks_once(alloc: Global, words: &[&str], path: &str) -> Result<bool, Fail> {
-    match asked(alloc, words)? {
-        Command::Once { config, .. } => Ok(config.as_str() == path),
-        Command::Verify { .. } | Command::Usage => Ok(false),
-    }
-}
+/// Words that ask for one connection.
+const ONCE: [&str; 4] = ["afplane", "once", "base.json", "2024-01-01T00:00:00Z"];
 
 /// Whether the words ask for how the program is called.
-fn asks_usage(alloc: Global, words: &[&str]) -> Result<bool, Fail> {
-    match asked(alloc, words)? {
-        Command::Once { .. } | Command::Verify { .. } => Ok(false),
-        Command::Usage => Ok(true),
-    }
+fn asks_usage(alloc: Global, words: &&[&str]) -> Result<bool, AllocError> {
+    asks(alloc, *words, Asked::Usage)
 }
 
 #[test]
-fn the_words_of_the_program(rt: HostRuntime) -> Result<(), Fail> {
-    let once = ["afplane", "once", "base.json", "2024-01-01T00:00:00Z"];
-    let asks_once = asks_once(rt.alloc(), &once, "base.json")?;
-    holds(&rt, asks_once, "one connection");
-    for (row, words) in WRONG.iter().enumerate() {
-        let asks_usage = asks_usage(rt.alloc(), *words)?;
-        row_holds(&rt, asks_usage, row);
-    }
-    Ok(())
-}
-
-/// A file that fails after so many bytes.
-#[derive(Drop)]
-struct Failing {
-    left: usize,
-}
-
-impl Read for Failing {
-    fn read(&mut self, buffer: &mut [u8]) -> io::Result<usize> {
-        if self.left == 0 {
-            return Err(ErrorKind::Other.into());
-        }
-        let count = self.left.min(buffer.len());
-        buffer[..count].fill(b' ');
-        self.left -= count;
-        Ok(count)
-    }
+fn the_words_of_the_program(rt: HostRuntime) {
+    let asks_once = asks(rt.alloc(), &ONCE, Asked::Once("base.json"));
+    holds(&rt, asks_once == Ok(true), "one connection");
+    all_go(&rt, first_fault(rt.alloc(), &WRONG, asks_usage), "row");
 }
 
 /// What a file holds, what comes from standard input, the status, whether there is an answer, and what is told on standard error.
@@ -118,74 +134,46 @@ const CALLS: [Call; 6] = [
     ),
 ];
 
-/// These bytes, of which a read gives 4,096 at most.
-pub fn pieces(text: &str) -> Counted<Pieces<'_>> {
-    Counted::new(Pieces {
-        rest: text.as_bytes(),
-        size: 4_096,
-    })
-}
-
-/// The status of a call, and what is written and told.
-fn called(
-    alloc: Global,
-    config: &'static str,
-    input: &'static str,
-) -> Result<(u8, Vec<u8>, Vec<u8>), Fail> {
-    let now = Instant::read("2024-01-01T00:00:00Z")?;
-    let mut console = Console {
-        input: pieces(input),
-        output: blank_paper(alloc),
-        errors: blank_paper(alloc),
-    };
-    let status = run_once(alloc, &mut pieces(config), now, &mut console);
-    let Console { output, errors, .. } = console;
-    Ok((status, output.into_inner().bytes, errors.into_inner().bytes))
-}
-
 /// Whether a call goes as it should.
-fn is_said(alloc: Global, call: Call) -> Result<bool, Fail> {
-    let (config, input, status, answered, told) = call;
-    let (said, output, errors) = called(alloc, config, input)?;
-    Ok(said == status && output.is_empty() != answered && errors.as_slice() == told.as_bytes())
+fn goes(alloc: Global, call: &Call) -> Result<bool, AllocError> {
+    let (config, input, status, answered, errors) = *call;
+    let output = if answered { None } else { Some("") };
+    Ok(does(alloc, Act::Once(config), input, (status, output, errors)))
 }
 
 #[test]
-fn what_the_program_says(rt: HostRuntime) -> Result<(), Fail> {
-    for call in CALLS {
-        let is_said = is_said(rt.alloc(), call)?;
-        holds(&rt, is_said, call.0);
-    }
-    Ok(())
+fn what_the_program_says(rt: HostRuntime) {
+    all_go(&rt, first_fault(rt.alloc(), &CALLS, goes), "call");
 }
 
-/// How a file that fails after so many bytes is refused.
-fn refused_after(alloc: Global, left: usize) -> Option<Reason> {
-    let mut file = Counted::new(Failing { left });
+/// How many spaces a file holds, how many of them a read gives at most, whether it fails behind them, and why it is refused.
+type Spaces = (usize, usize, bool, Option<Reason>);
+
+const SPACES: [Spaces; 4] = [
+    (0, 1, true, Some(Reason::Unreadable)),
+    (70_000, 70_000, true, Some(Reason::Unreadable)),
+    (0, 999, false, None),
+    (20_000, 999, false, None),
+];
+
+/// How a file that holds these bytes is refused.
+fn refused(alloc: Global, rest: &[u8], size: usize, fails: bool) -> Option<Reason> {
+    let mut file = Counted::new(Pieces { rest, size, fails });
     read_whole(alloc, &mut file).err()
 }
 
-/// How a file of so many bytes is refused, of which a read gives 999 at most.
-fn spaces(alloc: Global, length: usize) -> Result<Option<Reason>, Fail> {
+/// Whether a file of spaces is refused for this reason, or taken.
+fn is_refused(alloc: Global, spaces: &Spaces) -> Result<bool, AllocError> {
+    let (length, size, fails, reason) = *spaces;
     let bytes = Vec::from_elem(alloc, b' ', length)?;
-    let mut file = Counted::new(Pieces {
-        rest: bytes.as_slice(),
-        size: 999,
-    });
-    Ok(read_whole(alloc, &mut file).err())
+    let refused = refused(alloc, bytes.as_slice(), size, fails);
+    drop(bytes);
+    Ok(refused == reason)
 }
 
 #[test]
-fn files_that_fail_are_refused(rt: HostRuntime) -> Result<(), Fail> {
-    for left in [0usize, 70_000] {
-        let is_refused = refused_after(rt.alloc(), left) == Some(Reason::Unreadable);
-        number_holds(&rt, is_refused, "fails after", left);
-    }
-    for length in [0usize, 20_000] {
-        let refused = spaces(rt.alloc(), length)?;
-        number_holds(&rt, refused.is_none(), "spaces:", length);
-    }
-    Ok(())
+fn files_that_fail_are_refused(rt: HostRuntime) {
+    all_go(&rt, first_fault(rt.alloc(), &SPACES, is_refused), "spaces");
 }
 
 /// Each reason, and its word.
@@ -208,33 +196,23 @@ const WORDS: [(Reason, &str); 15] = [
 ];
 
 /// Whether a reason is told by this word.
-fn is_word(alloc: Global, reason: Reason, word: &str) -> Result<bool, Fail> {
-    let mut errors = blank_paper(alloc);
-    let status = ended(&mut errors, Err(reason));
-    let line = format!(in alloc; "afplane: configuration refused: {word}\n")?;
-    Ok(status == 3 && errors.into_inner().bytes.as_slice() == line.as_bytes())
+fn is_word(alloc: Global, word: &(Reason, &'static str)) -> Result<bool, AllocError> {
+    let line = ["afplane: configuration refused: ", word.1, "\n"].concat(alloc)?;
+    let told = (3, Some(""), line.as_str());
+    let is_word = does(alloc, Act::End(word.0), "", told);
+    drop(line);
+    Ok(is_word)
 }
 
 #[test]
-fn each_line(rt: HostRuntime) -> Result<(), Fail> {
-    for (reason, word) in WORDS {
-        let is_word = is_word(rt.alloc(), reason, word)?;
-        holds(&rt, is_word, word);
-    }
-    Ok(())
+fn each_line(rt: HostRuntime) {
+    all_go(&rt, first_fault(rt.alloc(), &WORDS, is_word), "word");
 }
 
-const USAGE: &[u8] = b"usage: afplane once CONFIG NOW | serve CONFIG PORT WORKERS | verify TRACE\n";
-
-/// Whether the line of the usage is told, with the status 2.
-fn is_usage_told(alloc: Global) -> bool {
-    let mut errors = blank_paper(alloc);
-    let status = usage(&mut errors);
-    status == 2 && errors.into_inner().bytes.as_slice() == USAGE
-}
+const USAGE: &str = "usage: afplane once CONFIG NOW | serve CONFIG PORT WORKERS | verify TRACE\n";
 
 #[test]
-fn the_line_of_the_usage(rt: HostRuntime) -> Result<(), Fail> {
-    holds(&rt, is_usage_told(rt.alloc()), "the status and the line");
-    Ok(())
+fn the_line_of_the_usage(rt: HostRuntime) {
+    let is_told = does(rt.alloc(), Act::Usage, "", (2, Some(""), USAGE));
+    holds(&rt, is_told, "the status and the line");
 }

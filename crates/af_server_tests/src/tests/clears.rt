@@ -1,6 +1,6 @@
-use super::asserts::number_holds;
-use super::{Exchange, are_told};
-use std::test::Fail;
+use super::BASE;
+use super::asserts::all_go;
+use super::rows::{Exchange, Story, fault_in_pieces};
 
 /// Instances that are cleared, in one connection: who may not clear them, bodies that are none, what is not there, dry runs, and
 /// clears. What stands already is no change, and is told with the count of changes as it was. Then the run is deleted, once.
@@ -132,10 +132,7 @@ const CLEARS: [Exchange; 31] = [
 ];
 
 #[test]
-fn instances_are_cleared(rt: HostRuntime) -> Result<(), Fail> {
-    for size in [1, 4_096] {
-        let are_told = are_told(rt.alloc(), &CLEARS, size)?;
-        number_holds(&rt, are_told, "in pieces of", size);
-    }
-    Ok(())
+fn instances_are_cleared(rt: HostRuntime) {
+    let fault = fault_in_pieces(rt.alloc(), BASE, Story::Exchanges(&CLEARS), &[1, 4_096]);
+    all_go(&rt, fault, "the answers, in pieces of");
 }

@@ -1,53 +1,119 @@
 use super::BASE;
-use super::asserts::{all_go, holds};
+use super::asserts::{Fault, all_go};
+use af_names::Instant;
 use af_server::{Configuration, Reason};
-use std::alloc::Global;
-use std::test::Fail;
+use af_vars::Variable;
+use std::alloc::{AllocError, Global};
 
 /// An administrator.
 pub const ADMIN: &str =
     r#""users":[{"username":"u","roles":[{"name":"Admin"}],"token_sha256":"8c6976e5b5410415bde908bd4dee15dfb167a9c873fc4bb8a81f6f2ab448a918"}]"#;
 
+/// What a configuration that is taken may say.
+#[derive(Clone, Copy)]
+pub enum Said {
+    Anything,
+    /// Variables, in their order.
+    Variables(&'static [(&'static str, &'static str)]),
+    /// The limits of entries and of versions.
+    Limits(u32, u32),
+    /// The only DAG, and where its cursor is.
+    Cursor(Option<&'static str>),
+}
+
+fn is_variable(row: &Variable, said: (&str, &str)) -> bool {
+    row.key.as_str() == said.0 && row.value.as_str() == said.1
+}
+
+fn are_variables(rows: &[Variable], said: &[(&str, &str)]) -> bool {
+    for (row, said) in rows.iter().zip(said) {
+        if !is_variable(row, *said) {
+            return false;
+        }
+    }
+    rows.len() == said.len()
+}
+
+fn is_at(read: &Configuration, first: Option<&str>) -> bool {
+    let [row] = read.state.dags() else {
+        return false;
+    };
+    match first {
+        Some(text) => row.cursor.is_some() && row.cursor == Instant::read(text).ok(),
+        None => row.cursor.is_none(),
+    }
+}
+
+fn is_said(read: &Configuration, said: Said) -> bool {
+    match said {
+        Said::Anything => true,
+        Said::Variables(variables) => are_variables(read.state.variables(), variables),
+        Said::Limits(history, versions) => {
+            read.limits.history == history && read.limits.versions == versions
+        }
+        Said::Cursor(first) => is_at(read, first),
+    }
+}
+
+/// Whether a configuration says this, or why it is refused. No other function owns one: its parts are many, and each way out of a
+/// function drops each of them.
+fn says(alloc: Global, config: &str, said: Said) -> Result<bool, Reason> {
+    match Configuration::read(alloc, config.as_bytes()) {
+        Ok(read) => {
+            let is_said = is_said(&read, said);
+            drop(read);
+            Ok(is_said)
+        }
+        Err(reason) => Err(reason),
+    }
+}
+
+/// Whether a configuration of these parts is taken, and says this.
+pub fn is_taken(alloc: Global, parts: &[&str], said: Said) -> Result<bool, AllocError> {
+    let config = parts.concat(alloc)?;
+    let is_taken = says(alloc, config.as_str(), said) == Ok(true);
+    drop(config);
+    Ok(is_taken)
+}
+
 /// Why a configuration is refused, or none where it is taken.
 pub fn refused(alloc: Global, config: &str) -> Option<Reason> {
-    Configuration::read(alloc, config.as_bytes()).err()
+    says(alloc, config, Said::Anything).err()
 }
 
-/// Whether a configuration of an administrator and each of these members is refused for its reason, or taken.
-pub fn are_refused(alloc: Global, rows: &[(&str, Option<Reason>)]) -> Result<bool, Fail> {
-    let before = format!(in alloc; "{{{ADMIN},")?;
-    Ok(first_fault(alloc, before.as_str(), "}", rows)?.is_none())
+/// Why a configuration of these parts is refused, or none where it is taken.
+fn reason_of(alloc: Global, parts: &[&str]) -> Result<Option<Reason>, AllocError> {
+    let config = parts.concat(alloc)?;
+    let refused = refused(alloc, config.as_str());
+    drop(config);
+    Ok(refused)
 }
 
-/// The number of the first of these texts that, between these two, is not refused for its reason.
-pub fn first_fault(
-    alloc: Global,
-    before: &str,
-    after: &str,
-    rows: &[(&str, Option<Reason>)],
-) -> Result<Option<usize>, Fail> {
+/// A text, and why a configuration that has it is refused, or none where it is taken.
+pub type Refusal = (&'static str, Option<Reason>);
+
+/// Three parts of a configuration that stand before what a row has, and one behind it.
+pub type Frame = [&'static str; 4];
+
+/// No more than what the row has.
+const WHOLE_TEXT: Frame = ["", "", "", ""];
+
+/// An administrator, beside the members that the row has.
+pub const BESIDE: Frame = ["{", ADMIN, ",", "}"];
+
+/// The number of the first of these texts that, in this frame, is not refused for its reason, or taken where there is none.
+pub fn first_refusal(alloc: Global, frame: Frame, rows: &[Refusal]) -> Fault {
+    let [first, second, third, last] = frame;
     for (number, (text, reason)) in rows.iter().enumerate() {
-        if !is_refused(alloc, before, *text, after, *reason)? {
+        if reason_of(alloc, &[first, second, third, *text, last])? != *reason {
             return Ok(Some(number));
         }
     }
     Ok(None)
 }
 
-/// Whether a text between two is refused for this reason, or taken where there is none.
-fn is_refused(
-    alloc: Global,
-    before: &str,
-    text: &str,
-    after: &str,
-    reason: Option<Reason>,
-) -> Result<bool, Fail> {
-    let config = format!(in alloc; "{before}{text}{after}")?;
-    Ok(refused(alloc, config.as_str()) == reason)
-}
-
 /// Whole configurations.
-const WHOLE: [(&str, Option<Reason>); 26] = [
+const WHOLE: [Refusal; 26] = [
     ("", Some(Reason::Syntax)),
     ("{", Some(Reason::Syntax)),
     ("{} {}", Some(Reason::Syntax)),
@@ -119,7 +185,7 @@ const WHOLE: [(&str, Option<Reason>); 26] = [
 ];
 
 /// Lists of pools and DAGs beside an administrator: each row, and each of its faults before those of the rows below it.
-const LISTS: [(&str, Option<Reason>); 20] = [
+const LISTS: [Refusal; 20] = [
     (r#""pools":null,"dags":null"#, None),
     (r#""pools":[{"name":"p","slots":1000000}]"#, None),
     (
@@ -164,9 +230,9 @@ const LISTS: [(&str, Option<Reason>); 20] = [
 ];
 
 #[test]
-fn each_reason(rt: HostRuntime) -> Result<(), Fail> {
-    let fault = first_fault(rt.alloc(), "", "", &WHOLE)?;
+fn each_reason(rt: HostRuntime) {
+    let fault = first_refusal(rt.alloc(), WHOLE_TEXT, &WHOLE);
     all_go(&rt, fault, "whole configurations");
-    holds(&rt, are_refused(rt.alloc(), &LISTS)?, "pools and DAGs");
-    Ok(())
+    let fault = first_refusal(rt.alloc(), BESIDE, &LISTS);
+    all_go(&rt, fault, "pools and DAGs");
 }

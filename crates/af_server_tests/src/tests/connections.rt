@@ -1,9 +1,9 @@
-use super::asserts::{all_go, holds, number_holds};
-use super::{Exchange, are_told, is_told};
+use super::asserts::{Fault, all_go, holds};
+use super::rows::{Exchange, Story, fault_alone, fault_in};
+use super::{BASE, is_told};
 use af_http::Ended;
 use af_ops::Status;
 use std::alloc::Global;
-use std::test::Fail;
 
 const LIST: &str =
     "HTTP/1.1 200 OK\r\nContent-Type: application/json\r\nContent-Length: 321\r\nX-Policy-Version: 0\r\nX-Plane-Seq: 0\r\n\r\n{\"dags\":[{\"dag_id\":\"a\",\"is_paused\":true,\"max_active_runs\":16,\"next_dagrun\":null,\"schedule_interval\":null},{\"dag_id\":\"b\",\"is_paused\":false,\"max_active_runs\":16,\"next_dagrun\":null,\"schedule_interval\":null},{\"dag_id\":\"c\",\"is_paused\":false,\"max_active_runs\":16,\"next_dagrun\":null,\"schedule_interval\":null}],\"total_entries\":3}";
@@ -28,12 +28,10 @@ const NO_METHOD: &str =
 
 const ASKS_VERSION: &str = "GET /api/v1/version HTTP/1.1\r\nHost: h\r\n\r\n";
 
-/// What is asked of the list of DAGs under a token.
-fn asks_list(alloc: Global, token: &str) -> Result<String, Fail> {
-    Ok(format!(in alloc;
-        "GET /api/v1/dags HTTP/1.1\r\nHost: h\r\nAuthorization: Bearer {token}\r\n\r\n"
-    )?)
-}
+/// What stands before the token in a request for the list of DAGs, and behind it.
+const BEFORE_TOKEN: &str = "GET /api/v1/dags HTTP/1.1\r\nHost: h\r\nAuthorization: Bearer ";
+
+const BEHIND_TOKEN: &str = "\r\n\r\n";
 
 /// What each user is told of the list of DAGs, by the user's token.
 const LISTS: [Exchange; 10] = [
@@ -49,19 +47,10 @@ const LISTS: [Exchange; 10] = [
     ("tes", NOBODY),
 ];
 
-/// Whether the user of a token is told this of the list of DAGs.
-fn is_listed(alloc: Global, token: &str, told: &str) -> Result<bool, Fail> {
-    let input = asks_list(alloc, token)?;
-    is_told(alloc, input.as_bytes(), 4_096, told, Ended::Closed)
-}
-
 #[test]
-fn what_each_user_is_told(rt: HostRuntime) -> Result<(), Fail> {
-    for (token, told) in LISTS {
-        let is_listed = is_listed(rt.alloc(), token, told)?;
-        holds(&rt, is_listed, token);
-    }
-    Ok(())
+fn what_each_user_is_told(rt: HostRuntime) {
+    let fault = fault_alone(rt.alloc(), BEFORE_TOKEN, &LISTS, BEHIND_TOKEN);
+    all_go(&rt, fault, "the user of the token");
 }
 
 /// Without a token, or with a method that there is not.
@@ -72,75 +61,67 @@ const OPEN: [Exchange; 3] = [
 ];
 
 #[test]
-fn without_a_token_or_a_method(rt: HostRuntime) -> Result<(), Fail> {
-    for exchange in OPEN {
-        let is_told = are_told(rt.alloc(), &[exchange], 4_096)?;
-        holds(&rt, is_told, exchange.0);
-    }
-    Ok(())
-}
-
-/// The viewer's two requests, and what is told of them.
-fn two(alloc: Global) -> Result<(String, String), Fail> {
-    let mut input = asks_list(alloc, "test")?;
-    input.push_str(ASKS_VERSION)?;
-    Ok((input, told_of_two(alloc)?))
-}
-
-/// What is told of the two.
-fn told_of_two(alloc: Global) -> Result<String, Fail> {
-    let mut told = String::from_str(alloc, LIST)?;
-    told.push_str(VERSION)?;
-    Ok(told)
+fn without_a_token_or_a_method(rt: HostRuntime) {
+    let fault = fault_alone(rt.alloc(), "", &OPEN, "");
+    all_go(&rt, fault, "the request");
 }
 
 /// The first size of pieces in which this is not what is told of an input.
-fn first_size(alloc: Global, input: &str, told: &str) -> Result<Option<usize>, Fail> {
+fn first_size(alloc: Global, input: &str, told: &str) -> Option<usize> {
     for size in 1..=input.len() {
-        if !is_told(alloc, input.as_bytes(), size, told, Ended::Closed)? {
-            return Ok(Some(size));
+        if !is_told(alloc, BASE, input.as_bytes(), size, told, Ended::Closed) {
+            return Some(size);
         }
     }
-    Ok(None)
+    None
 }
+
+/// The same of the viewer's two requests.
+fn first_size_of_two(alloc: Global) -> Fault {
+    let told = [LIST, VERSION].concat(alloc)?;
+    let fault = first_size(alloc, TWO, told.as_str());
+    drop(told);
+    Ok(fault)
+}
+
+/// The viewer's two requests.
+const TWO: &str =
+    "GET /api/v1/dags HTTP/1.1\r\nHost: h\r\nAuthorization: Bearer test\r\n\r\nGET /api/v1/version HTTP/1.1\r\nHost: h\r\n\r\n";
 
 /// On one connection, however they are cut.
 #[test]
-fn in_pieces_of_any_size(rt: HostRuntime) -> Result<(), Fail> {
-    let (input, told) = two(rt.alloc())?;
-    let fault = first_size(rt.alloc(), input.as_str(), told.as_str())?;
-    all_go(&rt, fault, "in pieces of");
-    Ok(())
+fn in_pieces_of_any_size(rt: HostRuntime) {
+    all_go(&rt, first_size_of_two(rt.alloc()), "in pieces of");
 }
 
 /// Whether a request of which only the first so many bytes come is refused.
-fn is_incomplete(alloc: Global, length: usize) -> Result<bool, Fail> {
+fn is_incomplete(alloc: Global, length: usize) -> bool {
+    let end = Ended::Refused(Status::BadRequest);
     match ASKS_VERSION.as_bytes().get(..length) {
-        Some(front) => is_told(
-            alloc,
-            front,
-            4_096,
-            INCOMPLETE,
-            Ended::Refused(Status::BadRequest),
-        ),
-        None => Ok(false),
+        Some(front) => is_told(alloc, BASE, front, 4_096, INCOMPLETE, end),
+        None => false,
     }
+}
+
+/// The first length at which a request of 41 bytes is not refused where it is cut.
+fn first_complete(alloc: Global) -> Option<usize> {
+    for length in 1..41usize {
+        if !is_incomplete(alloc, length) {
+            return Some(length);
+        }
+    }
+    None
 }
 
 /// A request of 41 bytes.
 #[test]
-fn cut_after_each_byte(rt: HostRuntime) -> Result<(), Fail> {
-    for length in 1..41usize {
-        let is_incomplete = is_incomplete(rt.alloc(), length)?;
-        number_holds(&rt, is_incomplete, "cut after", length);
-    }
+fn cut_after_each_byte(rt: HostRuntime) {
+    all_go(&rt, Ok(first_complete(rt.alloc())), "cut after");
     holds(&rt, ASKS_VERSION.len() == 41, "the request");
-    Ok(())
 }
 
 #[test]
-fn nothing_is_asked(rt: HostRuntime) -> Result<(), Fail> {
-    let are_told = are_told(rt.alloc(), &[], 4_096)?;
-    holds(&rt, are_told, "no answer, and it closes");
-    Ok(())
+fn nothing_is_asked(rt: HostRuntime) {
+    let fault = fault_in(rt.alloc(), BASE, Story::Exchanges(&[]));
+    all_go(&rt, fault, "no answer, and it closes, in pieces of");
 }

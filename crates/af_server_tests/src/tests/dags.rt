@@ -1,11 +1,9 @@
 use super::asserts::all_go;
-use super::configurations::{ADMIN, first_fault};
+use super::configurations::{ADMIN, Frame, Refusal, first_refusal};
 use af_server::Reason;
-use std::alloc::Global;
-use std::test::Fail;
 
 /// Members of a DAG of one task, in the order in which their faults are told.
-const DAGS: [(&str, Option<Reason>); 21] = [
+const DAGS: [Refusal; 21] = [
     (
         r#""schedule":null,"start_date":7,"catchup":null,"max_active_runs":null,"is_paused":null"#,
         None,
@@ -66,7 +64,7 @@ const DAGS: [(&str, Option<Reason>); 21] = [
 ];
 
 /// Lists of tasks of one DAG.
-const TASKS: [(&str, Option<Reason>); 28] = [
+const TASKS: [Refusal; 28] = [
     (
         r#"{"task_id":"t","upstream":null,"pool":null,"pool_slots":1000000,"priority_weight":-2147483648,"retries":1000,"retry_delay":31536000,"trigger_rule":"none_failed_min_one_success","script":["success","failed","skipped"]}"#,
         None,
@@ -145,24 +143,26 @@ const TASKS: [(&str, Option<Reason>); 28] = [
     ),
 ];
 
-/// The first of these members of a DAG that is not refused for its reason.
-fn first_of_dags(alloc: Global) -> Result<Option<usize>, Fail> {
-    let before = format!(in alloc; "{{{ADMIN},\"dags\":[{{\"dag_id\":\"a\",")?;
-    let after = r#","tasks":[{"task_id":"t"}]}]}"#;
-    first_fault(alloc, before.as_str(), after, &DAGS)
-}
+/// The DAG round its members.
+const ROUND_MEMBERS: Frame = [
+    "{",
+    ADMIN,
+    r#","dags":[{"dag_id":"a","#,
+    r#","tasks":[{"task_id":"t"}]}]}"#,
+];
 
-/// The first of these lists of tasks that is not refused for its reason.
-fn first_of_tasks(alloc: Global) -> Result<Option<usize>, Fail> {
-    let before = format!(in alloc;
-        "{{{ADMIN},\"pools\":[{{\"name\":\"p\",\"slots\":1}}],\"dags\":[{{\"dag_id\":\"a\",\"tasks\":["
-    )?;
-    first_fault(alloc, before.as_str(), "]}]}", &TASKS)
-}
+/// The DAG round its tasks, and a pool.
+const ROUND_TASKS: Frame = [
+    "{",
+    ADMIN,
+    r#","pools":[{"name":"p","slots":1}],"dags":[{"dag_id":"a","tasks":["#,
+    "]}]}",
+];
 
 #[test]
-fn each_reason_of_a_dag(rt: HostRuntime) -> Result<(), Fail> {
-    all_go(&rt, first_of_dags(rt.alloc())?, "members of a DAG");
-    all_go(&rt, first_of_tasks(rt.alloc())?, "members of tasks");
-    Ok(())
+fn each_reason_of_a_dag(rt: HostRuntime) {
+    let fault = first_refusal(rt.alloc(), ROUND_MEMBERS, &DAGS);
+    all_go(&rt, fault, "members of a DAG");
+    let fault = first_refusal(rt.alloc(), ROUND_TASKS, &TASKS);
+    all_go(&rt, fault, "members of tasks");
 }

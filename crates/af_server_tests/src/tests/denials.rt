@@ -1,6 +1,6 @@
-use super::asserts::number_holds;
-use super::{Exchange, are_told};
-use std::test::Fail;
+use super::BASE;
+use super::asserts::all_go;
+use super::rows::{Exchange, Story, fault_in_pieces};
 
 /// Who may change the DAG, and yet trigger no run of it, is denied before the body is looked at; of who may trigger one a bad body is told.
 const DENIALS: [Exchange; 3] = [
@@ -19,10 +19,7 @@ const DENIALS: [Exchange; 3] = [
 ];
 
 #[test]
-fn a_denial_comes_before_a_bad_body(rt: HostRuntime) -> Result<(), Fail> {
-    for size in [1usize, 4_096] {
-        let are_told = are_told(rt.alloc(), &DENIALS, size)?;
-        number_holds(&rt, are_told, "denials in pieces of", size);
-    }
-    Ok(())
+fn a_denial_comes_before_a_bad_body(rt: HostRuntime) {
+    let fault = fault_in_pieces(rt.alloc(), BASE, Story::Exchanges(&DENIALS), &[1, 4_096]);
+    all_go(&rt, fault, "the answers, in pieces of");
 }

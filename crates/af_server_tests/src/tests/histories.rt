@@ -1,7 +1,7 @@
 //! Event logs, and a history of three entries, through whole connections.
-use super::asserts::holds;
-use super::rows::{Row, rows_are_told, rows_are_told_under};
-use std::test::Fail;
+use super::BASE;
+use super::asserts::all_go;
+use super::rows::{Row, Story, fault_in};
 
 /// A configuration that lets the audit have three entries.
 const THREE: &str = r#"{"users":[
@@ -99,10 +99,9 @@ const FILLED: [Row; 9] = [
 ];
 
 #[test]
-fn a_full_history_takes_no_change(rt: HostRuntime) -> Result<(), Fail> {
-    let are_told = rows_are_told_under(rt.alloc(), THREE, &FILLED)?;
-    holds(&rt, are_told, "the answers, one after another");
-    Ok(())
+fn a_full_history_takes_no_change(rt: HostRuntime) {
+    let fault = fault_in(rt.alloc(), THREE, Story::Rows(&FILLED));
+    all_go(&rt, fault, "the answers, one after another, in pieces of");
 }
 
 /// Who asks for the event logs, after two changes.
@@ -166,8 +165,7 @@ const LOGS: [Row; 7] = [
 ];
 
 #[test]
-fn event_logs_after_changes(rt: HostRuntime) -> Result<(), Fail> {
-    let are_told = rows_are_told(rt.alloc(), &LOGS)?;
-    holds(&rt, are_told, "the answers, one after another");
-    Ok(())
+fn event_logs_after_changes(rt: HostRuntime) {
+    let fault = fault_in(rt.alloc(), BASE, Story::Rows(&LOGS));
+    all_go(&rt, fault, "the answers, one after another, in pieces of");
 }

@@ -1,9 +1,6 @@
-use super::asserts::holds;
-use super::is_told;
-use super::rows::{Row, rows_are_told};
-use af_http::Ended;
-use std::alloc::Global;
-use std::test::Fail;
+use super::BASE;
+use super::asserts::all_go;
+use super::rows::{Exchange, Row, Story, fault_alone, fault_in};
 
 /// A run of the DAG b, and what is then told of its instance, and of its task.
 const INSTANCES: [Row; 14] = [
@@ -122,10 +119,9 @@ const INSTANCES: [Row; 14] = [
 ];
 
 #[test]
-fn what_is_told_of_instances(rt: HostRuntime) -> Result<(), Fail> {
-    let are_told = rows_are_told(rt.alloc(), &INSTANCES)?;
-    holds(&rt, are_told, "the answers, one after another");
-    Ok(())
+fn what_is_told_of_instances(rt: HostRuntime) {
+    let fault = fault_in(rt.alloc(), BASE, Story::Rows(&INSTANCES));
+    all_go(&rt, fault, "the answers, one after another, in pieces of");
 }
 
 const NO_PATH: &str =
@@ -135,24 +131,15 @@ const GET_ALONE: &str =
     "HTTP/1.1 405 Method Not Allowed\r\nContent-Type: application/problem+json\r\nContent-Length: 94\r\nAllow: GET\r\n\r\n{\"detail\":\"method not allowed\",\"status\":405,\"title\":\"Method Not Allowed\",\"type\":\"about:blank\"}";
 
 /// A part that is no name, and a method that the paths have not.
-const NOWHERE: [(&str, &str); 4] = [
+const NOWHERE: [Exchange; 4] = [
     ("GET /api/v1/dags/b/dagRuns/r/taskInstances/t~1", NO_PATH),
     ("GET /api/v1/dags/~/tasks", NO_PATH),
     ("GET /api/v1/dags/b/dagRuns/~/taskInstances", NO_PATH),
     ("DELETE /api/v1/dags/b/dagRuns/r/taskInstances/t", GET_ALONE),
 ];
 
-/// Whether this is told where nobody asks.
-fn is_told_to_nobody(alloc: Global, asked: &str, told: &str) -> Result<bool, Fail> {
-    let input = format!(in alloc; "{asked} HTTP/1.1\r\nHost: h\r\n\r\n")?;
-    is_told(alloc, input.as_bytes(), 4_096, told, Ended::Closed)
-}
-
 #[test]
-fn where_there_is_no_instance(rt: HostRuntime) -> Result<(), Fail> {
-    for (asked, told) in NOWHERE {
-        let is_told = is_told_to_nobody(rt.alloc(), asked, told)?;
-        holds(&rt, is_told, asked);
-    }
-    Ok(())
+fn where_there_is_no_instance(rt: HostRuntime) {
+    let fault = fault_alone(rt.alloc(), "", &NOWHERE, " HTTP/1.1\r\nHost: h\r\n\r\n");
+    all_go(&rt, fault, "where nobody asks");
 }

@@ -1,6 +1,6 @@
-use super::asserts::holds;
-use super::rows::{Row, rows_are_told};
-use std::test::Fail;
+use super::BASE;
+use super::asserts::all_go;
+use super::rows::{Row, Story, fault_in};
 
 /// Pages of DAGs, pools, variables and instances. What is no listing, and that of tasks, does not read the query.
 const OTHERS: [Row; 20] = [
@@ -167,8 +167,7 @@ const OTHERS: [Row; 20] = [
 ];
 
 #[test]
-fn pages_of_other_listings(rt: HostRuntime) -> Result<(), Fail> {
-    let are_told = rows_are_told(rt.alloc(), &OTHERS)?;
-    holds(&rt, are_told, "the answers, one after another");
-    Ok(())
+fn pages_of_other_listings(rt: HostRuntime) {
+    let fault = fault_in(rt.alloc(), BASE, Story::Rows(&OTHERS));
+    all_go(&rt, fault, "the answers, one after another, in pieces of");
 }

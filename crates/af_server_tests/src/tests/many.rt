@@ -1,9 +1,7 @@
-use super::asserts::row_holds;
-use super::configurations::{ADMIN, refused};
-use af_names::Instant;
-use af_server::{Configuration, Reason};
-use std::alloc::Global;
-use std::test::Fail;
+use super::asserts::{all_go, first_fault};
+use super::configurations::{ADMIN, Said, is_taken, refused};
+use af_server::Reason;
+use std::alloc::{AllocError, Global};
 
 /// Members with a list of many rows: what stands before the rows, the three parts of a row, with its number between them,
 /// what stands after the rows, how many rows there are, and why they are refused.
@@ -73,50 +71,42 @@ const MANY: [Many; 6] = [
 /// The number of the first row.
 const FIRST: u32 = 10_001;
 
-/// A row of that number.
-fn row(alloc: Global, parts: [&str; 3], number: u32) -> Result<String, Fail> {
+/// Adds a row of that number to a text.
+fn add_row(config: &mut String, parts: [&str; 3], number: u32) -> Result<(), AllocError> {
     let comma = if number == FIRST { "" } else { "," };
     let [first, second, third] = parts;
-    Ok(format!(in alloc; "{comma}{first}{number}{second}{number}{third}")?)
+    write!(config, "{comma}{first}{number}{second}{number}{third}")
 }
 
 /// Adds that many rows to a text.
-fn add_rows(alloc: Global, config: &mut String, parts: [&str; 3], count: u16) -> Result<(), Fail> {
+fn add_rows(config: &mut String, parts: [&str; 3], count: u16) -> Result<(), AllocError> {
     for number in FIRST..FIRST + u32::from(count) {
-        config.push_str(row(alloc, parts, number)?.as_str())?;
+        add_row(config, parts, number)?;
     }
     Ok(())
 }
 
-/// The configuration of an administrator and these rows.
-fn config_of(alloc: Global, many: Many) -> Result<String, Fail> {
-    let (before, parts, after, count, _) = many;
-    let mut config = format!(in alloc; "{{{ADMIN},{before}")?;
-    add_rows(alloc, &mut config, parts, count)?;
-    end(&mut config, after)?;
-    Ok(config)
-}
-
-/// Ends a configuration.
-fn end(config: &mut String, after: &str) -> Result<(), Fail> {
-    config.push_str(after)?;
-    config.push_str("}")?;
-    Ok(())
+/// Adds the configuration of an administrator and these rows.
+fn add_config(config: &mut String, many: &Many) -> Result<(), AllocError> {
+    let (before, parts, after, count, _) = *many;
+    write!(config, "{{{ADMIN},{before}")?;
+    add_rows(config, parts, count)?;
+    write!(config, "{after}}}")
 }
 
 /// Whether these rows are refused for their reason.
-fn is_refused(alloc: Global, many: Many) -> Result<bool, Fail> {
-    let config = config_of(alloc, many)?;
-    Ok(refused(alloc, config.as_str()) == many.4)
+fn is_refused(alloc: Global, many: &Many) -> Result<bool, AllocError> {
+    let mut config = String::new(alloc);
+    let added = add_config(&mut config, many);
+    let is_refused = refused(alloc, config.as_str()) == many.4;
+    drop(config);
+    added?;
+    Ok(is_refused)
 }
 
 #[test]
-fn many_rows(rt: HostRuntime) -> Result<(), Fail> {
-    for (row, many) in MANY.iter().enumerate() {
-        let is_refused = is_refused(rt.alloc(), *many)?;
-        row_holds(&rt, is_refused, row);
-    }
-    Ok(())
+fn many_rows(rt: HostRuntime) {
+    all_go(&rt, first_fault(rt.alloc(), &MANY, is_refused), "row");
 }
 
 /// A schedule, its start date, and the first point at or after it, if there is one.
@@ -151,40 +141,23 @@ const STARTS: [Start; 6] = [
     (r#""@monthly""#, "9998-12-31T00:00:00Z", None),
 ];
 
-/// The configuration of a paused DAG with this schedule.
-fn scheduled(alloc: Global, schedule: &str, start: &str) -> Result<Configuration, Fail> {
-    let config = format!(in alloc;
-        "{{{ADMIN},\"dags\":[{{\"dag_id\":\"a\",\"schedule\":{schedule},\"start_date\":\"{start}\",\"is_paused\":true,\"tasks\":[{{\"task_id\":\"t\"}}]}}]}}"
-    )?;
-    match Configuration::read(alloc, config.as_bytes()) {
-        Ok(read) => Ok(read),
-        Err(_) => Err(Fail::new("it is no configuration")),
-    }
-}
-
-/// Whether the cursor of the only DAG is at this instant.
-fn is_at(read: &Configuration, first: Option<&str>) -> Result<bool, Fail> {
-    let [row] = read.state.dags() else {
-        return Ok(false);
-    };
-    match first {
-        Some(text) => Ok(row.cursor == Some(Instant::read(text)?)),
-        None => Ok(row.cursor.is_none()),
-    }
-}
-
 /// Whether the cursor of a paused DAG with a row's schedule is at the row's first point.
-fn starts(alloc: Global, (schedule, start, first): Start) -> Result<bool, Fail> {
-    let read = scheduled(alloc, schedule, start)?;
-    is_at(&read, first)
+fn starts(alloc: Global, start: &Start) -> Result<bool, AllocError> {
+    let (schedule, start, first) = *start;
+    let parts = [
+        "{",
+        ADMIN,
+        r#","dags":[{"dag_id":"a","schedule":"#,
+        schedule,
+        r#","start_date":""#,
+        start,
+        r#"","is_paused":true,"tasks":[{"task_id":"t"}]}]}"#,
+    ];
+    is_taken(alloc, &parts, Said::Cursor(first))
 }
 
 /// The first point of each schedule at or after its start, of a paused DAG too.
 #[test]
-fn the_first_cursor(rt: HostRuntime) -> Result<(), Fail> {
-    for (row, start) in STARTS.iter().enumerate() {
-        let starts = starts(rt.alloc(), *start)?;
-        row_holds(&rt, starts, row);
-    }
-    Ok(())
+fn the_first_cursor(rt: HostRuntime) {
+    all_go(&rt, first_fault(rt.alloc(), &STARTS, starts), "row");
 }

@@ -1,6 +1,6 @@
-use super::asserts::number_holds;
-use super::{Exchange, are_told};
-use std::test::Fail;
+use super::BASE;
+use super::asserts::all_go;
+use super::rows::{Exchange, Story, fault_in_pieces};
 
 /// A run that is marked, in one connection: who may not mark it, bodies that say no state, what is not there, and then each state in
 /// turn. What stands already is no change, and is told with the count of changes as it was.
@@ -76,10 +76,7 @@ const MARKS: [Exchange; 17] = [
 ];
 
 #[test]
-fn a_run_is_marked(rt: HostRuntime) -> Result<(), Fail> {
-    for size in [1, 16, 4_096] {
-        let are_told = are_told(rt.alloc(), &MARKS, size)?;
-        number_holds(&rt, are_told, "in pieces of", size);
-    }
-    Ok(())
+fn a_run_is_marked(rt: HostRuntime) {
+    let fault = fault_in_pieces(rt.alloc(), BASE, Story::Exchanges(&MARKS), &[1, 16, 4_096]);
+    all_go(&rt, fault, "the answers, in pieces of");
 }

@@ -1,6 +1,6 @@
-use super::asserts::holds;
-use super::rows::{Row, rows_are_told};
-use std::test::Fail;
+use super::BASE;
+use super::asserts::all_go;
+use super::rows::{Row, Story, fault_in};
 
 /// Runs of two DAGs, and pages of them as those are told who read both or one. Numbers may be of any length; the first of a
 /// repeated parameter counts; names are decoded; a fault is told before an absent DAG, and after a denial.
@@ -200,8 +200,7 @@ const RUNS: [Row; 24] = [
 ];
 
 #[test]
-fn pages_of_runs(rt: HostRuntime) -> Result<(), Fail> {
-    let are_told = rows_are_told(rt.alloc(), &RUNS)?;
-    holds(&rt, are_told, "the answers, one after another");
-    Ok(())
+fn pages_of_runs(rt: HostRuntime) {
+    let fault = fault_in(rt.alloc(), BASE, Story::Rows(&RUNS));
+    all_go(&rt, fault, "the answers, one after another, in pieces of");
 }

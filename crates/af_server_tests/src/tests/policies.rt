@@ -1,8 +1,7 @@
 //! Roles and users, through whole connections: shown, listed, added, changed, deleted.
 use super::BASE;
-use super::asserts::holds;
-use super::rows::{Step, steps_are_told};
-use std::test::Fail;
+use super::asserts::all_go;
+use super::rows::{Step, Story, fault_in};
 
 /// What is told to whoever brings nobody's token.
 pub const NOBODY: &str =
@@ -69,10 +68,9 @@ const SHOWN: [Step; 7] = [
 ];
 
 #[test]
-fn roles_and_users_are_shown(rt: HostRuntime) -> Result<(), Fail> {
-    let are_told = steps_are_told(rt.alloc(), BASE, &SHOWN)?;
-    holds(&rt, are_told, "the answers, one after another");
-    Ok(())
+fn roles_and_users_are_shown(rt: HostRuntime) {
+    let fault = fault_in(rt.alloc(), BASE, Story::Steps(&SHOWN));
+    all_go(&rt, fault, "the answers, one after another, in pieces of");
 }
 
 /// A role and a user come, change and go; each change is a version, and what is refused is none.
@@ -160,8 +158,7 @@ const CHANGED: [Step; 10] = [
 ];
 
 #[test]
-fn roles_and_users_change(rt: HostRuntime) -> Result<(), Fail> {
-    let are_told = steps_are_told(rt.alloc(), BASE, &CHANGED)?;
-    holds(&rt, are_told, "the answers, one after another");
-    Ok(())
+fn roles_and_users_change(rt: HostRuntime) {
+    let fault = fault_in(rt.alloc(), BASE, Story::Steps(&CHANGED));
+    all_go(&rt, fault, "the answers, one after another, in pieces of");
 }

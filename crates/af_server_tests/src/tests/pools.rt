@@ -1,6 +1,6 @@
-use super::asserts::holds;
-use super::rows::{Row, rows_are_told};
-use std::test::Fail;
+use super::BASE;
+use super::asserts::all_go;
+use super::rows::{Row, Story, fault_in};
 
 /// Pools that are listed, added, shown, changed and deleted, in one connection, and what is refused. What stands already is no
 /// change.
@@ -144,8 +144,7 @@ const POOLS: [Row; 17] = [
 ];
 
 #[test]
-fn what_is_told_of_pools(rt: HostRuntime) -> Result<(), Fail> {
-    let are_told = rows_are_told(rt.alloc(), &POOLS)?;
-    holds(&rt, are_told, "the answers, one after another");
-    Ok(())
+fn what_is_told_of_pools(rt: HostRuntime) {
+    let fault = fault_in(rt.alloc(), BASE, Story::Rows(&POOLS));
+    all_go(&rt, fault, "the answers, one after another, in pieces of");
 }

@@ -2,20 +2,19 @@
 ghost use Rattle.std.specs.Prelude.{◌≡◌, []};
 ghost use Rattle.af_server.specs.declared.reason.Reason.{Reason};
 
-use super::asserts::row_holds;
-use super::calls::{asked, pieces};
-use super::{BASE, Pieces, blank_paper};
+use super::asserts::{all_go, first_fault};
+use super::consoles::{Act, does};
+use super::{BASE, Pieces};
 use af_http::Counted;
-use af_server::{Console, Files, Reason, open_fault, run};
-use std::alloc::Global;
+use af_server::{Files, Reason, open_fault};
+use std::alloc::{AllocError, Global};
 use std::io::{self, ErrorKind};
-use std::test::Fail;
 
 /// One file: its path, and what it holds.
 #[derive(Drop)]
-struct Shelf {
-    path: &'static str,
-    text: &'static str,
+pub struct Shelf {
+    pub path: &'static str,
+    pub text: &'static str,
 }
 
 impl Files for Shelf {
@@ -30,6 +29,7 @@ impl Files for Shelf {
             Ok(Counted::new(Pieces {
                 rest: self.text.as_bytes(),
                 size: 4_096,
+                fails: false,
             }))
         } else {
             Err(Reason::Unreadable)
@@ -91,38 +91,16 @@ const CALLS: [Call; 7] = [
     (BASE, &["afplane", "serve", "it", "0", "1"], 2, "", USAGE),
 ];
 
-/// The status of these words, and what is written and told.
-fn ran(alloc: Global, text: &'static str, words: &[&str]) -> Result<(u8, Vec<u8>, Vec<u8>), Fail> {
-    let files = Shelf { path: "it", text };
-    let command = asked(alloc, words)?;
-    let mut console = Console {
-        input: pieces(VERSION),
-        output: blank_paper(alloc),
-        errors: blank_paper(alloc),
-    };
-    let status = run(alloc, &files, command, &mut console);
-    let Console { output, errors, .. } = console;
-    Ok((status, output.into_inner().bytes, errors.into_inner().bytes))
-}
-
 /// Whether the words do as they should.
-fn is_done(alloc: Global, call: Call) -> Result<bool, Fail> {
-    let (text, words, status, written, told) = call;
-    let (said, output, errors) = ran(alloc, text, words)?;
-    Ok(
-        said == status
-            && output.as_slice() == written.as_bytes()
-            && errors.as_slice() == told.as_bytes(),
-    )
+fn is_done(alloc: Global, call: &Call) -> Result<bool, AllocError> {
+    let (text, words, status, written, told) = *call;
+    let told = (status, Some(written), told);
+    Ok(does(alloc, Act::Run(text, words), VERSION, told))
 }
 
 #[test]
-fn what_the_words_do(rt: HostRuntime) -> Result<(), Fail> {
-    for (row, call) in CALLS.iter().enumerate() {
-        let is_done = is_done(rt.alloc(), *call)?;
-        row_holds(&rt, is_done, row);
-    }
-    Ok(())
+fn what_the_words_do(rt: HostRuntime) {
+    all_go(&rt, first_fault(rt.alloc(), &CALLS, is_done), "row");
 }
 
 /// Why a file that the system does not open is refused.
@@ -132,12 +110,13 @@ const FAULTS: [(ErrorKind, Reason); 3] = [
     (ErrorKind::OutOfMemory, Reason::Memory),
 ];
 
+/// Whether a file that the system does not open is refused for this reason.
+fn is_told(_: Global, fault: &(ErrorKind, Reason)) -> Result<bool, AllocError> {
+    let error: io::Error = fault.0.into();
+    Ok(open_fault(&error) == fault.1)
+}
+
 #[test]
-fn why_a_file_is_not_opened(rt: HostRuntime) -> Result<(), Fail> {
-    for (row, (kind, reason)) in FAULTS.iter().enumerate() {
-        let error: io::Error = (*kind).into();
-        let is_told = open_fault(&error) == *reason;
-        row_holds(&rt, is_told, row);
-    }
-    Ok(())
+fn why_a_file_is_not_opened(rt: HostRuntime) {
+    all_go(&rt, first_fault(rt.alloc(), &FAULTS, is_told), "row");
 }

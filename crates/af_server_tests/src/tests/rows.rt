@@ -1,6 +1,11 @@
-use super::{BASE, is_told_under};
-use std::alloc::Global;
-use std::test::Fail;
+//! What goes on in connections: requests, one after another, and what is told of them.
+use super::asserts::Fault;
+use super::is_told;
+use af_http::Ended;
+use std::alloc::{AllocError, Global};
+
+/// A request, and what is told of it.
+pub type Exchange = (&'static str, &'static str);
 
 /// A method and a target, who asks (a token), and with which body; then the number of changes that is told, the end of the status
 /// line, and the body that is told. The policy is that of version 0.
@@ -23,36 +28,42 @@ pub type Step = (
     &'static str,
 );
 
+/// What goes on in one connection.
+#[derive(Clone, Copy)]
+pub enum Story {
+    /// Requests and answers as they are on the wire.
+    Exchanges(&'static [Exchange]),
+    /// Requests under the policy of version 0.
+    Rows(&'static [Row]),
+    /// Requests under policies of any version.
+    Steps(&'static [Step]),
+}
+
 /// The step that a row is.
 fn step_of(row: Row) -> Step {
     (row.0, row.1, row.2, (0, Some(row.3)), row.4, row.5)
 }
 
-/// What is asked in a step.
-fn asks(alloc: Global, step: Step) -> Result<String, Fail> {
+/// Adds what is asked in a step.
+fn add_asked(input: &mut String, step: Step) -> Result<(), AllocError> {
     let (asked, token, body, _, _, _) = step;
     let length = body.len();
-    Ok(format!(in alloc;
+    write!(
+        input,
         "{asked} HTTP/1.1\r\nHost: h\r\nAuthorization: Bearer {token}\r\nContent-Length: {length}\r\n\r\n{body}"
-    )?)
+    )
 }
 
-/// What is told of it.
-fn tells(alloc: Global, step: Step) -> Result<String, Fail> {
-    let (_, _, _, under, status, body) = step;
-    let content = content_fields(alloc, status, body.len())?;
-    let asking = token_field(status);
-    let under = under_fields(alloc, under)?;
-    Ok(format!(in alloc; "HTTP/1.1 {status}\r\n{content}{asking}{under}\r\n{body}")?)
-}
-
-/// The fields of a body of that many bytes; there are none with 204.
-fn content_fields(alloc: Global, status: &str, length: usize) -> Result<String, Fail> {
+/// Adds the status line, and the fields of a body of that many bytes; there are none with 204.
+fn add_head(told: &mut String, status: &str, length: usize) -> Result<(), AllocError> {
     if status == "204 No Content" {
-        return Ok(String::new(alloc));
+        return told.push_str("HTTP/1.1 204 No Content\r\n");
     }
     let kind = content_kind(status);
-    Ok(format!(in alloc; "Content-Type: application/{kind}\r\nContent-Length: {length}\r\n")?)
+    write!(
+        told,
+        "HTTP/1.1 {status}\r\nContent-Type: application/{kind}\r\nContent-Length: {length}\r\n"
+    )
 }
 
 fn content_kind(status: &str) -> &'static str {
@@ -72,52 +83,129 @@ fn token_field(status: &str) -> &'static str {
     }
 }
 
-/// The fields of the policy version, and of the number of changes.
-fn under_fields(alloc: Global, under: (u32, Option<u32>)) -> Result<String, Fail> {
+/// Adds the fields of the policy version, and of the number of changes.
+fn add_under(told: &mut String, under: (u32, Option<u32>)) -> Result<(), AllocError> {
     let version = under.0;
     match under.1 {
-        Some(seq) => Ok(format!(in alloc;
+        Some(seq) => write!(
+            told,
             "X-Policy-Version: {version}\r\nX-Plane-Seq: {seq}\r\n"
-        )?),
-        None => Ok(format!(in alloc; "X-Policy-Version: {version}\r\n")?),
+        ),
+        None => write!(told, "X-Policy-Version: {version}\r\n"),
     }
 }
 
-/// What is asked in steps, one after another.
-fn asks_all(alloc: Global, steps: &[Step]) -> Result<String, Fail> {
-    let mut input = String::new(alloc);
+/// Adds what is told of a step.
+fn add_told(told: &mut String, step: Step) -> Result<(), AllocError> {
+    let (_, _, _, under, status, body) = step;
+    add_head(told, status, body.len())?;
+    told.push_str(token_field(status))?;
+    add_under(told, under)?;
+    told.push_str("\r\n")?;
+    told.push_str(body)
+}
+
+fn add_step(input: &mut String, told: &mut String, step: Step) -> Result<(), AllocError> {
+    add_asked(input, step)?;
+    add_told(told, step)
+}
+
+fn add_steps(input: &mut String, told: &mut String, steps: &[Step]) -> Result<(), AllocError> {
     for step in steps {
-        input.push_str(asks(alloc, *step)?.as_str())?;
+        add_step(input, told, *step)?;
     }
-    Ok(input)
+    Ok(())
 }
 
-/// What is told of steps, one after another.
-fn tells_all(alloc: Global, steps: &[Step]) -> Result<String, Fail> {
-    let mut told = String::new(alloc);
-    for step in steps {
-        told.push_str(tells(alloc, *step)?.as_str())?;
-    }
-    Ok(told)
-}
-
-/// Whether the rows go as they should, in one connection.
-pub fn rows_are_told(alloc: Global, rows: &[Row]) -> Result<bool, Fail> {
-    rows_are_told_under(alloc, BASE, rows)
-}
-
-/// Whether the rows go as they should, in one connection under a configuration.
-pub fn rows_are_told_under(alloc: Global, config: &str, rows: &[Row]) -> Result<bool, Fail> {
-    let mut steps = Vec::with_capacity(alloc, rows.len())?;
+fn add_rows(input: &mut String, told: &mut String, rows: &[Row]) -> Result<(), AllocError> {
     for row in rows {
-        steps.push(step_of(*row))?;
+        add_step(input, told, step_of(*row))?;
     }
-    steps_are_told(alloc, config, steps.as_slice())
+    Ok(())
 }
 
-/// Whether the steps go as they should, in one connection under a configuration.
-pub fn steps_are_told(alloc: Global, config: &str, steps: &[Step]) -> Result<bool, Fail> {
-    let input = asks_all(alloc, steps)?;
-    let told = tells_all(alloc, steps)?;
-    is_told_under(alloc, config, input.as_str(), told.as_str())
+fn add_exchanges(
+    input: &mut String,
+    told: &mut String,
+    exchanges: &[Exchange],
+) -> Result<(), AllocError> {
+    for exchange in exchanges {
+        input.push_str(exchange.0)?;
+        told.push_str(exchange.1)?;
+    }
+    Ok(())
+}
+
+/// Adds what is asked in a story, and what is told of it.
+fn add_story(input: &mut String, told: &mut String, story: Story) -> Result<(), AllocError> {
+    match story {
+        Story::Exchanges(exchanges) => add_exchanges(input, told, exchanges),
+        Story::Rows(rows) => add_rows(input, told, rows),
+        Story::Steps(steps) => add_steps(input, told, steps),
+    }
+}
+
+/// The first of these sizes of pieces in which this is not what is told of an input under a configuration.
+fn first_size(
+    alloc: Global,
+    config: &str,
+    input: &str,
+    told: &str,
+    sizes: &[usize],
+) -> Option<usize> {
+    for size in sizes {
+        if !is_told(alloc, config, input.as_bytes(), *size, told, Ended::Closed) {
+            return Some(*size);
+        }
+    }
+    None
+}
+
+/// The first of these sizes of pieces in which a story does not go as it should, in one connection under a configuration.
+pub fn fault_in_pieces(alloc: Global, config: &str, story: Story, sizes: &[usize]) -> Fault {
+    let mut input = String::new(alloc);
+    let mut told = String::new(alloc);
+    let fault = match add_story(&mut input, &mut told, story) {
+        Ok(()) => Ok(first_size(alloc, config, input.as_str(), told.as_str(), sizes)),
+        Err(error) => Err(error),
+    };
+    drop(input);
+    drop(told);
+    fault
+}
+
+/// The same, in pieces of 4,096 bytes.
+pub fn fault_in(alloc: Global, config: &str, story: Story) -> Fault {
+    fault_in_pieces(alloc, config, story, &[4_096])
+}
+
+/// Whether this is told where it is asked alone, in a connection of its own.
+fn is_told_alone(alloc: Global, parts: &[&str], told: &str) -> Result<bool, AllocError> {
+    let input = parts.concat(alloc)?;
+    let is_told = is_told(
+        alloc,
+        super::BASE,
+        input.as_bytes(),
+        4_096,
+        told,
+        Ended::Closed,
+    );
+    drop(input);
+    Ok(is_told)
+}
+
+/// The number of the first of these exchanges, each in a connection of its own, that does not go as it should; what is asked stands
+/// between these two.
+pub fn fault_alone(
+    alloc: Global,
+    before: &'static str,
+    exchanges: &[Exchange],
+    after: &'static str,
+) -> Fault {
+    for (number, (asked, told)) in exchanges.iter().enumerate() {
+        if !is_told_alone(alloc, &[before, *asked, after], *told)? {
+            return Ok(Some(number));
+        }
+    }
+    Ok(None)
 }

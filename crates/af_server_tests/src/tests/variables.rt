@@ -1,13 +1,12 @@
-use super::asserts::holds;
-use super::configurations::{ADMIN, are_refused};
-use super::rows::{Row, rows_are_told};
-use af_server::{Configuration, Reason};
-use af_vars::Variable;
-use std::alloc::Global;
-use std::test::Fail;
+use super::BASE;
+use super::asserts::{all_go, first_fault};
+use super::configurations::{ADMIN, BESIDE, Refusal, Said, first_refusal, is_taken};
+use super::rows::{Row, Story, fault_in};
+use af_server::Reason;
+use std::alloc::{AllocError, Global};
 
 /// Lists of variables beside an administrator, and each fault of their rows.
-const LISTS: [(&str, Option<Reason>); 14] = [
+const LISTS: [Refusal; 14] = [
     (r#""variables":null"#, None),
     (r#""variables":[]"#, None),
     (
@@ -43,7 +42,7 @@ const LISTS: [(&str, Option<Reason>); 14] = [
 ];
 
 /// Limits.
-const LIMITS: [(&str, Option<Reason>); 14] = [
+const LIMITS: [Refusal; 14] = [
     (r#""history_limit":null,"version_limit":null"#, None),
     (r#""history_limit":1,"version_limit":1"#, None),
     (
@@ -70,75 +69,52 @@ const LIMITS: [(&str, Option<Reason>); 14] = [
 ];
 
 #[test]
-fn each_reason_of_a_variable_or_a_limit(rt: HostRuntime) -> Result<(), Fail> {
-    holds(&rt, are_refused(rt.alloc(), &LISTS)?, "variables");
-    holds(&rt, are_refused(rt.alloc(), &LIMITS)?, "limits");
-    Ok(())
+fn each_reason_of_a_variable_or_a_limit(rt: HostRuntime) {
+    let fault = first_refusal(rt.alloc(), BESIDE, &LISTS);
+    all_go(&rt, fault, "variables");
+    let fault = first_refusal(rt.alloc(), BESIDE, &LIMITS);
+    all_go(&rt, fault, "limits");
 }
 
-/// The configuration of an administrator and these members.
-fn read(alloc: Global, members: &str) -> Result<Configuration, Fail> {
-    let config = format!(in alloc; "{{{ADMIN}{members}}}")?;
-    match Configuration::read(alloc, config.as_bytes()) {
-        Ok(read) => Ok(read),
-        Err(_) => Err(Fail::new("it is no configuration")),
-    }
-}
+/// Members behind an administrator, and what is read of them.
+type Members = (&'static str, Said);
 
-/// Whether the variables that are read are these.
-fn has_variables(alloc: Global, members: &str, wanted: &[(&str, &str)]) -> Result<bool, Fail> {
-    let read = read(alloc, members)?;
-    Ok(are_variables(read.state.variables(), wanted))
-}
+/// Variables that are listed, and none that is.
+const BY_KEY: [Members; 2] = [
+    (
+        r#","variables":[{"key":"b","value":"1"},{"key":"B","value":""},{"key":"a","value":"\u00e9"}]"#,
+        Said::Variables(&[("B", ""), ("a", "\u{e9}"), ("b", "1")]),
+    ),
+    ("", Said::Variables(&[])),
+];
 
-fn are_variables(rows: &[Variable], wanted: &[(&str, &str)]) -> bool {
-    for (row, want) in rows.iter().zip(wanted) {
-        if !is_variable(row, *want) {
-            return false;
-        }
-    }
-    rows.len() == wanted.len()
-}
-
-fn is_variable(row: &Variable, wanted: (&str, &str)) -> bool {
-    row.key.as_str() == wanted.0 && row.value.as_str() == wanted.1
+/// Whether members are taken, and say this.
+fn are_taken(alloc: Global, members: &Members) -> Result<bool, AllocError> {
+    is_taken(alloc, &["{", ADMIN, members.0, "}"], members.1)
 }
 
 #[test]
-fn variables_go_by_key(rt: HostRuntime) -> Result<(), Fail> {
-    let members =
-        r#","variables":[{"key":"b","value":"1"},{"key":"B","value":""},{"key":"a","value":"\u00e9"}]"#;
-    let wanted = [("B", ""), ("a", "\u{e9}"), ("b", "1")];
-    let has_listed = has_variables(rt.alloc(), members, &wanted)?;
-    holds(&rt, has_listed, "those that are listed");
-    holds(&rt, has_variables(rt.alloc(), "", &[])?, "none is listed");
-    Ok(())
+fn variables_go_by_key(rt: HostRuntime) {
+    let fault = first_fault(rt.alloc(), &BY_KEY, are_taken);
+    all_go(&rt, fault, "those that are listed, and none");
 }
 
 /// Members, and the limits of entries and of versions that are read.
-const READ: [(&str, u32, u32); 3] = [
-    ("", 1_000_000, 4_294_967_295),
+const READ: [Members; 3] = [
+    ("", Said::Limits(1_000_000, 4_294_967_295)),
     (
         r#","history_limit":4294967294"#,
-        4_294_967_294,
-        4_294_967_295,
+        Said::Limits(4_294_967_294, 4_294_967_295),
     ),
-    (r#","version_limit":2,"history_limit":3"#, 3, 2),
+    (
+        r#","version_limit":2,"history_limit":3"#,
+        Said::Limits(3, 2),
+    ),
 ];
 
-/// Whether the limits that are read are these.
-fn has_limits(alloc: Global, members: &str, history: u32, versions: u32) -> Result<bool, Fail> {
-    let read = read(alloc, members)?;
-    Ok(read.limits.history == history && read.limits.versions == versions)
-}
-
 #[test]
-fn limits_are_kept(rt: HostRuntime) -> Result<(), Fail> {
-    for (members, history, versions) in READ {
-        let has_limits = has_limits(rt.alloc(), members, history, versions)?;
-        holds(&rt, has_limits, members);
-    }
-    Ok(())
+fn limits_are_kept(rt: HostRuntime) {
+    all_go(&rt, first_fault(rt.alloc(), &READ, are_taken), "limits");
 }
 
 /// Variables that are listed, added, shown, changed and deleted, in one connection, and what is refused. What stands already is no
@@ -283,8 +259,7 @@ const VARIABLES: [Row; 17] = [
 ];
 
 #[test]
-fn what_is_told_of_variables(rt: HostRuntime) -> Result<(), Fail> {
-    let are_told = rows_are_told(rt.alloc(), &VARIABLES)?;
-    holds(&rt, are_told, "the answers, one after another");
-    Ok(())
+fn what_is_told_of_variables(rt: HostRuntime) {
+    let fault = fault_in(rt.alloc(), BASE, Story::Rows(&VARIABLES));
+    all_go(&rt, fault, "the answers, one after another, in pieces of");
 }

@@ -1,9 +1,8 @@
-use super::asserts::{holds, row_holds};
-use super::calls::{asked, pieces};
-use super::{BASE, blank_paper};
-use af_server::{Command, run_verify};
-use std::alloc::Global;
-use std::test::Fail;
+use super::BASE;
+use super::asserts::{all_go, first_fault};
+use super::calls::{Asked, asks};
+use super::consoles::{Act, does};
+use std::alloc::{AllocError, Global};
 
 /// The sample configuration's world of one session: who may read no DAG looks, and asks for them.
 const DENIED: &str =
@@ -25,48 +24,37 @@ const TOLD: [Told; 6] = [
     ("{", "", 3, "", "afplane: configuration refused: syntax\n"),
 ];
 
+/// Where the trace is.
+const PATHS: [&str; 3] = ["trace.json", "", "2024-01-01T00:00:00Z"];
+
 /// Whether the words ask whether the trace at this path agrees.
-fn asks_verify(alloc: Global, path: &str) -> Result<bool, Fail> {
-    match asked(alloc, &["afplane", "verify", path])? {
-        Command::Verify { trace } => Ok(trace.as_str() == path),
-        Command::Once { .. } | Command::Usage => Ok(false),
-    }
+fn asks_verify(alloc: Global, path: &&'static str) -> Result<bool, AllocError> {
+    asks(alloc, &["afplane", "verify", *path], Asked::Verify(*path))
 }
 
 #[test]
-fn the_words_that_ask_for_a_check(rt: HostRuntime) -> Result<(), Fail> {
-    for path in ["trace.json", "", "2024-01-01T00:00:00Z"] {
-        let asks_verify = asks_verify(rt.alloc(), path)?;
-        holds(&rt, asks_verify, path);
-    }
-    Ok(())
-}
-
-/// The status of a check of this trace, and what is printed and told.
-fn checked(alloc: Global, trace: &str) -> (u8, Vec<u8>, Vec<u8>) {
-    let mut output = blank_paper(alloc);
-    let mut errors = blank_paper(alloc);
-    let status = run_verify(alloc, &mut pieces(trace), &mut output, &mut errors);
-    (status, output.into_inner().bytes, errors.into_inner().bytes)
+fn the_words_that_ask_for_a_check(rt: HostRuntime) {
+    all_go(&rt, first_fault(rt.alloc(), &PATHS, asks_verify), "path");
 }
 
 /// Whether a trace is told of as it should.
-fn is_told(alloc: Global, told: Told) -> Result<bool, Fail> {
-    let (config, steps, status, printed, refused) = told;
-    let trace = format!(in alloc; "{{\"config\":{config},\"sessions\":1,\"steps\":[{steps}]}}")?;
-    let (said, output, errors) = checked(alloc, trace.as_str());
-    Ok(
-        said == status
-            && output.as_slice() == printed.as_bytes()
-            && errors.as_slice() == refused.as_bytes(),
-    )
+fn is_told(alloc: Global, told: &Told) -> Result<bool, AllocError> {
+    let (config, steps, status, printed, refused) = *told;
+    let trace = [
+        "{\"config\":",
+        config,
+        ",\"sessions\":1,\"steps\":[",
+        steps,
+        "]}",
+    ]
+    .concat(alloc)?;
+    let wanted = (status, Some(printed), refused);
+    let is_told = does(alloc, Act::Verify(trace.as_str()), "", wanted);
+    drop(trace);
+    Ok(is_told)
 }
 
 #[test]
-fn what_is_told_of_traces(rt: HostRuntime) -> Result<(), Fail> {
-    for (row, told) in TOLD.iter().enumerate() {
-        let is_told = is_told(rt.alloc(), *told)?;
-        row_holds(&rt, is_told, row);
-    }
-    Ok(())
+fn what_is_told_of_traces(rt: HostRuntime) {
+    all_go(&rt, first_fault(rt.alloc(), &TOLD, is_told), "row");
 }

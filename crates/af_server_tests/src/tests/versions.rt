@@ -1,9 +1,8 @@
 //! Syncs of DAGs, what each version of the policy grants, and how many there may be, through whole connections.
 use super::BASE;
-use super::asserts::holds;
+use super::asserts::all_go;
 use super::policies::NOBODY;
-use super::rows::{Step, steps_are_told};
-use std::test::Fail;
+use super::rows::{Step, Story, fault_in};
 
 /// Access control that is absent leaves all as it is, and is a version; `{}` takes what roles have on that DAG alone; and what is
 /// decided on the state is decided under the latest version.
@@ -75,10 +74,9 @@ const SYNCED: [Step; 8] = [
 ];
 
 #[test]
-fn a_dag_is_synced(rt: HostRuntime) -> Result<(), Fail> {
-    let are_told = steps_are_told(rt.alloc(), BASE, &SYNCED)?;
-    holds(&rt, are_told, "the answers, one after another");
-    Ok(())
+fn a_dag_is_synced(rt: HostRuntime) {
+    let fault = fault_in(rt.alloc(), BASE, Story::Steps(&SYNCED));
+    all_go(&rt, fault, "the answers, one after another, in pieces of");
 }
 
 /// A user whose role is taken away is denied by the next request, and an entry that is made then names the version; a user who is
@@ -143,10 +141,9 @@ const TAKEN: [Step; 7] = [
 ];
 
 #[test]
-fn what_is_taken_is_denied_next(rt: HostRuntime) -> Result<(), Fail> {
-    let are_told = steps_are_told(rt.alloc(), BASE, &TAKEN)?;
-    holds(&rt, are_told, "the answers, one after another");
-    Ok(())
+fn what_is_taken_is_denied_next(rt: HostRuntime) {
+    let fault = fault_in(rt.alloc(), BASE, Story::Steps(&TAKEN));
+    all_go(&rt, fault, "the answers, one after another, in pieces of");
 }
 
 /// A configuration that lets the policy have versions up to 2.
@@ -201,8 +198,7 @@ const LIMITED: [Step; 5] = [
 ];
 
 #[test]
-fn versions_end(rt: HostRuntime) -> Result<(), Fail> {
-    let are_told = steps_are_told(rt.alloc(), TWO, &LIMITED)?;
-    holds(&rt, are_told, "the answers, one after another");
-    Ok(())
+fn versions_end(rt: HostRuntime) {
+    let fault = fault_in(rt.alloc(), TWO, Story::Steps(&LIMITED));
+    all_go(&rt, fault, "the answers, one after another, in pieces of");
 }

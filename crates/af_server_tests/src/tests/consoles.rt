@@ -1,0 +1,90 @@
+//! What the program does at a console: what it prints, and what it tells on standard error.
+use super::calls::command_of;
+use super::programs::Shelf;
+use super::{Pieces, in_pieces, now};
+use af_http::Counted;
+use af_server::{Console, Reason, ended, run, run_once, run_verify, usage};
+use std::alloc::Global;
+
+/// What the program is to do.
+#[derive(Clone, Copy)]
+pub enum Act<'a> {
+    /// One connection under the configuration that a file holds.
+    Once(&'a str),
+    /// What words say, where there is one file, which holds this.
+    Run(&'static str, &'a [&'a str]),
+    /// Whether the trace that a file holds agrees.
+    Verify(&'a str),
+    /// That a configuration is refused for this reason.
+    End(Reason),
+    /// How it is called.
+    Usage,
+}
+
+/// The status, what is printed, or none for anything but nothing, and what is told on standard error.
+pub type Told<'a> = (u8, Option<&'static str>, &'a str);
+
+/// Where the program reads, prints and tells.
+type Desk<'a> = Console<Counted<Pieces<'a>>, Counted<&'a mut Vec<u8>>, Counted<&'a mut Vec<u8>>>;
+
+/// These bytes, of which a read gives 4,096 at most.
+fn file(text: &str) -> Counted<Pieces<'_>> {
+    in_pieces(text.as_bytes(), 4_096)
+}
+
+/// What words say, where there is one file, which holds this.
+fn run_words(alloc: Global, text: &'static str, words: &[&str], desk: &mut Desk<'_>) -> Option<u8> {
+    let command = command_of(alloc, words).ok()?;
+    Some(run(alloc, &Shelf { path: "it", text }, command, desk))
+}
+
+/// The status of what is done, or none where there is no memory.
+fn status_of(alloc: Global, what: Act<'_>, desk: &mut Desk<'_>) -> Option<u8> {
+    match what {
+        Act::Once(config) => Some(run_once(alloc, &mut file(config), now()?, desk)),
+        Act::Run(text, words) => run_words(alloc, text, words, desk),
+        Act::Verify(trace) => Some(run_verify(
+            alloc,
+            &mut file(trace),
+            &mut desk.output,
+            &mut desk.errors,
+        )),
+        Act::End(reason) => Some(ended(&mut desk.errors, Err(reason))),
+        Act::Usage => Some(usage(&mut desk.errors)),
+    }
+}
+
+/// The same with this input, where this is written.
+fn done(
+    alloc: Global,
+    what: Act<'_>,
+    input: &str,
+    output: &mut Vec<u8>,
+    errors: &mut Vec<u8>,
+) -> Option<u8> {
+    let mut desk = Console {
+        input: file(input),
+        output: Counted::new(output),
+        errors: Counted::new(errors),
+    };
+    status_of(alloc, what, &mut desk)
+}
+
+fn is_told(status: Option<u8>, output: &[u8], errors: &[u8], told: Told<'_>) -> bool {
+    let is_printed = match told.1 {
+        Some(text) => output == text.as_bytes(),
+        None => !output.is_empty(),
+    };
+    status == Some(told.0) && is_printed && errors == told.2.as_bytes()
+}
+
+/// Whether what the program does with this input is told of so.
+pub fn does(alloc: Global, what: Act<'_>, input: &str, told: Told<'_>) -> bool {
+    let mut output = Vec::new(alloc);
+    let mut errors = Vec::new(alloc);
+    let status = done(alloc, what, input, &mut output, &mut errors);
+    let is_told = is_told(status, output.as_slice(), errors.as_slice(), told);
+    drop(output);
+    drop(errors);
+    is_told
+}
