@@ -1,9 +1,8 @@
 //! Forms of steps and of answers: what is taken, though it does not fit; and what makes that a trace is refused.
-use super::asserts::all_go;
+use super::asserts::{all_go, first_fault};
 use super::writing::told;
 use af_server::Reason;
-use std::alloc::Global;
-use std::test::Fail;
+use std::alloc::{AllocError, Global};
 
 /// Steps that do not fit give no answer; other members are ignored, and null counts as absent.
 const TAKEN: [&str; 9] = [
@@ -18,21 +17,14 @@ const TAKEN: [&str; 9] = [
     r#"[{"claim":"9998-12-31T23:59:59.999999Z"},{"status":200,"version":0,"seq":0,"body":"none"}]"#,
 ];
 
-/// The number of the first of these that does not agree.
-fn first_not_taken(alloc: Global) -> Result<Option<usize>, Fail> {
-    for (number, step) in TAKEN.iter().enumerate() {
-        if told(alloc, "", *step)? != Ok(true) {
-            return Ok(Some(number));
-        }
-    }
-    Ok(None)
+fn is_taken(alloc: Global, step: &&str) -> Result<bool, AllocError> {
+    Ok(told(alloc, "", "", *step)? == Ok(true))
 }
 
 #[test]
-fn what_is_taken(rt: HostRuntime) -> Result<(), Fail> {
-    let fault = first_not_taken(rt.alloc())?;
+fn what_is_taken(rt: HostRuntime) {
+    let fault = first_fault(rt.alloc(), &TAKEN, is_taken);
     all_go(&rt, fault, "a step that is taken");
-    Ok(())
 }
 
 /// Steps, and answers, of no form of theirs.
@@ -104,27 +96,18 @@ const REFUSED: [&str; 58] = [
     r#"[{"look":0},{"status":200,"version":0,"seq":0,"body":{}}]"#,
 ];
 
-/// The number of the first of these that is not refused as no trace, also behind a step whose answer is another.
-fn first_not_refused(alloc: Global) -> Result<Option<usize>, Fail> {
-    for (number, step) in REFUSED.iter().enumerate() {
-        if !is_refused(alloc, *step)? {
-            return Ok(Some(number));
-        }
-    }
-    Ok(None)
-}
+/// A step whose answer is another, before others.
+const OTHER: &str = r#"[{"look":0},{"status":999,"body":""}],"#;
 
-fn is_refused(alloc: Global, step: &str) -> Result<bool, Fail> {
-    let behind = format!(in alloc; "[{{\"look\":0}},{{\"status\":999,\"body\":\"\"}}],{step}")?;
-    Ok(
-        told(alloc, "", step)? == Err(Reason::Trace)
-            && told(alloc, "", behind.as_str())? == Err(Reason::Trace),
-    )
+/// Whether a step is refused as no trace, also behind a step whose answer is another.
+fn is_refused(alloc: Global, step: &&str) -> Result<bool, AllocError> {
+    let alone = told(alloc, "", "", *step)?;
+    let behind = told(alloc, "", OTHER, *step)?;
+    Ok(alone == Err(Reason::Trace) && behind == Err(Reason::Trace))
 }
 
 #[test]
-fn what_is_of_no_form(rt: HostRuntime) -> Result<(), Fail> {
-    let fault = first_not_refused(rt.alloc())?;
+fn what_is_of_no_form(rt: HostRuntime) {
+    let fault = first_fault(rt.alloc(), &REFUSED, is_refused);
     all_go(&rt, fault, "a step of no form");
-    Ok(())
 }

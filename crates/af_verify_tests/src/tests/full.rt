@@ -1,8 +1,7 @@
 //! Histories that are full: an operation, a tick, a claim and a report each find no room.
-use super::asserts::all_go;
-use super::writing::{joined, told};
-use std::alloc::Global;
-use std::test::Fail;
+use super::asserts::{all_go, first_fault};
+use super::writing::told_of_steps;
+use std::alloc::{AllocError, Global};
 
 const TRIGGERED: &str =
     r#"[{"act":0,"token":"admin","method":"POST","target":"/api/v1/dags/b/dagRuns","body":"{\"dag_run_id\":\"r\",\"logical_date\":\"2024-01-01T00:00:00Z\"}","now":"2024-01-01T00:00:00Z"},{"status":200,"version":0,"seq":1,"body":"{\"dag_id\":\"b\",\"dag_run_id\":\"r\",\"data_interval_end\":\"2024-01-01T00:00:00+00:00\",\"data_interval_start\":\"2024-01-01T00:00:00+00:00\",\"end_date\":null,\"logical_date\":\"2024-01-01T00:00:00+00:00\",\"run_type\":\"manual\",\"start_date\":null,\"state\":\"queued\"}"}]"#;
@@ -14,7 +13,9 @@ const CLAIMED: &str =
     r#"[{"claim":"2024-01-01T00:00:00Z"},{"status":200,"version":0,"seq":3,"body":"1 t 1"}]"#;
 
 /// How many entries there may be, as members of a configuration; the steps before; and the step that finds no room.
-const FULL: [(&str, &[&str]); 5] = [
+type Row = (&'static str, &'static [&'static str]);
+
+const FULL: [Row; 5] = [
     (
         r#","history_limit":1"#,
         &[
@@ -60,20 +61,15 @@ const FULL: [(&str, &[&str]); 5] = [
     ),
 ];
 
-/// The number of the first of these that does not agree.
-fn first_that_differs(alloc: Global) -> Result<Option<usize>, Fail> {
-    for (number, (more, steps)) in FULL.iter().enumerate() {
-        let steps = joined(alloc, *steps, None)?;
-        if told(alloc, *more, steps.as_str())? != Ok(true) {
-            return Ok(Some(number));
-        }
-    }
-    Ok(None)
+fn agrees(alloc: Global, row: &Row) -> Result<bool, AllocError> {
+    Ok(told_of_steps(alloc, row.0, row.1)? == Ok(true))
 }
 
 #[test]
-fn what_finds_no_room(rt: HostRuntime) -> Result<(), Fail> {
-    let fault = first_that_differs(rt.alloc())?;
-    all_go(&rt, fault, "a full history");
-    Ok(())
+fn what_finds_no_room(rt: HostRuntime) {
+    all_go(
+        &rt,
+        first_fault(rt.alloc(), &FULL, agrees),
+        "a full history",
+    );
 }

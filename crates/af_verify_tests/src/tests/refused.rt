@@ -1,12 +1,14 @@
 //! Each reason for which the text of a trace is refused, in the order in which they are told; the steps aside.
-use super::asserts::{all_go, holds};
-use super::writing::MEMBERS;
+use super::asserts::{all_go, first_fault};
+use super::writing::{MEMBERS, told_of};
 use af_server::{LONGEST, Reason, verify};
-use std::alloc::Global;
-use std::test::Fail;
+use std::alloc::{AllocError, Global};
 
-/// A whole text, and what is told of it.
-const WHOLE: [(&str, Result<bool, Reason>); 12] = [
+/// A text, and what is told of it.
+type Row = (&'static str, Result<bool, Reason>);
+
+/// Whole texts.
+const WHOLE: [Row; 12] = [
     ("", Err(Reason::Syntax)),
     ("{", Err(Reason::Syntax)),
     (r#"{"config":{}} 1"#, Err(Reason::Syntax)),
@@ -29,7 +31,7 @@ const WHOLE: [(&str, Result<bool, Reason>); 12] = [
 ];
 
 /// What stands behind the configuration, and what is told of the whole.
-const BEHIND: [(&str, Result<bool, Reason>); 18] = [
+const BEHIND: [Row; 18] = [
     ("", Err(Reason::Trace)),
     (r#","sessions":1"#, Err(Reason::Trace)),
     (r#","steps":[]"#, Err(Reason::Trace)),
@@ -59,57 +61,45 @@ const BEHIND: [(&str, Result<bool, Reason>); 18] = [
     (r#","sessions":2,"steps":[[{"look":1},null]]"#, Ok(true)),
 ];
 
-/// The number of the first text of which another thing is told.
-fn first_of_whole(alloc: Global) -> Option<usize> {
-    for (number, (text, told)) in WHOLE.iter().enumerate() {
-        if verify(alloc, text.as_bytes()) != *told {
-            return Some(number);
-        }
-    }
-    None
+/// Whether this is told of a whole text.
+fn is_told(alloc: Global, row: &Row) -> Result<bool, AllocError> {
+    Ok(verify(alloc, row.0.as_bytes()) == row.1)
 }
 
 #[test]
-fn whole_texts(rt: HostRuntime) -> Result<(), Fail> {
-    let fault = first_of_whole(rt.alloc());
-    all_go(&rt, fault, "a whole text");
-    Ok(())
+fn whole_texts(rt: HostRuntime) {
+    all_go(
+        &rt,
+        first_fault(rt.alloc(), &WHOLE, is_told),
+        "a whole text",
+    );
 }
 
-/// What is told where this stands behind the configuration.
-fn told_of(alloc: Global, behind: &str) -> Result<Result<bool, Reason>, Fail> {
-    let text = format!(in alloc; "{{\"config\":{{{MEMBERS}}}{behind}}}")?;
-    Ok(verify(alloc, text.as_bytes()))
-}
-
-/// The number of the first of these of which another thing is told.
-fn first_of_behind(alloc: Global) -> Result<Option<usize>, Fail> {
-    for (number, (behind, told)) in BEHIND.iter().enumerate() {
-        if told_of(alloc, *behind)? != *told {
-            return Ok(Some(number));
-        }
-    }
-    Ok(None)
+/// Whether this is told where the text stands behind the configuration.
+fn is_told_behind(alloc: Global, row: &Row) -> Result<bool, AllocError> {
+    let parts = ["{\"config\":{", MEMBERS, "}", row.0, "}"];
+    Ok(told_of(alloc, &parts)? == row.1)
 }
 
 #[test]
-fn what_stands_behind_the_configuration(rt: HostRuntime) -> Result<(), Fail> {
-    let fault = first_of_behind(rt.alloc())?;
+fn what_stands_behind_the_configuration(rt: HostRuntime) {
+    let fault = first_fault(rt.alloc(), &BEHIND, is_told_behind);
     all_go(&rt, fault, "behind the configuration");
-    Ok(())
 }
 
-/// What is told of so many blanks.
-fn blanks(alloc: Global, count: usize) -> Result<Result<bool, Reason>, Fail> {
-    let text = vec![in alloc; b' '; count]?;
-    Ok(verify(alloc, text.as_slice()))
+/// So many blanks, and why they are refused: the longest text, and one that is longer.
+const BLANKS: [(usize, Reason); 2] = [(LONGEST, Reason::Syntax), (LONGEST + 1, Reason::Unreadable)];
+
+/// Whether so many blanks are refused for this reason.
+fn are_refused(alloc: Global, blanks: &(usize, Reason)) -> Result<bool, AllocError> {
+    let text = vec![in alloc; b' '; blanks.0]?;
+    let told = verify(alloc, text.as_slice());
+    drop(text);
+    Ok(told == Err(blanks.1))
 }
 
 #[test]
-fn a_trace_that_is_too_long(rt: HostRuntime) -> Result<(), Fail> {
-    let longest = blanks(rt.alloc(), LONGEST)?;
-    holds(&rt, longest == Err(Reason::Syntax), "the longest");
-    let longer = blanks(rt.alloc(), LONGEST + 1)?;
-    holds(&rt, longer == Err(Reason::Unreadable), "one that is longer");
-    Ok(())
+fn a_trace_that_is_too_long(rt: HostRuntime) {
+    let fault = first_fault(rt.alloc(), &BLANKS, are_refused);
+    all_go(&rt, fault, "the longest, and one that is longer");
 }

@@ -1,8 +1,7 @@
 //! Worked rows as traces under the sample configuration.
-use super::writing::joined;
-use af_server::verify;
-use std::alloc::Global;
-use std::test::Fail;
+use super::writing::told_of;
+use af_server::Reason;
+use std::alloc::{AllocError, Global};
 
 mod changes;
 mod moments;
@@ -33,21 +32,33 @@ const DAGS: &str = r#"
 /// More DAGs, and more members of the configuration; and the steps, each with its answer.
 type Row = (&'static str, &'static str, &'static [&'static str]);
 
-/// Whether the world of two sessions under the sample configuration, with more in it, gives these answers to these steps.
-fn agrees(alloc: Global, dags: &str, more: &str, steps: &[&str]) -> Result<bool, Fail> {
-    let steps = joined(alloc, steps, None)?;
-    let text = format!(in alloc;
-        "{{\"config\":{{{PEOPLE},\"dags\":[{DAGS}{dags}]{more}}},\"sessions\":2,\"steps\":[{steps}]}}"
-    )?;
-    Ok(verify(alloc, text.as_bytes()) == Ok(true))
+/// What is told of a trace of two sessions under the sample configuration, with more in it, with these steps.
+fn told<'a>(
+    alloc: Global,
+    dags: &'a str,
+    more: &'a str,
+    steps: &'a str,
+) -> Result<Result<bool, Reason>, AllocError> {
+    let parts = [
+        "{\"config\":{",
+        PEOPLE,
+        ",\"dags\":[",
+        DAGS,
+        dags,
+        "]",
+        more,
+        "},\"sessions\":2,\"steps\":[",
+        steps,
+        "]}",
+    ];
+    told_of(alloc, &parts)
 }
 
-/// The number of the first of these rows that does not agree.
-fn first_that_differs(alloc: Global, rows: &[Row]) -> Result<Option<usize>, Fail> {
-    for (number, (dags, more, steps)) in rows.iter().enumerate() {
-        if !agrees(alloc, *dags, *more, *steps)? {
-            return Ok(Some(number));
-        }
-    }
-    Ok(None)
+/// Whether the world of a row gives the answers to its steps.
+fn agrees(alloc: Global, row: &Row) -> Result<bool, AllocError> {
+    let (dags, more, steps) = *row;
+    let joined = steps.join(alloc, ",")?;
+    let told = told(alloc, dags, more, joined.as_str());
+    drop(joined);
+    Ok(told? == Ok(true))
 }

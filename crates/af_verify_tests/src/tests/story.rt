@@ -1,8 +1,7 @@
 //! A story with every kind of step, of two sessions, one of which loses a race.
-use super::asserts::{all_go, holds};
-use super::writing::{joined, told};
+use super::asserts::{Fault, all_go, holds};
+use super::writing::told_of_steps;
 use std::alloc::Global;
-use std::test::Fail;
 
 /// Each step, with its answer.
 pub const STORY: [&str; 26] = [
@@ -39,10 +38,9 @@ pub const STORY: [&str; 26] = [
 ];
 
 /// The number of the first front of the story that does not agree; there is one more front than there are steps.
-fn first_that_differs(alloc: Global) -> Result<Option<usize>, Fail> {
+fn first_that_differs(alloc: Global) -> Fault {
     for count in 0..STORY.len() + 1 {
-        let steps = joined(alloc, &STORY[..count], None)?;
-        if told(alloc, "", steps.as_str())? != Ok(true) {
+        if told_of_steps(alloc, "", &STORY[..count])? != Ok(true) {
             return Ok(Some(count));
         }
     }
@@ -50,21 +48,17 @@ fn first_that_differs(alloc: Global) -> Result<Option<usize>, Fail> {
 }
 
 #[test]
-fn each_front_of_the_story_agrees(rt: HostRuntime) -> Result<(), Fail> {
-    let fault = first_that_differs(rt.alloc())?;
-    all_go(&rt, fault, "so many steps agree");
-    Ok(())
+fn each_front_of_the_story_agrees(rt: HostRuntime) {
+    all_go(&rt, first_that_differs(rt.alloc()), "so many steps agree");
 }
 
-/// Whether the story without its first step, so that nobody holds the plane, differs.
-fn differs_without_a_look(alloc: Global) -> Result<bool, Fail> {
-    let steps = joined(alloc, &STORY[1..], None)?;
-    Ok(told(alloc, "", steps.as_str())? == Ok(false))
-}
-
+/// The story without its first step, so that nobody holds the plane.
 #[test]
-fn who_has_not_looked_is_not_answered(rt: HostRuntime) -> Result<(), Fail> {
-    let differs = differs_without_a_look(rt.alloc())?;
-    holds(&rt, differs, "the story without its first look");
-    Ok(())
+fn who_has_not_looked_is_not_answered(rt: HostRuntime) {
+    let told = told_of_steps(rt.alloc(), "", &STORY[1..]);
+    holds(
+        &rt,
+        told == Ok(Ok(false)),
+        "the story without its first look",
+    );
 }

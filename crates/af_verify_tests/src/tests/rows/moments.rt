@@ -1,7 +1,6 @@
 //! Ticks, claims and reports.
-use super::{Row, first_that_differs};
-use crate::tests::asserts::all_go;
-use std::test::Fail;
+use super::{Row, agrees};
+use crate::tests::asserts::{all_go, first_fault};
 
 const ROWS: [Row; 5] = [
     // A month that has ended is run.
@@ -94,8 +93,10 @@ const ROWS: [Row; 5] = [
 ];
 
 #[test]
-fn what_time_does(rt: HostRuntime) -> Result<(), Fail> {
-    let fault = first_that_differs(rt.alloc(), &ROWS)?;
-    all_go(&rt, fault, "a row of moments");
-    Ok(())
+fn what_time_does(rt: HostRuntime) {
+    all_go(
+        &rt,
+        first_fault(rt.alloc(), &ROWS, agrees),
+        "a row of moments",
+    );
 }

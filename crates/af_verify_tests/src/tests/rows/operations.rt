@@ -1,7 +1,6 @@
 //! What is asked of DAGs, runs, pools and variables.
-use super::{Row, first_that_differs};
-use crate::tests::asserts::all_go;
-use std::test::Fail;
+use super::{Row, agrees};
+use crate::tests::asserts::{all_go, first_fault};
 
 const ROWS: [Row; 6] = [
     // All DAGs are listed, or the one that the user reads; who reads none is told so, and who is nobody.
@@ -116,8 +115,10 @@ const ROWS: [Row; 6] = [
 ];
 
 #[test]
-fn what_is_asked_of_the_state(rt: HostRuntime) -> Result<(), Fail> {
-    let fault = first_that_differs(rt.alloc(), &ROWS)?;
-    all_go(&rt, fault, "a row of operations");
-    Ok(())
+fn what_is_asked_of_the_state(rt: HostRuntime) {
+    all_go(
+        &rt,
+        first_fault(rt.alloc(), &ROWS, agrees),
+        "a row of operations",
+    );
 }
