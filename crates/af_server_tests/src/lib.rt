@@ -1,4 +1,5 @@
-//! Whole connections under configurations, what the program says, and why configurations are refused.
+//! Whole connections under configurations, what the program says, why configurations are refused, and traces that agree, differ or
+//! are refused.
 #![tactic(auto)]
 
 #[cfg(test)]

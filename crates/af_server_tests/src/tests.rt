@@ -18,6 +18,7 @@ mod policies;
 mod pools;
 mod programs;
 mod rows;
+mod traces;
 mod variables;
 mod verifying;
 mod versions;

@@ -2,7 +2,7 @@
 use std::alloc::{AllocError, Global};
 use std::process::Abort;
 
-/// The number of the first of some rows that does not go as it says, or none.
+/// The number of the first row or front, or the size or length, that does not go as it says, or none.
 pub type Fault = Result<Option<usize>, AllocError>;
 
 /// Ends the test where this does not hold.

@@ -6,11 +6,13 @@ use af_http::Counted;
 use af_server::{Command, Reason, read_whole};
 use std::alloc::{AllocError, Global};
 
+/// Adds a word to those of a call.
 fn add_word(alloc: Global, all: &mut Vec<String>, word: &str) -> Result<(), AllocError> {
     let word = String::from_str(alloc, word)?;
     Ok(all.push(word)?)
 }
 
+/// Adds words to those of a call.
 fn add_words(alloc: Global, all: &mut Vec<String>, words: &[&str]) -> Result<(), AllocError> {
     for word in words {
         add_word(alloc, all, *word)?;
@@ -38,6 +40,7 @@ pub enum Asked {
     Usage,
 }
 
+/// Whether a command is what is asked for.
 fn is_asked(command: &Command, asked: Asked) -> bool {
     match command {
         Command::Once { config, .. } => match asked {
@@ -84,7 +87,12 @@ const WRONG: [&[&str]; 10] = [
 ];
 
 /// Words that ask for one connection.
-const ONCE: [&str; 4] = ["afplane", "once", "base.json", "2024-01-01T00:00:00Z"];
+const ONCE: [&[&str]; 1] = [&["afplane", "once", "base.json", "2024-01-01T00:00:00Z"]];
+
+/// Whether the words ask for one connection.
+fn asks_once(alloc: Global, words: &&[&str]) -> Result<bool, AllocError> {
+    asks(alloc, *words, Asked::Once("base.json"))
+}
 
 /// Whether the words ask for how the program is called.
 fn asks_usage(alloc: Global, words: &&[&str]) -> Result<bool, AllocError> {
@@ -93,8 +101,8 @@ fn asks_usage(alloc: Global, words: &&[&str]) -> Result<bool, AllocError> {
 
 #[test]
 fn the_words_of_the_program(rt: HostRuntime) {
-    let asks_once = asks(rt.alloc(), &ONCE, Asked::Once("base.json"));
-    holds(&rt, asks_once == Ok(true), "one connection");
+    let once = first_fault(rt.alloc(), &ONCE, asks_once);
+    all_go(&rt, once, "one connection");
     all_go(&rt, first_fault(rt.alloc(), &WRONG, asks_usage), "row");
 }
 

@@ -34,6 +34,7 @@ fn are_variables(rows: &[Variable], said: &[(&str, &str)]) -> bool {
     rows.len() == said.len()
 }
 
+/// Whether the one DAG of a configuration begins at this moment, or at none.
 fn is_at(read: &Configuration, first: Option<&str>) -> bool {
     let [row] = read.state.dags() else {
         return false;
@@ -44,6 +45,7 @@ fn is_at(read: &Configuration, first: Option<&str>) -> bool {
     }
 }
 
+/// Whether a configuration says this.
 fn is_said(read: &Configuration, said: Said) -> bool {
     match said {
         Said::Anything => true,

@@ -32,13 +32,13 @@ fn file(text: &str) -> Counted<Pieces<'_>> {
     in_pieces(text.as_bytes(), 4_096)
 }
 
-/// What words say, where there is one file, which holds this.
+/// The status of what words say, where there is one file, which holds this; none where there is no memory.
 fn run_words(alloc: Global, text: &'static str, words: &[&str], desk: &mut Desk<'_>) -> Option<u8> {
     let command = command_of(alloc, words).ok()?;
     Some(run(alloc, &Shelf { path: "it", text }, command, desk))
 }
 
-/// The status of what is done, or none where there is no memory.
+/// The status of what is done, or none where there is no memory or no moment.
 fn status_of(alloc: Global, what: Act<'_>, desk: &mut Desk<'_>) -> Option<u8> {
     match what {
         Act::Once(config) => Some(run_once(alloc, &mut file(config), now()?, desk)),
@@ -70,6 +70,7 @@ fn done(
     status_of(alloc, what, &mut desk)
 }
 
+/// Whether this status, what is printed and what is told on standard error are those wanted.
 fn is_told(status: Option<u8>, output: &[u8], errors: &[u8], told: Told<'_>) -> bool {
     let is_printed = match told.1 {
         Some(text) => output == text.as_bytes(),

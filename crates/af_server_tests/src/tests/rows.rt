@@ -105,11 +105,13 @@ fn add_told(told: &mut String, step: Step) -> Result<(), AllocError> {
     told.push_str(body)
 }
 
+/// Writes a step: what is asked, and what is told.
 fn add_step(input: &mut String, told: &mut String, step: Step) -> Result<(), AllocError> {
     add_asked(input, step)?;
     add_told(told, step)
 }
 
+/// Writes steps, one after another.
 fn add_steps(input: &mut String, told: &mut String, steps: &[Step]) -> Result<(), AllocError> {
     for step in steps {
         add_step(input, told, *step)?;
@@ -117,6 +119,7 @@ fn add_steps(input: &mut String, told: &mut String, steps: &[Step]) -> Result<()
     Ok(())
 }
 
+/// Writes rows, one after another.
 fn add_rows(input: &mut String, told: &mut String, rows: &[Row]) -> Result<(), AllocError> {
     for row in rows {
         add_step(input, told, step_of(*row))?;
@@ -124,6 +127,7 @@ fn add_rows(input: &mut String, told: &mut String, rows: &[Row]) -> Result<(), A
     Ok(())
 }
 
+/// Writes exchanges, one after another, as they stand.
 fn add_exchanges(
     input: &mut String,
     told: &mut String,

@@ -1,6 +1,6 @@
 //! Histories that are full: an operation, a tick, a claim and a report each find no room.
-use super::asserts::{all_go, first_fault};
 use super::writing::told_of_steps;
+use crate::tests::asserts::{all_go, first_fault};
 use std::alloc::{AllocError, Global};
 
 const TRIGGERED: &str =
@@ -61,6 +61,7 @@ const FULL: [Row; 5] = [
     ),
 ];
 
+/// Whether the steps of a row agree.
 fn agrees(alloc: Global, row: &Row) -> Result<bool, AllocError> {
     Ok(told_of_steps(alloc, row.0, row.1)? == Ok(true))
 }

@@ -1,8 +1,8 @@
 //! The story, of which one thing is changed: a number, a status, a byte of a body, an answer that is left out or stands where there is
 //! none, or what was asked.
-use super::asserts::{all_go, first_fault};
 use super::story::STORY;
 use super::writing::told;
+use crate::tests::asserts::{all_go, first_fault};
 use std::alloc::{AllocError, Global};
 
 /// The number of a step, and what stands in its place.

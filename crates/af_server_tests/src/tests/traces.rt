@@ -1,5 +1,8 @@
 //! Traces that agree, traces of which one thing is changed, and each reason for which a trace is refused.
-#![tactic(auto)]
-
-#[cfg(test)]
-mod tests;
+mod changed;
+mod forms;
+mod full;
+mod refused;
+mod rows;
+mod story;
+mod writing;

@@ -1,6 +1,6 @@
 //! Forms of steps and of answers: what is taken, though it does not fit; and what makes that a trace is refused.
-use super::asserts::{all_go, first_fault};
 use super::writing::told;
+use crate::tests::asserts::{all_go, first_fault};
 use af_server::Reason;
 use std::alloc::{AllocError, Global};
 
@@ -17,6 +17,7 @@ const TAKEN: [&str; 9] = [
     r#"[{"claim":"9998-12-31T23:59:59.999999Z"},{"status":200,"version":0,"seq":0,"body":"none"}]"#,
 ];
 
+/// Whether a trace of this step, under the sample configuration, agrees.
 fn is_taken(alloc: Global, step: &&str) -> Result<bool, AllocError> {
     Ok(told(alloc, "", "", *step)? == Ok(true))
 }

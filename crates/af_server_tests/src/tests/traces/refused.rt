@@ -1,6 +1,6 @@
 //! Each reason for which the text of a trace is refused, in the order in which they are told; the steps aside.
-use super::asserts::{all_go, first_fault};
 use super::writing::{MEMBERS, told_of};
+use crate::tests::asserts::{all_go, first_fault};
 use af_server::{LONGEST, Reason, verify};
 use std::alloc::{AllocError, Global};
 
