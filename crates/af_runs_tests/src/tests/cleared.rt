@@ -81,6 +81,7 @@ fn are_busy(runs: &Runs) -> bool {
     busy.next().is_none()
 }
 
+/// Whether each run is after a clear what it should be, and there are four.
 fn are_all_after(before: &[Run], after: &[Run], wanted: &[(u64, usize)]) -> bool {
     for (run, after) in before.iter().zip(after) {
         if !is_after(run, after, wanted) {

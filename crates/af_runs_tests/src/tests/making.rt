@@ -1,5 +1,5 @@
-//! What the tests are made of. What should not fail is expected to succeed, with words for it: so no function has a way out
-//! before its end, at which what it owns would be dropped anew.
+//! What the tests are made of. What should not fail is expected to succeed, with words for it, or proved to: so no function has a
+//! way out before its end, at which what it owns would be dropped anew.
 use af_graph::TaskState;
 use af_names::{DagId, Instant, RunId};
 use af_runs::{Instance, Instances, Interval, NewRun, RunType, Runs};
@@ -73,6 +73,6 @@ pub fn new_run(rt: &impl Abort, alloc: Global, row: New<'_>) -> NewRun {
 pub fn add_runs(rt: &impl Abort, alloc: Global, runs: &mut Runs, rows: &[New<'_>]) {
     for row in rows {
         let new = new_run(rt, alloc, *row);
-        let _number = runs.add_run(new).expect(rt, row.1);
+        let _number = runs.add_run(new).expect(rt, "a run is added");
     }
 }

@@ -34,6 +34,7 @@ pub enum Which {
 }
 
 impl Plain {
+    /// Whether it is one of these.
     pub fn is(&self, which: Which) -> bool {
         match which {
             Which::Number(number) => self.number == number,
