@@ -12,7 +12,7 @@ mod tasks;
 mod texts;
 
 use af_runs::{RunFault, RunState, Runs};
-use asserts::holds;
+use asserts::{has_memory, holds};
 use making::{FAILED, New, UNTRIED, add_runs, ids, moment, new_run};
 use seen::{Row, has_rows, have_instances, is_dated, is_row, number_of};
 use std::alloc::Global;
@@ -26,6 +26,7 @@ fn are_told_of(rt: &impl Abort, alloc: Global, runs: &mut Runs, rows: &[Asked<'_
     for row in rows {
         let new = new_run(rt, alloc, (row.0, row.1, row.2));
         let told = runs.add_run(new);
+        has_memory(rt, told);
         holds(rt, told == row.3, row.4);
     }
 }
