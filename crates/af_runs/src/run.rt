@@ -19,13 +19,13 @@ pub(crate) use clearing::list_chosen;
 /// A run of a DAG, with its instances.
 #[derive(Drop)]
 pub struct Run {
-    // The number stands right after the id: a page of runs reads both, of half of the rows in one line of the cache.
-    /// Of the DAG's runs this one alone has this id.
-    pub run_id: RunId,
+    // What pages and look-ups read stands first and together, of three rows in four the number and the id in one line of the cache.
     /// From 1 on, in the order in which runs were added; no number is used again.
     pub number: u64,
     /// Of the DAG's runs this one alone has this logical date.
     pub logical_date: Instant,
+    /// Of the DAG's runs this one alone has this id.
+    pub run_id: RunId,
     pub dag_id: DagId,
     pub interval: Interval,
     pub run_type: RunType,
@@ -43,9 +43,9 @@ impl Run {
     {
         Run {
             number,
-            dag_id: new.dag_id,
-            run_id: new.run_id,
             logical_date: new.logical_date,
+            run_id: new.run_id,
+            dag_id: new.dag_id,
             interval: new.interval,
             run_type: new.run_type,
             state: RunState::Queued,
@@ -64,9 +64,9 @@ impl Run {
         let instances = self.instances.copied(alloc)?;
         Ok(Run {
             number: self.number,
-            dag_id,
-            run_id,
             logical_date: self.logical_date,
+            run_id,
+            dag_id,
             interval: self.interval,
             run_type: self.run_type,
             state: self.state,
