@@ -6,6 +6,7 @@ mod endpoints;
 mod faults;
 mod limits;
 mod messages;
+mod operations;
 mod paths;
 mod refusals;
 mod replies;

@@ -1,5 +1,6 @@
 mod adding;
 mod asserts;
+mod below;
 mod claims;
 mod clears;
 mod copies;

@@ -14,6 +14,7 @@ mod listings;
 mod many;
 mod marks;
 mod pages;
+mod plane;
 mod policies;
 mod pools;
 mod programs;

@@ -11,6 +11,11 @@ pub fn row_holds(rt: &impl Abort, holds: bool, row: usize) {
     assert!(rt; holds, "row {row}");
 }
 
+/// Ends the test where what is told of a row is not right.
+pub fn is_right(rt: &impl Abort, is_right: bool, what: &str, row: usize) {
+    assert!(rt; is_right, "{what}: row {row}");
+}
+
 /// Ends the test where a step does not go as it says, by its number.
 pub fn all_go(rt: &impl Abort, fault: Option<usize>, what: &str) {
     assert!(rt; fault.is_none(), "{what}: step {fault:?}");

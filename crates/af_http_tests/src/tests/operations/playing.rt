@@ -1,0 +1,218 @@
+//! Requests that a server answers, one after another: who owns the policy, or where the server stands, lends it to the function
+//! that plays them, and drops it by `drop`, which is proved once, and not at each way out.
+use super::calls::named;
+use super::rows::Ask;
+use super::scenes::{Scene, state};
+use super::users::policy;
+use super::{Row, now, text, token_of};
+use crate::tests::asserts::row_holds;
+use af_ops::{Endpoint, Op, Served, Shown, Standing, Status};
+use af_policy::Policy;
+use std::alloc::Global;
+use std::process::Abort;
+use std::test::Fail;
+
+/// Who asks for what, at which parts of the path and with which body.
+type Request = (&'static str, Endpoint, &'static str, &'static [u8]);
+
+/// What is told: the status, the body, and the number of entries.
+type Answer = (Status, &'static [u8], Option<u32>);
+
+/// Rows that are played before, the listing that is asked for then, bytes that are counted in it, and those that it ends with.
+pub type Listing = (&'static [Row], Row, &'static [u8], &'static [u8]);
+
+/// What is asked of a server, one after another.
+#[derive(Clone, Copy)]
+pub enum Story {
+    /// Requests about DAGs, runs and instances.
+    Rows(&'static [Row]),
+    /// Requests about pools and variables.
+    Asks(&'static [Ask]),
+    /// A listing, and what comes before it.
+    Lists(&'static Listing),
+}
+
+/// What is told of an operation. The empty name stands for nobody.
+fn answered(
+    alloc: Global,
+    policy: &Policy,
+    standing: &mut Standing,
+    who: &str,
+    op: &Op,
+) -> Result<Shown, Fail> {
+    let now = now()?;
+    match standing.answer(alloc, policy, token_of(who), op, now) {
+        Served::Shown(shown) => Ok(shown),
+        _ => Err(Fail::new("nothing is shown")),
+    }
+}
+
+/// What is told of a request.
+fn shown(
+    alloc: Global,
+    policy: &Policy,
+    standing: &mut Standing,
+    request: Request,
+) -> Result<Shown, Fail> {
+    let (who, endpoint, path, body) = request;
+    let op = named(alloc, endpoint, path, body)?;
+    let shown = answered(alloc, policy, standing, who, &op);
+    drop(op);
+    shown
+}
+
+/// Whether this answer is what is shown.
+fn is_told(shown: &Shown, answer: Answer) -> bool {
+    let (status, body, seq) = answer;
+    shown.status == status
+        && shown.seq == seq
+        && shown.version.is_some() == seq.is_some()
+        && text(shown) == body
+}
+
+/// Whether this is told of a request.
+fn goes(
+    alloc: Global,
+    policy: &Policy,
+    standing: &mut Standing,
+    request: Request,
+    answer: Answer,
+) -> Result<bool, Fail> {
+    let shown = shown(alloc, policy, standing, request)?;
+    let is_told = is_told(&shown, answer);
+    drop(shown);
+    Ok(is_told)
+}
+
+fn request_of_row(row: Row) -> Request {
+    (row.0, row.1, row.2, row.3)
+}
+
+fn answer_of_row(row: Row) -> Answer {
+    let (status, body) = row.4;
+    (status, body, row.5)
+}
+
+fn request_of_ask(ask: Ask) -> Request {
+    (ask.0, ask.1, ask.2, ask.3)
+}
+
+fn answer_of_ask(ask: Ask) -> Answer {
+    (ask.4, ask.5, Some(ask.6))
+}
+
+/// How many rows, one after another, are told as they should be, up to the first that is not, and whether these are all.
+fn play_rows(
+    alloc: Global,
+    policy: &Policy,
+    standing: &mut Standing,
+    rows: &[Row],
+) -> Result<(usize, bool), Fail> {
+    for (place, row) in rows.iter().enumerate() {
+        if !goes(
+            alloc,
+            policy,
+            standing,
+            request_of_row(*row),
+            answer_of_row(*row),
+        )? {
+            return Ok((place, false));
+        }
+    }
+    Ok((rows.len(), true))
+}
+
+/// The same of what is asked of pools and variables.
+fn play_asks(
+    alloc: Global,
+    policy: &Policy,
+    standing: &mut Standing,
+    asks: &[Ask],
+) -> Result<(usize, bool), Fail> {
+    for (place, ask) in asks.iter().enumerate() {
+        if !goes(
+            alloc,
+            policy,
+            standing,
+            request_of_ask(*ask),
+            answer_of_ask(*ask),
+        )? {
+            return Ok((place, false));
+        }
+    }
+    Ok((asks.len(), true))
+}
+
+/// How many times these bytes stand in what is told; of no bytes none.
+fn count_of(shown: &Shown, bytes: &[u8]) -> usize {
+    let size = bytes.len();
+    if size == 0 {
+        return 0;
+    }
+    let mut count: usize = 0;
+    for window in text(shown).windows(size) {
+        if window == bytes {
+            count = count.saturating_add(1);
+        }
+    }
+    count
+}
+
+/// Plays what comes before a listing: then how many times the bytes stand in it, and whether it ends as it should.
+fn list(
+    alloc: Global,
+    policy: &Policy,
+    standing: &mut Standing,
+    listing: &Listing,
+) -> Result<(usize, bool), Fail> {
+    let (before, row, bytes, end) = *listing;
+    let (_, is_all) = play_rows(alloc, policy, standing, before)?;
+    if !is_all {
+        return Err(Fail::new("a row before the listing is told otherwise"));
+    }
+    let shown = shown(alloc, policy, standing, request_of_row(row))?;
+    let seen = (count_of(&shown, bytes), text(&shown).ends_with(end));
+    drop(shown);
+    Ok(seen)
+}
+
+fn play(
+    alloc: Global,
+    policy: &Policy,
+    standing: &mut Standing,
+    story: Story,
+) -> Result<(usize, bool), Fail> {
+    match story {
+        Story::Rows(rows) => play_rows(alloc, policy, standing, rows),
+        Story::Asks(asks) => play_asks(alloc, policy, standing, asks),
+        Story::Lists(listing) => list(alloc, policy, standing, listing),
+    }
+}
+
+fn played_under(
+    alloc: Global,
+    policy: &Policy,
+    scene: Scene,
+    story: Story,
+) -> Result<(usize, bool), Fail> {
+    let mut standing = Standing::open(state(alloc, policy, scene)?);
+    let seen = play(alloc, policy, &mut standing, story);
+    drop(standing);
+    seen
+}
+
+/// How many rows, one after another, are told as they should be where the state holds this, up to the first that is not, and
+/// whether these are all. Of a listing: how many times the bytes stand in it, and whether it ends as it should.
+pub fn played(alloc: Global, scene: Scene, story: Story) -> Result<(usize, bool), Fail> {
+    let policy = policy(alloc)?;
+    let seen = played_under(alloc, &policy, scene, story);
+    drop(policy);
+    seen
+}
+
+/// Ends the test where one of the rows is not told as it should be.
+pub fn all_told(rt: &impl Abort, alloc: Global, scene: Scene, story: Story) -> Result<(), Fail> {
+    let (told, is_all) = played(alloc, scene, story)?;
+    row_holds(rt, is_all, told);
+    Ok(())
+}

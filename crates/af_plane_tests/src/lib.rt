@@ -1,6 +1,0 @@
-//! What the ledger, worlds, the plane and the server for one thread tell of calls, ticks, claims and reports, and what their
-//! entries say of them, as rows that loops play.
-#![tactic(auto)]
-
-#[cfg(test)]
-mod tests;

@@ -1,0 +1,4 @@
+mod limit;
+mod playing;
+mod rows;
+mod texts;

@@ -1,0 +1,12 @@
+//! What the ledger, worlds, the plane and the server for one thread tell of calls, ticks, claims and reports, and what their
+//! entries say of them, as rows that loops play.
+mod asserts;
+mod audit;
+mod calls;
+mod due;
+mod opening;
+mod planes;
+mod playing;
+mod solos;
+mod users;
+mod world;

@@ -1,0 +1,183 @@
+//! A plane beside the versions of a policy, and rows of what is done there. Who owns a player, a call or what is told lends it, and
+//! hands it to `drop`, which is proved once, and not at each way out.
+use crate::tests::plane::calls::{Asked, call};
+use crate::tests::plane::opening::{Dags, Due, opened};
+use crate::tests::plane::users::OF_PLANES;
+use af_audit::{AuditFault, ReportRefusal};
+use af_names::Instant;
+use af_ops::{Call, Served, Shown, Status};
+use af_plane::Plane;
+use af_policy::Versions;
+use af_sched::{Claim, Outcome};
+use std::alloc::Global;
+use std::test::Fail;
+
+/// What is done, and what is told of it.
+#[derive(Clone, Copy)]
+pub enum Step {
+    /// A user looks and asks: the status and the body.
+    Ask(Asked, Status, &'static str),
+    /// Whether a tick changes the state.
+    Tick(Result<bool, AuditFault>),
+    /// Which try is claimed, if any.
+    Claim(Result<Option<u32>, AuditFault>),
+    /// How the try of that claim ended, counted from 0.
+    Report(usize, Outcome, Result<(), ReportRefusal>),
+}
+
+/// A step, its moment, and how many entries there then are.
+pub type Row = (Step, &'static str, u32);
+
+/// A plane with the versions that it looks at, and the claims so far.
+#[derive(Drop)]
+pub struct Player {
+    pub plane: Plane,
+    versions: Versions,
+    claims: Vec<Claim>,
+}
+
+/// A plane with room for so many entries, and one DAG that is due so.
+pub fn make_player(alloc: Global, limit: u32, due: Due) -> Result<Player, Fail> {
+    let (policy, state) = opened(alloc, OF_PLANES, Dags::AndDue(due))?;
+    Ok(Player {
+        plane: Plane::open(alloc, state, limit),
+        versions: Versions::open(alloc, policy, 9),
+        claims: Vec::new(alloc),
+    })
+}
+
+/// The token of a user, or none for nobody.
+pub fn token(who: &str) -> Option<&[u8]> {
+    if who.is_empty() {
+        None
+    } else {
+        Some(who.as_bytes())
+    }
+}
+
+/// What a look and an apply give.
+fn served(
+    alloc: Global,
+    plane: &mut Plane,
+    versions: &Versions,
+    who: &str,
+    call: &Call,
+    at: Instant,
+) -> Option<Served> {
+    if plane.ledger().version() > versions.current() {
+        return None;
+    }
+    let version = plane.look(versions);
+    plane.apply(alloc, versions, version, token(who), call, at)
+}
+
+/// Whether what is told has this body.
+pub fn is_text(shown: &Shown, text: &str) -> bool {
+    match &shown.body {
+        Some(body) => body.as_bytes() == text.as_bytes(),
+        None => false,
+    }
+}
+
+/// Whether what is told is that, with this number of entries.
+fn is_told(gave: &Option<Served>, status: Status, text: &str, count: u32) -> bool {
+    match gave {
+        Some(Served::Shown(shown)) => {
+            is_text(shown, text) && shown.status == status && shown.seq == Some(count)
+        }
+        _ => false,
+    }
+}
+
+/// What is given for what is asked.
+fn given(
+    alloc: Global,
+    player: &mut Player,
+    what: Asked,
+    at: Instant,
+) -> Result<Option<Served>, Fail> {
+    let call = call(alloc, what)?;
+    let gave = served(
+        alloc,
+        &mut player.plane,
+        &player.versions,
+        what.0,
+        &call,
+        at,
+    );
+    drop(call);
+    Ok(gave)
+}
+
+/// Whether what is asked for is told so, with the number of entries.
+fn asked(
+    alloc: Global,
+    player: &mut Player,
+    what: Asked,
+    told: (Status, &str),
+    at: Instant,
+) -> Result<bool, Fail> {
+    let gave = given(alloc, player, what, at)?;
+    let count = player.plane.ledger().audit().count();
+    let is_told = is_told(&gave, told.0, told.1, count);
+    drop(gave);
+    Ok(is_told)
+}
+
+/// Claims, and tells which try of it is claimed, if any.
+fn claimed(
+    alloc: Global,
+    player: &mut Player,
+    at: Instant,
+) -> Result<Result<Option<u32>, AuditFault>, Fail> {
+    match player.plane.claim(alloc, at) {
+        Ok(Some(claim)) => {
+            let tried = claim.try_number;
+            player.claims.push(claim)?;
+            Ok(Ok(Some(tried)))
+        }
+        Ok(None) => Ok(Ok(None)),
+        Err(fault) => Ok(Err(fault)),
+    }
+}
+
+/// Reports how the try of a claim ended, if there is that claim.
+fn reported(
+    alloc: Global,
+    player: &mut Player,
+    place: usize,
+    outcome: Outcome,
+    at: Instant,
+) -> Option<Result<(), ReportRefusal>> {
+    let claim = player.claims.get(place)?;
+    Some(player.plane.report(alloc, claim, outcome, at))
+}
+
+/// Whether a step goes as it says.
+fn goes(alloc: Global, player: &mut Player, step: Step, at: Instant) -> Result<bool, Fail> {
+    match step {
+        Step::Ask(what, status, text) => asked(alloc, player, what, (status, text), at),
+        Step::Tick(told) => Ok(player.plane.tick(alloc, at) == told),
+        Step::Claim(told) => Ok(claimed(alloc, player, at)? == told),
+        Step::Report(place, outcome, told) => {
+            Ok(reported(alloc, player, place, outcome, at) == Some(told))
+        }
+    }
+}
+
+/// Whether the step of a row goes as it says, and there are then so many entries.
+fn goes_row(alloc: Global, player: &mut Player, row: &Row) -> Result<bool, Fail> {
+    let at = Instant::read(row.1)?;
+    let goes = goes(alloc, player, row.0, at)?;
+    Ok(goes && player.plane.ledger().audit().count() == row.2)
+}
+
+/// Takes the steps of these rows: how many go as they should, up to the first that does not.
+pub fn played(alloc: Global, player: &mut Player, rows: &[Row]) -> Result<usize, Fail> {
+    for (place, row) in rows.iter().enumerate() {
+        if !goes_row(alloc, player, row)? {
+            return Ok(place);
+        }
+    }
+    Ok(rows.len())
+}

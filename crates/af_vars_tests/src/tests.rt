@@ -1,5 +1,0 @@
-mod asserts;
-mod limit;
-mod playing;
-mod rows;
-mod texts;
