@@ -85,6 +85,8 @@ pub const EVE: &str = "eve";
 
 pub const EXISTS: &str = "exists";
 
+pub const FIVE: &str = "the five";
+
 pub const FIRST_USER: &str = "adam(Admin,) of 5";
 
 pub const FLY: &str = "fly";

@@ -1,7 +1,8 @@
 use crate::tests::asserts::row_holds;
-use af_names::{DagId, NameError};
+use af_names::DagId;
 use af_role::{Action, Need, ResourceKind};
 use std::alloc::Global;
+use std::process::Abort;
 
 /// An action, a resource, whether it may be had of one DAG, and how it is written alone and about the DAG b.1.
 type Row = (Action, ResourceKind, bool, &'static str, &'static str);
@@ -39,34 +40,34 @@ const NEEDS: &[Row] = &[
 
 /// Whether a requirement is written so, alone or about a DAG.
 fn is_written(
+    rt: &impl Abort,
     alloc: Global,
     need: Need,
     dag: Option<&DagId>,
     wanted: &str,
-) -> Result<bool, NameError> {
-    let text = need.text(alloc, dag)?;
-    Ok(text.as_str() == wanted)
-}
-
-/// Whether the requirement of a row is written as it should be, alone and about the DAG b.1.
-fn are_written(alloc: Global, row: Row) -> Result<(bool, bool), NameError> {
-    let (action, kind, at_dag, alone, about) = row;
-    let need = Need {
-        action,
-        kind,
-        at_dag,
-    };
-    let dag = DagId::parse(alloc, "b.1")?;
-    let is_alone = is_written(alloc, need, None, alone)?;
-    Ok((is_alone, is_written(alloc, need, Some(&dag), about)?))
+) -> bool {
+    let text = need
+        .text(alloc, dag)
+        .expect(rt, "the text of a requirement");
+    text.as_str() == wanted
 }
 
 #[test]
-fn requirements_are_written_at_their_dag(rt: HostRuntime) -> Result<(), NameError> {
-    for (row, need) in NEEDS.iter().enumerate() {
-        let (is_alone, is_about) = are_written(rt.alloc(), *need)?;
-        row_holds(&rt, is_alone, row);
-        row_holds(&rt, is_about, row);
+fn requirements_are_written_at_their_dag(rt: HostRuntime) {
+    let alloc = rt.alloc();
+    let dag = DagId::parse(alloc, "b.1").expect(&rt, "the id of a DAG");
+    for (row, (action, kind, at_dag, alone, about)) in NEEDS.iter().enumerate() {
+        let need = Need {
+            action: *action,
+            kind: *kind,
+            at_dag: *at_dag,
+        };
+        row_holds(&rt, is_written(&rt, alloc, need, None, alone), "alone", row);
+        row_holds(
+            &rt,
+            is_written(&rt, alloc, need, Some(&dag), about),
+            "about",
+            row,
+        );
     }
-    Ok(())
 }
