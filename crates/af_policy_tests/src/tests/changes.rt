@@ -137,7 +137,7 @@ const CHANGES: &[Story] = &[
 
 #[test]
 fn changes_are_made_or_refused_in_order(rt: HostRuntime) {
-    play(&rt, rt.alloc(), CHANGES);
+    play(&rt, CHANGES);
 }
 
 const CHANGES_OF_USERS: &[Story] = &[Story {
@@ -148,5 +148,5 @@ const CHANGES_OF_USERS: &[Story] = &[Story {
 
 #[test]
 fn changes_of_users_are_made_or_refused_in_order(rt: HostRuntime) {
-    play(&rt, rt.alloc(), CHANGES_OF_USERS);
+    play(&rt, CHANGES_OF_USERS);
 }

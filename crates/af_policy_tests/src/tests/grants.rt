@@ -102,17 +102,13 @@ const ASKED: &[Case] = &[
 
 /// Whether this is the name of who brings a token; the empty text is nobody's.
 pub fn is_bearer(policy: &Policy, token: Option<&str>, wanted: &str) -> bool {
-    match bearer(policy, token) {
-        Some(user) => user.as_str() == wanted,
-        None => wanted.is_empty(),
-    }
-}
-
-/// Who brings a token.
-fn bearer<'a>(policy: &'a Policy, token: Option<&str>) -> Option<&'a UserName> {
-    match token {
+    let bearer = match token {
         Some(token) => policy.bearer(Some(token.as_bytes())),
         None => policy.bearer(None),
+    };
+    match bearer {
+        Some(user) => user.as_str() == wanted,
+        None => wanted.is_empty(),
     }
 }
 
@@ -179,7 +175,7 @@ const GRANTS: &[Story] = &[Story {
 
 #[test]
 fn what_is_granted(rt: HostRuntime) {
-    play(&rt, rt.alloc(), GRANTS);
+    play(&rt, GRANTS);
 }
 
 /// A role of a default one's name, users, and why they are not added.

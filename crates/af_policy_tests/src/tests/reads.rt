@@ -66,7 +66,7 @@ const ALL_READS: &[Story] = &[Story {
 
 #[test]
 fn reads_are_told_or_refused_in_order(rt: HostRuntime) {
-    play(&rt, rt.alloc(), ALL_READS);
+    play(&rt, ALL_READS);
 }
 
 /// The further role that bob gets, and one twice.
@@ -86,7 +86,7 @@ const CHANGED: &[Story] = &[Story {
 
 #[test]
 fn a_changed_user_is_told_under_the_next_version(rt: HostRuntime) {
-    play(&rt, rt.alloc(), CHANGED);
+    play(&rt, CHANGED);
 }
 
 fn read_of(rt: &impl Abort, alloc: Global, asked: Asked) -> PolicyRead {

@@ -127,36 +127,32 @@ fn change_of(rt: &impl Abort, alloc: Global, step: Step) -> Change {
 
 /// What a step changes of a user.
 fn patch(rt: &impl Abort, alloc: Global, step: Step) -> UserPatch {
-    let (name, token, roles) = parts_of(step);
-    UserPatch {
-        name: user_name(rt, alloc, name),
-        digest: maybe_digest(token),
-        roles: maybe_names(rt, alloc, roles),
-    }
-}
-
-/// The user of a step, and what it changes: a token, or roles.
-fn parts_of(step: Step) -> (&'static str, Option<&'static str>, Option<Roles>) {
     match step {
-        Step::SetRoles(name, roles) => (name, None, Some(roles)),
-        Step::SetToken(name, token) => (name, Some(token), None),
-        Step::SetBoth(name, token, roles) => (name, Some(token), Some(roles)),
-        _ => (NOBODY, None, None),
+        Step::SetRoles(name, roles) => UserPatch {
+            name: user_name(rt, alloc, name),
+            digest: None,
+            roles: Some(role_names(rt, alloc, roles)),
+        },
+        Step::SetToken(name, token) => UserPatch {
+            name: user_name(rt, alloc, name),
+            digest: Some(digest_of(token)),
+            roles: None,
+        },
+        Step::SetBoth(name, token, roles) => UserPatch {
+            name: user_name(rt, alloc, name),
+            digest: Some(digest_of(token)),
+            roles: Some(role_names(rt, alloc, roles)),
+        },
+        _ => UserPatch {
+            name: user_name(rt, alloc, NOBODY),
+            digest: None,
+            roles: None,
+        },
     }
 }
 
-fn maybe_digest(token: Option<&str>) -> Option<[u8; 32]> {
-    match token {
-        Some(token) => Some(digest_of(token)),
-        None => None,
-    }
-}
-
-fn maybe_names(rt: &impl Abort, alloc: Global, roles: Option<Roles>) -> Option<RoleNames> {
-    match roles {
-        Some(roles) => Some(RoleNames::of(names(rt, alloc, roles))),
-        None => None,
-    }
+fn role_names(rt: &impl Abort, alloc: Global, roles: Roles) -> RoleNames {
+    RoleNames::of(names(rt, alloc, roles))
 }
 
 /// A copy of the change of a step.

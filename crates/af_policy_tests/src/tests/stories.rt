@@ -8,8 +8,8 @@ use crate::tests::steps::{Step, ask_of, copied};
 use crate::tests::telling::Telling;
 use crate::tests::told::{tell_fault, tell_outcome};
 use crate::tests::words::{DONE, VERAS};
-use af_policy::{ChangeFault, Policy, Versions};
-use std::alloc::Global;
+use af_policy::{Policy, Versions};
+use std::alloc::{AllocGlobal, Global};
 use std::process::Abort;
 
 /// What is done, or asked, and what is told of it.
@@ -50,7 +50,8 @@ pub struct Story {
 }
 
 /// Plays these stories: ends the test at the first case that is otherwise.
-pub fn play(rt: &impl Abort, alloc: Global, stories: &[Story]) {
+pub fn play(rt: &(impl AllocGlobal + Abort), stories: &[Story]) {
+    let alloc = rt.alloc();
     for story in stories {
         let policy = finished(rt, alloc, story.members).expect(rt, "a policy");
         let mut versions = Versions::open(alloc, policy, story.left);
@@ -131,25 +132,14 @@ fn is_made(
             wanted == DONE
         }
         Err(fault) => {
-            let is_told = is_fault(&fault, wanted);
+            let mut telling = Telling::of(wanted);
+            tell_fault(&mut telling, &fault);
             drop(fault);
-            put_copy(rt, alloc, versions);
-            is_told
+            let copy = versions.latest().copy();
+            put(alloc, versions, copy.expect(rt, "a copy of the policy"));
+            telling.is_wanted()
         }
     }
-}
-
-/// Whether this is told of a fault.
-fn is_fault(fault: &ChangeFault, wanted: &str) -> bool {
-    let mut telling = Telling::of(wanted);
-    tell_fault(&mut telling, fault);
-    telling.is_wanted()
-}
-
-/// Puts a copy of the policy in its place.
-fn put_copy(rt: &impl Abort, alloc: Global, versions: &mut Versions) {
-    let copy = versions.latest().copy().expect(rt, "a copy of the policy");
-    put(alloc, versions, copy);
 }
 
 /// Puts a policy in the place of the latest, which is dropped by `drop`: that is proved once, and not at each way out.

@@ -61,7 +61,7 @@ const ALL_SYNCS: &[Story] = &[Story {
 
 #[test]
 fn a_sync_lists_what_it_is_given_and_leaves_who_has_all_dags(rt: HostRuntime) {
-    play(&rt, rt.alloc(), ALL_SYNCS);
+    play(&rt, ALL_SYNCS);
 }
 
 /// Permissions on two DAGs, and on a whole kind.
@@ -86,5 +86,5 @@ const LEFT: &[Story] = &[Story {
 
 #[test]
 fn a_sync_leaves_permissions_on_other_dags_and_kinds(rt: HostRuntime) {
-    play(&rt, rt.alloc(), LEFT);
+    play(&rt, LEFT);
 }

@@ -1,7 +1,7 @@
 //! Tables that share rows: what a change leaves of the table before it, and how long a search is.
 use crate::tests::asserts::holds;
 use af_policy::{Row, Table, front};
-use std::alloc::{AllocError, Global};
+use std::alloc::{AllocError, AllocGlobal, Global};
 use std::process::Abort;
 
 /// A word, which is its own key.
@@ -111,23 +111,19 @@ enum Look {
     Short,
 }
 
-/// Whether this is as it should be of a table of all words.
-fn is_so(rt: &impl Abort, alloc: Global, table: &mut Table<Word>, look: Look) -> bool {
-    match look {
-        Look::Left => is_left(rt, alloc, table),
-        Look::Listed => are_listed(rt, alloc, table),
-        Look::Short => is_short(rt, alloc, table),
-    }
-}
-
 /// Words are put in by rising order, and by falling order.
 const ORDERS: &[bool] = &[false, true];
 
-/// Ends the test where this is otherwise.
-fn are_so(rt: &impl Abort, alloc: Global, look: Look, what: &str) {
+/// Ends the test where this is otherwise of a table of all words.
+fn are_so(rt: &(impl AllocGlobal + Abort), look: Look, what: &str) {
+    let alloc = rt.alloc();
     for falling in ORDERS {
         let mut table = words(rt, alloc, *falling);
-        let is_so = is_so(rt, alloc, &mut table, look);
+        let is_so = match look {
+            Look::Left => is_left(rt, alloc, &table),
+            Look::Listed => are_listed(rt, alloc, &table),
+            Look::Short => is_short(rt, alloc, &mut table),
+        };
         drop(table);
         holds(rt, is_so, what);
     }
@@ -135,15 +131,15 @@ fn are_so(rt: &impl Abort, alloc: Global, look: Look, what: &str) {
 
 #[test]
 fn a_change_leaves_the_older_version(rt: HostRuntime) {
-    are_so(&rt, rt.alloc(), Look::Left, "the tables");
+    are_so(&rt, Look::Left, "the tables");
 }
 
 #[test]
 fn all_words_are_listed(rt: HostRuntime) {
-    are_so(&rt, rt.alloc(), Look::Listed, "the words");
+    are_so(&rt, Look::Listed, "the words");
 }
 
 #[test]
 fn a_search_is_short(rt: HostRuntime) {
-    are_so(&rt, rt.alloc(), Look::Short, "the height");
+    are_so(&rt, Look::Short, "the height");
 }

@@ -8,7 +8,6 @@ use crate::tests::words::{
 use af_policy::{
     ChangeFault, Me, MeFault, Page, PolicyReply, ReadFault, RoleShown, SubmitFault, UserShown,
 };
-use af_role::PairText;
 use std::alloc::Global;
 use std::process::Abort;
 
@@ -19,20 +18,18 @@ pub fn tell_fault(telling: &mut Telling<'_>, fault: &ChangeFault) {
             telling.tell("bad action: ");
             telling.tell(text.as_str());
         }
-        ChangeFault::PairNotAllowed(pair) => tell_pair(telling, pair),
+        ChangeFault::PairNotAllowed(pair) => {
+            telling.tell("not allowed: ");
+            telling.tell(pair.resource.as_str());
+            telling.tell(".");
+            telling.tell(pair.action.as_str());
+        }
         ChangeFault::UnknownRole(name) => {
             telling.tell("unknown role: ");
             telling.tell(name.as_str());
         }
         _ => telling.tell(fault_word(fault)),
     }
-}
-
-fn tell_pair(telling: &mut Telling<'_>, pair: &PairText) {
-    telling.tell("not allowed: ");
-    telling.tell(pair.resource.as_str());
-    telling.tell(".");
-    telling.tell(pair.action.as_str());
 }
 
 /// A fault that names no text.
@@ -85,7 +82,11 @@ pub fn tell_answer(
     match answer {
         Ok(PolicyReply::Roles(page)) => tell_roles(rt, alloc, telling, page),
         Ok(PolicyReply::Users(page)) => tell_users(rt, alloc, telling, page),
-        Ok(PolicyReply::Role(role)) => tell_role(rt, alloc, telling, role),
+        Ok(PolicyReply::Role(role)) => {
+            telling.tell(role.name().as_str());
+            telling.tell(COLON);
+            telling.tell_permissions(rt, alloc, role.permissions());
+        }
         Ok(PolicyReply::User(user)) => tell_user(telling, user),
         Err(fault) => telling.tell(read_word(*fault)),
     }
@@ -129,12 +130,6 @@ fn tell_number(
     telling.tell(text.as_str());
 }
 
-fn tell_role(rt: &impl Abort, alloc: Global, telling: &mut Telling<'_>, role: &RoleShown<'_>) {
-    telling.tell(role.name().as_str());
-    telling.tell(COLON);
-    telling.tell_permissions(rt, alloc, role.permissions());
-}
-
 fn tell_user(telling: &mut Telling<'_>, user: &UserShown<'_>) {
     telling.tell(user.name().as_str());
     telling.tell(OPEN);
@@ -164,14 +159,12 @@ pub fn tell_self(
     answer: &Result<Me<'_>, MeFault>,
 ) {
     match answer {
-        Ok(me) => tell_me(rt, alloc, telling, me),
+        Ok(me) => {
+            tell_user(telling, &me.user);
+            telling.tell(BLANK);
+            telling.tell_permissions(rt, alloc, &me.permissions);
+        }
         Err(MeFault::Unauthenticated) => telling.tell(UNAUTHENTICATED),
         Err(_) => telling.tell(NO_SUCH_ANSWER),
     }
-}
-
-fn tell_me(rt: &impl Abort, alloc: Global, telling: &mut Telling<'_>, me: &Me<'_>) {
-    tell_user(telling, &me.user);
-    telling.tell(BLANK);
-    telling.tell_permissions(rt, alloc, &me.permissions);
 }

@@ -57,7 +57,7 @@ const ASKED_FOR: &[Story] = &[
 
 #[test]
 fn changes_that_are_asked_for(rt: HostRuntime) {
-    play(&rt, rt.alloc(), ASKED_FOR);
+    play(&rt, ASKED_FOR);
 }
 
 /// A version, and whether vera is known under it.
@@ -79,5 +79,5 @@ const EARLIER: &[Story] = &[Story {
 
 #[test]
 fn earlier_versions_stay(rt: HostRuntime) {
-    play(&rt, rt.alloc(), EARLIER);
+    play(&rt, EARLIER);
 }

@@ -3,7 +3,7 @@ use crate::tests::listing::rows::{Who, page_for, page_of};
 use crate::tests::openings::names;
 use af_listing::{Page, Window};
 use af_names::DagId;
-use std::alloc::Global;
+use std::alloc::{AllocGlobal, Global};
 use std::process::Abort;
 
 const RUNS: &[&str] = &["a", "b", "b", "a", "b"];
@@ -38,9 +38,9 @@ fn has(page: &Page, places: &[usize], total: usize) -> bool {
 }
 
 /// Ends the test at the first page that is not as it should be for a reader.
-fn are_pages(rt: &impl Abort, alloc: Global, rows: &[Row], who: Who) {
+fn are_pages(rt: &(impl AllocGlobal + Abort), rows: &[Row], who: Who) {
     for (number, (letters, query, places, total)) in rows.iter().enumerate() {
-        let page = page_of(rt, alloc, letters, query, who);
+        let page = page_of(rt, rt.alloc(), letters, query, who);
         let is_page = has(&page, places, *total);
         drop(page);
         row_holds(rt, is_page, "pages", number);
@@ -49,7 +49,7 @@ fn are_pages(rt: &impl Abort, alloc: Global, rows: &[Row], who: Who) {
 
 #[test]
 fn pages_are_of_shown_rows(rt: HostRuntime) {
-    are_pages(&rt, rt.alloc(), PAGES, Who::Of("b"));
+    are_pages(&rt, PAGES, Who::Of("b"));
 }
 
 #[test]
@@ -118,6 +118,6 @@ const WHOLE_PAGES: &[Row] = &[
 
 #[test]
 fn who_reads_all_is_shown_the_list_itself(rt: HostRuntime) {
-    are_pages(&rt, rt.alloc(), WHOLE_PAGES, Who::All(true));
-    are_pages(&rt, rt.alloc(), WHOLE_PAGES, Who::All(false));
+    are_pages(&rt, WHOLE_PAGES, Who::All(true));
+    are_pages(&rt, WHOLE_PAGES, Who::All(false));
 }

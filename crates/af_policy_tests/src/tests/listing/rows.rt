@@ -90,19 +90,15 @@ pub fn page_for<T: Listed>(
     }
 }
 
-/// The DAG that a letter names; `-` names none.
-fn dag_of(rt: &impl Abort, alloc: Global, letter: &str) -> Option<DagId> {
-    if letter == "-" {
-        return None;
-    }
-    Some(DagId::parse(alloc, letter).expect(rt, "the id of a DAG"))
-}
-
-/// A row for each letter, which names that DAG.
+/// A row for each letter, which names that DAG; `-` names none.
 fn rows_of(rt: &impl Abort, alloc: Global, letters: &[&str]) -> Vec<Row> {
     let mut rows = Vec::new(alloc);
     for letter in letters {
-        let dag = dag_of(rt, alloc, letter);
+        let dag = if *letter == "-" {
+            None
+        } else {
+            Some(DagId::parse(alloc, letter).expect(rt, "the id of a DAG"))
+        };
         rows.push(Row { dag }).expect(rt, "room for a row");
     }
     rows

@@ -25,22 +25,13 @@ const ROLES: &[(&str, &str)] = &[
     ),
 ];
 
-/// Whether a role has this name, and these are its permissions.
-fn is_role(rt: &impl Abort, alloc: Global, role: &Role, name: &str, permissions: &str) -> bool {
-    let mut telling = Telling::of(permissions);
-    telling.tell_permissions(rt, alloc, role.permissions());
-    telling.is_wanted() && role.name().as_str() == name
-}
-
-/// Ends the test where one of these roles is another.
+/// Ends the test where one of these roles has another name, or other permissions.
 fn are_roles(rt: &impl Abort, alloc: Global, roles: &[Role]) {
     for (number, (role, (name, permissions))) in roles.iter().zip(ROLES).enumerate() {
-        row_holds(
-            rt,
-            is_role(rt, alloc, role, name, permissions),
-            "roles",
-            number,
-        );
+        let mut telling = Telling::of(permissions);
+        telling.tell_permissions(rt, alloc, role.permissions());
+        let is_role = telling.is_wanted() && role.name().as_str() == *name;
+        row_holds(rt, is_role, "roles", number);
     }
 }
 

@@ -1,7 +1,7 @@
 use crate::tests::asserts::row_holds;
 use crate::tests::steps::pair_texts;
 use crate::tests::telling::Telling;
-use af_role::{PairFault, PairText, read_pairs};
+use af_role::{PairFault, read_pairs};
 use std::alloc::Global;
 use std::process::Abort;
 
@@ -51,28 +51,19 @@ fn tell_fault(telling: &mut Telling<'_>, fault: &PairFault) {
     }
 }
 
-/// Tells which set these texts are, or the fault.
-fn tell_read(rt: &impl Abort, alloc: Global, telling: &mut Telling<'_>, texts: &[PairText]) {
-    match read_pairs(alloc, texts) {
-        Ok(permissions) => {
-            telling.tell_permissions(rt, alloc, &permissions);
-            drop(permissions);
-        }
-        Err(fault) => {
-            tell_fault(telling, &fault);
-            drop(fault);
-        }
-    }
-}
-
 /// Whether these texts, read from a copy of them, are this set, or this fault is told.
 fn is_read(rt: &impl Abort, alloc: Global, given: Given, wanted: &str) -> bool {
     let texts = pair_texts(rt, alloc, given);
     let copy = texts.copied(alloc).expect(rt, "a copy of permissions");
     drop(texts);
-    let mut telling = Telling::of(wanted);
-    tell_read(rt, alloc, &mut telling, copy.as_slice());
+    let read = read_pairs(alloc, copy.as_slice());
     drop(copy);
+    let mut telling = Telling::of(wanted);
+    match &read {
+        Ok(permissions) => telling.tell_permissions(rt, alloc, permissions),
+        Err(fault) => tell_fault(&mut telling, fault),
+    }
+    drop(read);
     telling.is_wanted()
 }
 

@@ -116,33 +116,21 @@ fn tell_done(telling: &mut Telling<'_>, done: &Result<(), SyncFault>) {
     }
 }
 
-/// Syncs the DAG b with this access control: whether this is told.
-fn is_told(
-    rt: &impl Abort,
-    alloc: Global,
-    roles: &mut Vec<Role>,
-    access: Option<&AccessControl>,
-    wanted: &str,
-) -> bool {
-    let dag = DagId::parse(alloc, "b").expect(rt, "the id of a DAG");
-    let done = sync_access(alloc, roles, &dag, access);
-    drop(dag);
-    let mut telling = Telling::of(wanted);
-    tell_done(&mut telling, &done);
-    drop(done);
-    telling.is_wanted()
-}
-
 /// Whether the sync of a row tells this of the roles above, and they are shown so after it.
 fn is_synced(rt: &impl Abort, alloc: Global, row: Synced) -> bool {
+    let dag = DagId::parse(alloc, "b").expect(rt, "the id of a DAG");
     let access = copied(rt, alloc, row.0);
     let mut roles = roles(rt, alloc);
-    let is_told = is_told(rt, alloc, &mut roles, access.as_ref(), row.1);
+    let done = sync_access(alloc, &mut roles, &dag, access.as_ref());
+    drop(dag);
     drop(access);
-    let mut telling = Telling::of(row.2);
-    tell_roles(rt, alloc, &mut telling, roles.as_slice());
+    let mut told = Telling::of(row.1);
+    tell_done(&mut told, &done);
+    drop(done);
+    let mut left = Telling::of(row.2);
+    tell_roles(rt, alloc, &mut left, roles.as_slice());
     drop(roles);
-    telling.is_wanted() && is_told
+    told.is_wanted() && left.is_wanted()
 }
 
 #[test]
