@@ -5,7 +5,7 @@ use crate::tests::stories::Case::{self, Bearer, Grants};
 use crate::tests::stories::{Story, play};
 use crate::tests::words::{
     A, ADAM, ADAMS, B, BOB, BOBS, CAN_READ, CUT_SHORT, DAG_B, EDNA, EVE, LARGE_B, NONE, PAT,
-    SMALL_VIEWER, STRANGERS, VERA, VERAS, VIEWER,
+    SMALL_VIEWER, STRANGERS, USERS, VERA, VERAS, VIEWER,
 };
 use Granted::{Has, Lacks, Reads, ReadsAll, ReadsPools};
 use af_names::{DagId, UserName};
@@ -129,6 +129,7 @@ pub fn is_granted(
     is_granted
 }
 
+/// Whether a user is granted so about a DAG.
 fn is_granted_to(
     rt: &impl Abort,
     alloc: Global,
@@ -186,26 +187,26 @@ const REFUSED: &[Added] = &[
         1,
         Some(RowFault::Exists),
     ),
-    ("users", Row::User(VERA, VERAS, &[VIEWER]), 1, None),
+    (USERS, Row::User(VERA, VERAS, &[VIEWER]), 1, None),
     (
-        "users",
+        USERS,
         Row::User(VERA, BOBS, &[SMALL_VIEWER]),
         1,
         Some(RowFault::UnknownRole),
     ),
     (
-        "users",
+        USERS,
         Row::User(VERA, BOBS, &[VIEWER]),
         1,
         Some(RowFault::Exists),
     ),
     (
-        "users",
+        USERS,
         Row::User(BOB, VERAS, &[VIEWER]),
         1,
         Some(RowFault::Exists),
     ),
-    ("users", Row::User(BOB, BOBS, &[VIEWER]), 1, None),
+    (USERS, Row::User(BOB, BOBS, &[VIEWER]), 1, None),
 ];
 
 #[test]

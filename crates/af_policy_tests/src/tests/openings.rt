@@ -1,7 +1,7 @@
 //! Policies as they open, put together row by row: what is added, or why it is not.
-use crate::tests::asserts::row_holds;
+use crate::tests::asserts::{has_memory, row_holds};
 use crate::tests::role::permissions::role_of;
-use crate::tests::steps::Pairs;
+use crate::tests::steps::{Pairs, Roles};
 use crate::tests::words::{
     ADAM, ADAMS, ADMIN, BOB, BOBS, CAN_EDIT, CAN_READ, DAG_B, EDIT_B, EDNA, EDNAS, FIVE, ONLY_B,
     PAT, PATS, POOLS, PUBLIC, VERA, VERAS, VIEWER,
@@ -91,7 +91,7 @@ pub enum Row {
     /// A role with these permissions.
     Role(&'static str, Pairs),
     /// A user, with a token and roles.
-    User(&'static str, &'static str, &'static [&'static str]),
+    User(&'static str, &'static str, Roles),
     /// The role of a number.
     RoleOfNumber,
     /// The user of a number below 65,536 times 256, whose digest has its three lower bytes behind its first.
@@ -121,6 +121,7 @@ fn numbered(rt: &impl Abort, alloc: Global, word: &str, number: u32) -> String {
     format!(in alloc; "{word} {number}").expect(rt, "the text of a number")
 }
 
+/// A digest that no other number has.
 fn member_digest(number: u32) -> [u8; 32] {
     let mut digest: [u8; 32] = [255; 32];
     let bytes = number.to_be_bytes();
@@ -164,6 +165,7 @@ fn fill(rt: &impl Abort, alloc: Global, draft: &mut PolicyDraft, rows: &[Added])
     for (place, (what, row, times, wanted)) in rows.iter().enumerate() {
         for number in 0..*times {
             let fault = fault_of(rt, alloc, draft, *row, number);
+            has_memory(rt, fault != Some(RowFault::OutOfMemory), what);
             row_holds(rt, fault == *wanted, what, place);
         }
     }

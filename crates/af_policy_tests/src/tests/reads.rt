@@ -1,4 +1,5 @@
 //! Who is told what of a policy: one's own permissions, roles and users, or why not.
+use crate::tests::asserts::has_memory;
 use crate::tests::openings::THE_FIVE;
 use crate::tests::steps::Step;
 use crate::tests::stories::Case::{self, Asks, IsSelf, Reads};
@@ -12,7 +13,7 @@ use crate::tests::words::{
     UNAUTHENTICATED, VERAS, VERSION_1,
 };
 use af_names::{RoleName, UserName};
-use af_policy::{BadInput, Parameter, PolicyRead, ReadKind, Span, Versions};
+use af_policy::{BadInput, MeFault, Parameter, PolicyRead, ReadFault, ReadKind, Span, Versions};
 use std::alloc::Global;
 use std::process::Abort;
 
@@ -89,6 +90,7 @@ fn a_changed_user_is_told_under_the_next_version(rt: HostRuntime) {
     play(&rt, CHANGED);
 }
 
+/// The reading that is asked for.
 fn read_of(rt: &impl Abort, alloc: Global, asked: Asked) -> PolicyRead {
     match asked {
         Asked::Role(name) => {
@@ -117,6 +119,8 @@ pub fn is_read(
     let read = read_of(rt, alloc, asked);
     let told = versions.read(alloc, Some(token.as_bytes()), &read);
     drop(read);
+    let has_room = !matches!(&told.answer, Err(ReadFault::OutOfMemory));
+    has_memory(rt, has_room, "a reading");
     let mut telling = Telling::of(wanted);
     tell_answer(rt, alloc, &mut telling, &told.answer);
     let is_first = told.version == 0;
@@ -134,6 +138,8 @@ pub fn is_self(
     wanted: &str,
 ) -> bool {
     let told = versions.me(alloc, Some(token.as_bytes()));
+    let has_room = !matches!(&told.answer, Err(MeFault::OutOfMemory));
+    has_memory(rt, has_room, "who one is");
     let mut telling = Telling::of(wanted);
     tell_self(rt, alloc, &mut telling, &told.answer);
     let is_under = told.version == version;

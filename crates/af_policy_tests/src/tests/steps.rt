@@ -15,7 +15,7 @@ pub type Access = &'static [(&'static str, &'static [&'static str])];
 /// Names of roles.
 pub type Roles = &'static [&'static str];
 
-/// A change of a policy.
+/// A change of a policy, or what is asked for in place of one.
 #[derive(Clone, Copy)]
 pub enum Step {
     /// A further role with these permissions.
@@ -36,10 +36,11 @@ pub enum Step {
     Unlisted,
     /// The access control of the DAG b.
     Sync(Access),
-    /// A kind of change, with a body that is none.
+    /// A kind of change, with a body that is none: of what is asked for alone.
     Badly(ChangeKind),
 }
 
+/// The text of these letters.
 fn text(rt: &impl Abort, alloc: Global, text: &str) -> Text {
     Text::new(String::from_str(alloc, text).expect(rt, "a text"))
 }
@@ -57,14 +58,17 @@ pub fn pair_texts(rt: &impl Abort, alloc: Global, pairs: &[(&str, &str)]) -> Pai
     PairTexts::of(items)
 }
 
+/// The name of a role.
 fn role_name(rt: &impl Abort, alloc: Global, name: &str) -> RoleName {
     RoleName::parse(alloc, name).expect(rt, "the name of a role")
 }
 
+/// The name of a user.
 fn user_name(rt: &impl Abort, alloc: Global, name: &str) -> UserName {
     UserName::parse(alloc, name).expect(rt, "the name of a user")
 }
 
+/// A role with these permissions.
 fn role(rt: &impl Abort, alloc: Global, name: &str, pairs: &[(&str, &str)]) -> RoleInput {
     RoleInput {
         name: role_name(rt, alloc, name),
@@ -80,6 +84,7 @@ pub fn access(rt: &impl Abort, alloc: Global, rows: Option<Access>) -> Option<Ac
     }
 }
 
+/// Roles and their actions.
 fn access_rows(rt: &impl Abort, alloc: Global, rows: Access) -> Vec<AccessRow> {
     let mut access = Vec::new(alloc);
     for (role, actions) in rows {
@@ -92,6 +97,7 @@ fn access_rows(rt: &impl Abort, alloc: Global, rows: Access) -> Vec<AccessRow> {
     access
 }
 
+/// These texts, in their order.
 fn texts(rt: &impl Abort, alloc: Global, items: &[&str]) -> Texts {
     let mut texts = Vec::new(alloc);
     for item in items {
@@ -102,6 +108,7 @@ fn texts(rt: &impl Abort, alloc: Global, items: &[&str]) -> Texts {
     Texts::of(texts)
 }
 
+/// The access control of the DAG b taken over.
 fn sync(rt: &impl Abort, alloc: Global, rows: Option<Access>) -> Change {
     Change::SyncDag(DagAccess {
         dag: DagId::parse(alloc, B).expect(rt, "the id of a DAG"),
@@ -151,6 +158,7 @@ fn patch(rt: &impl Abort, alloc: Global, step: Step) -> UserPatch {
     }
 }
 
+/// Names of roles, as a user has them.
 fn role_names(rt: &impl Abort, alloc: Global, roles: Roles) -> RoleNames {
     RoleNames::of(names(rt, alloc, roles))
 }
@@ -167,6 +175,6 @@ pub fn copied(rt: &impl Abort, alloc: Global, step: Step) -> Change {
 pub fn ask_of(rt: &impl Abort, alloc: Global, step: Step) -> Ask {
     match step {
         Step::Badly(kind) => Ask::Bad(kind, BadInput::Body),
-        _ => Ask::Made(copied(rt, alloc, step)),
+        _ => Ask::Made(change_of(rt, alloc, step)),
     }
 }

@@ -1,6 +1,6 @@
 //! What is done to a policy and its versions, and what is told then: rows that one loop plays. Who owns the versions lends them to
 //! the function that plays the rows, and hands them to drop, which is proved once.
-use crate::tests::asserts::row_holds;
+use crate::tests::asserts::{has_memory, row_holds};
 use crate::tests::grants::{Granted, have, is_bearer, is_granted};
 use crate::tests::openings::{Added, finished};
 use crate::tests::reads::{Asked, is_read, is_self};
@@ -8,14 +8,14 @@ use crate::tests::steps::{Step, ask_of, copied};
 use crate::tests::telling::Telling;
 use crate::tests::told::{tell_fault, tell_outcome};
 use crate::tests::words::{DONE, VERAS};
-use af_policy::{Policy, Versions};
+use af_policy::{ChangeFault, Policy, SubmitFault, Versions};
 use std::alloc::{AllocGlobal, Global};
 use std::process::Abort;
 
 /// What is done, or asked, and what is told of it.
 #[derive(Clone, Copy)]
 pub enum Case {
-    /// A change of the latest policy itself.
+    /// A change of the latest policy itself, and what is told of it. Versions then begin anew, with what it leaves.
     Makes(Step, &'static str),
     /// What the bearer of a token asks for.
     Asks(&'static str, Step, &'static str),
@@ -46,6 +46,7 @@ pub struct Story {
     pub members: &'static [Added],
     /// How many versions are left.
     pub left: u32,
+    /// What is played, in this order.
     pub parts: &'static [Part],
 }
 
@@ -60,6 +61,7 @@ pub fn play(rt: &(impl AllocGlobal + Abort), stories: &[Story]) {
     }
 }
 
+/// Plays the cases of each part on these versions.
 fn play_parts(rt: &impl Abort, alloc: Global, versions: &mut Versions, parts: &[Part]) {
     for (what, cases) in parts {
         for (row, case) in cases.iter().enumerate() {
@@ -109,6 +111,8 @@ fn is_outcome(
     let ask = ask_of(rt, alloc, step);
     let made = versions.submit(alloc, Some(token.as_bytes()), &ask);
     drop(ask);
+    let has_room = !matches!(&made, Err(SubmitFault::OutOfMemory));
+    has_memory(rt, has_room, "what is asked for");
     let mut telling = Telling::of(wanted);
     tell_outcome(rt, alloc, &mut telling, &made);
     drop(made);
@@ -132,6 +136,8 @@ fn is_made(
             wanted == DONE
         }
         Err(fault) => {
+            let has_room = !matches!(&fault, ChangeFault::OutOfMemory);
+            has_memory(rt, has_room, "a change");
             let mut telling = Telling::of(wanted);
             tell_fault(&mut telling, &fault);
             drop(fault);
@@ -142,7 +148,8 @@ fn is_made(
     }
 }
 
-/// Puts a policy in the place of the latest, which is dropped by `drop`: that is proved once, and not at each way out.
+/// Opens versions anew, with this policy alone and none left. Those before are handed to `drop`, which is proved once, and not at each
+/// way out.
 fn put(alloc: Global, versions: &mut Versions, policy: Policy) {
     drop(std::mem::replace(versions, Versions::open(alloc, policy, 0)));
 }

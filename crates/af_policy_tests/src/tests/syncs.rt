@@ -77,10 +77,10 @@ const LEFT: &[Story] = &[Story {
     members: THE_FIVE,
     left: 0,
     parts: &[
-        (DONE, EMPTY),
-        (A, &[Grants(BOB, A, Reads(true))]),
-        (B, &[Grants(BOB, B, Reads(false))]),
-        (POOLS, &[Grants(BOB, B, ReadsPools(true))]),
+        ("the sync is made", EMPTY),
+        ("a is read", &[Grants(BOB, A, Reads(true))]),
+        ("b is not read", &[Grants(BOB, B, Reads(false))]),
+        ("pools are read", &[Grants(BOB, B, ReadsPools(true))]),
     ],
 }];
 

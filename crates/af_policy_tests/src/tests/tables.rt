@@ -84,9 +84,9 @@ fn are_listed(rt: &impl Abort, alloc: Global, table: &Table<Word>) -> bool {
     let same = table
         .without(alloc, ABSENT.as_slice())
         .expect(rt, "the same table");
-    let len = same.len();
+    let left = same.len();
     drop(same);
-    count == 4096 && len == 4096
+    count == 4096 && left == 4096
 }
 
 /// Whether a search is short among all words, and among the upper half that is left of them.

@@ -2,7 +2,7 @@
 use crate::tests::telling::Telling;
 use crate::tests::words::{
     A_TEXT, BAD, BAD_BODY, BLANK, CLOSE, COLON, COMMA, DEFAULT_ROLE, DENIED, EXISTS, FULL,
-    LAST_ADMIN, NO_SUCH_ANSWER, NO_SUCH_ROLE, NO_SUCH_USER, OPEN, OUT_OF_MEMORY, ROLE_IN_USE,
+    LAST_ADMIN, NO_SUCH_ANSWER, NO_SUCH_ROLE, NO_SUCH_USER, OF, OPEN, OUT_OF_MEMORY, ROLE_IN_USE,
     SEMICOLON, TOO_MANY, UNAUTHENTICATED,
 };
 use af_policy::{
@@ -61,6 +61,7 @@ pub fn tell_outcome(
     }
 }
 
+/// A fault of what somebody asks for, but for that of the change.
 fn submit_word(fault: &SubmitFault) -> &'static str {
     match fault {
         SubmitFault::Unauthenticated => UNAUTHENTICATED,
@@ -92,6 +93,7 @@ pub fn tell_answer(
     }
 }
 
+/// Tells a page of roles: their names, and how many there are in all.
 fn tell_roles(
     rt: &impl Abort,
     alloc: Global,
@@ -102,9 +104,10 @@ fn tell_roles(
         telling.tell(role.name().as_str());
         telling.tell(SEMICOLON);
     }
-    tell_number(rt, alloc, telling, " of ", page.total());
+    tell_number(rt, alloc, telling, OF, page.total());
 }
 
+/// Tells a page of users, and how many there are in all.
 fn tell_users(
     rt: &impl Abort,
     alloc: Global,
@@ -114,7 +117,7 @@ fn tell_users(
     for user in page.rows() {
         tell_user(telling, user);
     }
-    tell_number(rt, alloc, telling, " of ", page.total());
+    tell_number(rt, alloc, telling, OF, page.total());
 }
 
 /// Tells a word, and a number behind it.
@@ -130,6 +133,7 @@ fn tell_number(
     telling.tell(text.as_str());
 }
 
+/// Tells a user, with the roles in parentheses.
 fn tell_user(telling: &mut Telling<'_>, user: &UserShown<'_>) {
     telling.tell(user.name().as_str());
     telling.tell(OPEN);
@@ -140,6 +144,7 @@ fn tell_user(telling: &mut Telling<'_>, user: &UserShown<'_>) {
     telling.tell(CLOSE);
 }
 
+/// A fault of a reading.
 fn read_word(fault: ReadFault) -> &'static str {
     match fault {
         ReadFault::Unauthenticated => UNAUTHENTICATED,

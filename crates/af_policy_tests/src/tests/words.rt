@@ -127,6 +127,8 @@ pub const NO_SUCH_USER: &str = "no such user";
 
 pub const NO_USER: &str = " of 5";
 
+pub const OF: &str = " of ";
+
 pub const ONLY_B: &str = "OnlyB";
 
 pub const ONLY_B_SHOWN: &str = "OnlyB: DAG:b.can_read,";
@@ -178,6 +180,8 @@ pub const UNAUTHENTICATED: &str = "unauthenticated";
 pub const UNKNOWN_ABSENT: &str = "unknown role: Nobody";
 
 pub const UNKNOWN_SKY: &str = "unknown role: Sky";
+
+pub const USERS: &str = "users";
 
 pub const VERA: &str = "vera";
 

@@ -37,19 +37,19 @@ fn has(page: &Page, places: &[usize], total: usize) -> bool {
     page.places() == places && page.total() == total
 }
 
-/// Ends the test at the first page that is not as it should be for a reader.
-fn are_pages(rt: &(impl AllocGlobal + Abort), rows: &[Row], who: Who) {
+/// Ends the test at the first of these pages that is not as it should be for a reader.
+fn are_pages(rt: &(impl AllocGlobal + Abort), rows: &[Row], who: Who, what: &str) {
     for (number, (letters, query, places, total)) in rows.iter().enumerate() {
         let page = page_of(rt, rt.alloc(), letters, query, who);
         let is_page = has(&page, places, *total);
         drop(page);
-        row_holds(rt, is_page, "pages", number);
+        row_holds(rt, is_page, what, number);
     }
 }
 
 #[test]
 fn pages_are_of_shown_rows(rt: HostRuntime) {
-    are_pages(&rt, PAGES, Who::Of("b"));
+    are_pages(&rt, PAGES, Who::Of("b"), "pages");
 }
 
 #[test]
@@ -118,6 +118,6 @@ const WHOLE_PAGES: &[Row] = &[
 
 #[test]
 fn who_reads_all_is_shown_the_list_itself(rt: HostRuntime) {
-    are_pages(&rt, WHOLE_PAGES, Who::All(true));
-    are_pages(&rt, WHOLE_PAGES, Who::All(false));
+    are_pages(&rt, WHOLE_PAGES, Who::All(true), "all, by one look");
+    are_pages(&rt, WHOLE_PAGES, Who::All(false), "all, row by row");
 }

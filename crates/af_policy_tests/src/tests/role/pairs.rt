@@ -1,15 +1,12 @@
-use crate::tests::asserts::row_holds;
-use crate::tests::steps::pair_texts;
+use crate::tests::asserts::{has_memory, row_holds};
+use crate::tests::steps::{Pairs, pair_texts};
 use crate::tests::telling::Telling;
 use af_role::{PairFault, read_pairs};
 use std::alloc::Global;
 use std::process::Abort;
 
-/// Texts of actions and resources.
-type Given = &'static [(&'static str, &'static str)];
-
 /// Permissions as they are given, and which set they are, or the fault that is told.
-const READ: &[(Given, &str)] = &[
+const READ: &[(Pairs, &str)] = &[
     (&[], ""),
     (
         &[
@@ -35,6 +32,7 @@ const READ: &[(Given, &str)] = &[
     (&[("", "DAGs")], "no action "),
 ];
 
+/// Tells a fault of permissions, with the texts that it names.
 fn tell_fault(telling: &mut Telling<'_>, fault: &PairFault) {
     match fault {
         PairFault::BadAction(text) => {
@@ -52,12 +50,14 @@ fn tell_fault(telling: &mut Telling<'_>, fault: &PairFault) {
 }
 
 /// Whether these texts, read from a copy of them, are this set, or this fault is told.
-fn is_read(rt: &impl Abort, alloc: Global, given: Given, wanted: &str) -> bool {
+fn is_read(rt: &impl Abort, alloc: Global, given: Pairs, wanted: &str) -> bool {
     let texts = pair_texts(rt, alloc, given);
     let copy = texts.copied(alloc).expect(rt, "a copy of permissions");
     drop(texts);
     let read = read_pairs(alloc, copy.as_slice());
     drop(copy);
+    let has_room = !matches!(&read, Err(PairFault::OutOfMemory));
+    has_memory(rt, has_room, "permissions");
     let mut telling = Telling::of(wanted);
     match &read {
         Ok(permissions) => telling.tell_permissions(rt, alloc, permissions),

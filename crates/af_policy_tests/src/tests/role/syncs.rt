@@ -1,7 +1,8 @@
 use super::permissions::role_of;
-use crate::tests::asserts::row_holds;
+use crate::tests::asserts::{has_memory, row_holds};
 use crate::tests::steps::{Access, access};
 use crate::tests::telling::Telling;
+use crate::tests::words::{BLANK, COLON};
 use af_names::DagId;
 use af_role::{AccessControl, Role, SyncFault, sync_access};
 use std::alloc::Global;
@@ -68,6 +69,7 @@ const SYNCS: &[Synced] = &[
     ),
 ];
 
+/// The roles before each sync.
 fn roles(rt: &impl Abort, alloc: Global) -> Vec<Role> {
     let mut roles = Vec::new(alloc);
     for (name, texts) in ROLES {
@@ -94,9 +96,9 @@ fn copied(rt: &impl Abort, alloc: Global, rows: Option<Access>) -> Option<Access
 fn tell_roles(rt: &impl Abort, alloc: Global, telling: &mut Telling<'_>, roles: &[Role]) {
     for role in roles {
         telling.tell(role.name().as_str());
-        telling.tell(": ");
+        telling.tell(COLON);
         telling.tell_permissions(rt, alloc, role.permissions());
-        telling.tell(" ");
+        telling.tell(BLANK);
     }
 }
 
@@ -124,6 +126,8 @@ fn is_synced(rt: &impl Abort, alloc: Global, row: Synced) -> bool {
     let done = sync_access(alloc, &mut roles, &dag, access.as_ref());
     drop(dag);
     drop(access);
+    let has_room = !matches!(&done, Err(SyncFault::OutOfMemory));
+    has_memory(rt, has_room, "a sync");
     let mut told = Telling::of(row.1);
     tell_done(&mut told, &done);
     drop(done);
