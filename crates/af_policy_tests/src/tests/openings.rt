@@ -1,13 +1,15 @@
-use crate::tests::changes::{crowd, people};
+//! Policies as they open, put together row by row: what is added, or why it is not.
+use crate::tests::asserts::{has_memory, row_holds};
+use crate::tests::role::permissions::role_of;
+use crate::tests::steps::{Pairs, Roles};
 use crate::tests::words::{
-    ADAM, ADAMS, ADMIN, B, BOB, BOBS, EDIT_B, EDNA, EDNAS, NO_SUCH_PERMISSION, ONLY_B, PAT, PATS,
-    PUBLIC, VERA, VERAS, VIEWER,
+    ADAM, ADAMS, ADMIN, BOB, BOBS, CAN_EDIT, CAN_READ, DAG_B, EDIT_B, EDNA, EDNAS, FIVE, ONLY_B,
+    PAT, PATS, POOLS, PUBLIC, VERA, VERAS, VIEWER,
 };
-use af_names::{DagId, RoleName, UserName};
-use af_policy::{Policy, PolicyDraft, User};
-use af_role::{Action, Pair, Permissions, Resource, ResourceKind, Role};
+use af_names::{Name, NameKind, UserName};
+use af_policy::{FinishFault, Policy, PolicyDraft, RowFault, User};
 use std::alloc::Global;
-use std::test::Fail;
+use std::process::Abort;
 
 /// The SHA-256 of `admin`.
 const OF_ADAM: [u8; 32] = [
@@ -61,130 +63,117 @@ pub fn digest_of(token: &str) -> [u8; 32] {
     OF_NOBODY
 }
 
-/// The users: a name, a token, and roles. They stand in another order than that of their names.
-const USERS: &[(&str, &str, &[&str])] = &[
-    (VERA, VERAS, &[VIEWER]),
-    (BOB, BOBS, &[ONLY_B]),
-    (ADAM, ADAMS, &[ADMIN]),
-    (PAT, PATS, &[PUBLIC]),
-    (EDNA, EDNAS, &[VIEWER, EDIT_B]),
-];
-
-/// The roles beside the default ones: a name, and actions on the DAG b.
-const ROLES: &[(&str, Action)] = &[(ONLY_B, Action::Read), (EDIT_B, Action::Edit)];
-
-/// The role of this name with one action on one DAG.
-pub fn role_on(alloc: Global, name: &str, action: Action, dag: &str) -> Result<Role, Fail> {
-    let dag = DagId::parse(alloc, dag)?;
-    role_of(alloc, name, action, Resource::Dag(dag))
-}
-
-/// The role of this name with one action on a whole kind.
-pub fn role_over(alloc: Global, name: &str, kind: ResourceKind) -> Result<Role, Fail> {
-    role_of(alloc, name, Action::Read, Resource::Kind(kind))
-}
-
-fn role_of(alloc: Global, name: &str, action: Action, resource: Resource) -> Result<Role, Fail> {
-    let permissions = permissions_of(alloc, action, resource)?;
-    Ok(Role::new(RoleName::parse(alloc, name)?, permissions))
-}
-
-fn permissions_of(alloc: Global, action: Action, resource: Resource) -> Result<Permissions, Fail> {
-    let mut permissions = Permissions::new(alloc);
-    add_permission(&mut permissions, action, resource)?;
-    Ok(permissions)
-}
-
-fn add_permission(
-    permissions: &mut Permissions,
-    action: Action,
-    resource: Resource,
-) -> Result<(), Fail> {
-    match Pair::new(action, resource) {
-        Some(pair) => Ok(permissions.add(pair)?),
-        None => Err(Fail::new(NO_SUCH_PERMISSION)),
-    }
-}
-
-/// Names of roles.
-pub fn names(alloc: Global, texts: &[&str]) -> Result<Vec<RoleName>, Fail> {
+/// Names of a kind.
+pub fn names<K: NameKind>(rt: &impl Abort, alloc: Global, texts: &[&str]) -> Vec<Name<K>> {
     let mut names = Vec::new(alloc);
     for text in texts {
-        names.push(RoleName::parse(alloc, text)?)?;
+        let name = Name::parse(alloc, text).expect(rt, "a name");
+        names.push(name).expect(rt, "room for a name");
     }
-    Ok(names)
+    names
 }
 
-/// The user of this name, this token and these roles.
-pub fn user(alloc: Global, name: &str, token: &str, roles: &[&str]) -> Result<User, Fail> {
-    let name = UserName::parse(alloc, name)?;
-    Ok(User::new(name, digest_of(token), names(alloc, roles)?))
+/// The user of this name, this digest and these roles.
+pub fn user_of(
+    rt: &impl Abort,
+    alloc: Global,
+    name: &str,
+    digest: [u8; 32],
+    roles: &[&str],
+) -> User {
+    let name = UserName::parse(alloc, name).expect(rt, "the name of a user");
+    User::new(name, digest, names(rt, alloc, roles))
 }
 
-/// Who there is.
+/// What is added to a policy that opens.
 #[derive(Clone, Copy)]
-pub enum Members {
-    /// vera is a Viewer, bob reads the DAG b, adam is the one Admin, pat has no permission, edna is a Viewer who edits b.
-    Five,
-    /// adam, the one Admin, and so many roles beside the default ones.
-    Roles(u32),
-    /// adam, the one Admin, and so many users beside him.
-    Users(u32),
+pub enum Row {
+    /// A role with these permissions.
+    Role(&'static str, Pairs),
+    /// A user, with a token and roles.
+    User(&'static str, &'static str, Roles),
+    /// The role of a number.
+    RoleOfNumber,
+    /// The user of a number below 65,536 times 256, whose digest has its three lower bytes behind its first.
+    UserOfNumber,
 }
 
-/// The policy of these members.
-pub fn policy_of(alloc: Global, members: Members) -> Result<Policy, Fail> {
-    let mut draft = PolicyDraft::new(alloc)?;
-    match add_members(alloc, &mut draft, members) {
-        Ok(()) => Ok(draft.finish(alloc)?),
-        Err(fault) => {
-            drop(draft);
-            Err(fault)
+/// What is added is part of this; what it is, each number from 0 of so many; and why each is not added.
+pub type Added = (&'static str, Row, u32, Option<RowFault>);
+
+/// adam, the one Admin.
+pub const ADAM_ALONE: Added = (ADAM, Row::User(ADAM, ADAMS, &[ADMIN]), 1, None);
+
+/// vera is a Viewer, bob reads the DAG b, adam is the one Admin, pat has no permission, edna is a Viewer who edits b. The users
+/// stand in another order than that of their names.
+pub const THE_FIVE: &[Added] = &[
+    (FIVE, Row::Role(ONLY_B, &[(CAN_READ, DAG_B)]), 1, None),
+    (FIVE, Row::Role(EDIT_B, &[(CAN_EDIT, DAG_B)]), 1, None),
+    (FIVE, Row::User(VERA, VERAS, &[VIEWER]), 1, None),
+    (FIVE, Row::User(BOB, BOBS, &[ONLY_B]), 1, None),
+    ADAM_ALONE,
+    (FIVE, Row::User(PAT, PATS, &[PUBLIC]), 1, None),
+    (FIVE, Row::User(EDNA, EDNAS, &[VIEWER, EDIT_B]), 1, None),
+];
+
+/// A word, and a number behind it.
+fn numbered(rt: &impl Abort, alloc: Global, word: &str, number: u32) -> String {
+    format!(in alloc; "{word} {number}").expect(rt, "the text of a number")
+}
+
+/// A digest that no other number has.
+fn member_digest(number: u32) -> [u8; 32] {
+    let mut digest: [u8; 32] = [255; 32];
+    let bytes = number.to_be_bytes();
+    digest[1] = bytes[1];
+    digest[2] = bytes[2];
+    digest[3] = bytes[3];
+    digest
+}
+
+/// Adds what a row says, of a number: why it is not added.
+fn fault_of(
+    rt: &impl Abort,
+    alloc: Global,
+    draft: &mut PolicyDraft,
+    row: Row,
+    number: u32,
+) -> Option<RowFault> {
+    match row {
+        Row::Role(name, pairs) => draft.add_role(role_of(rt, alloc, name, pairs)).err(),
+        Row::RoleOfNumber => {
+            let name = numbered(rt, alloc, "role", number);
+            let role = role_of(rt, alloc, name.as_str(), &[(CAN_READ, POOLS)]);
+            drop(name);
+            draft.add_role(role).err()
+        }
+        Row::User(name, token, roles) => {
+            let user = user_of(rt, alloc, name, digest_of(token), roles);
+            draft.add_user(alloc, user).err()
+        }
+        Row::UserOfNumber => {
+            let name = numbered(rt, alloc, "user", number);
+            let user = user_of(rt, alloc, name.as_str(), member_digest(number), &[VIEWER]);
+            drop(name);
+            draft.add_user(alloc, user).err()
         }
     }
 }
 
-/// The policy of the five.
-pub fn policy(alloc: Global) -> Result<Policy, Fail> {
-    policy_of(alloc, Members::Five)
-}
-
-fn add_members(alloc: Global, draft: &mut PolicyDraft, members: Members) -> Result<(), Fail> {
-    match members {
-        Members::Five => add_five(alloc, draft),
-        Members::Roles(count) => crowd(alloc, draft, count),
-        Members::Users(count) => people(alloc, draft, count),
+/// Adds what these rows say, in their order: each is added or refused as it says.
+fn fill(rt: &impl Abort, alloc: Global, draft: &mut PolicyDraft, rows: &[Added]) {
+    for (place, (what, row, times, wanted)) in rows.iter().enumerate() {
+        for number in 0..*times {
+            let fault = fault_of(rt, alloc, draft, *row, number);
+            has_memory(rt, fault != Some(RowFault::OutOfMemory), what);
+            row_holds(rt, fault == *wanted, what, place);
+        }
     }
 }
 
-fn add_five(alloc: Global, draft: &mut PolicyDraft) -> Result<(), Fail> {
-    add_roles(alloc, draft)?;
-    add_users(alloc, draft)
-}
-
-fn add_roles(alloc: Global, draft: &mut PolicyDraft) -> Result<(), Fail> {
-    for (name, action) in ROLES {
-        let role = role_on(alloc, name, *action, B)?;
-        draft.add_role(role)?;
-    }
-    Ok(())
-}
-
-fn add_users(alloc: Global, draft: &mut PolicyDraft) -> Result<(), Fail> {
-    for (name, token, roles) in USERS {
-        add_user(alloc, draft, name, token, roles)?;
-    }
-    Ok(())
-}
-
-/// Adds the user of this name, this token and these roles.
-pub fn add_user(
-    alloc: Global,
-    draft: &mut PolicyDraft,
-    name: &str,
-    token: &str,
-    roles: &[&str],
-) -> Result<(), Fail> {
-    let user = user(alloc, name, token, roles)?;
-    Ok(draft.add_user(alloc, user)?)
+/// What comes of a draft with these rows.
+pub fn finished(rt: &impl Abort, alloc: Global, rows: &[Added]) -> Result<Policy, FinishFault> {
+    let mut draft = PolicyDraft::new(alloc).expect(rt, "a draft of a policy");
+    fill(rt, alloc, &mut draft, rows);
+    draft.finish(alloc)
 }

@@ -3,15 +3,5 @@
 mod defaults;
 mod needs;
 mod pairs;
-mod permissions;
+pub mod permissions;
 mod syncs;
-
-use crate::tests::reads::add_permissions;
-use af_role::Permissions;
-use std::alloc::{AllocError, Global};
-
-fn listed(alloc: Global, permissions: &Permissions) -> Result<String, AllocError> {
-    let mut text = String::new(alloc);
-    add_permissions(alloc, &mut text, permissions)?;
-    Ok(text)
-}

@@ -1,242 +1,180 @@
-use crate::tests::openings::{digest_of, names, user};
-use crate::tests::words::{
-    A_TEXT, B, DEFAULT_ROLE, DONE, EXISTS, LAST_ADMIN, NO_SUCH_ROLE, NO_SUCH_USER, NOBODY,
-    OUT_OF_MEMORY, ROLE_IN_USE, TOO_MANY,
-};
+use crate::tests::openings::{digest_of, names, user_of};
+use crate::tests::words::{B, NOBODY};
 use af_names::{DagId, RoleName, UserName};
-use af_policy::{Change, ChangeFault, DagAccess, Policy, RoleInput, RoleNames, UserPatch};
+use af_policy::{Ask, BadInput, Change, ChangeKind, DagAccess, RoleInput, RoleNames, UserPatch};
 use af_role::{AccessControl, AccessRow, PairText, PairTexts, Text, Texts};
-use std::alloc::{AllocError, Global};
-use std::test::Fail;
+use std::alloc::Global;
+use std::process::Abort;
 
-/// A change of a policy.
+/// Permissions, as texts of actions and resources.
+pub type Pairs = &'static [(&'static str, &'static str)];
+
+/// Access control: roles and their actions.
+pub type Access = &'static [(&'static str, &'static [&'static str])];
+
+/// Names of roles.
+pub type Roles = &'static [&'static str];
+
+/// A change of a policy, or what is asked for in place of one.
 #[derive(Clone, Copy)]
 pub enum Step {
-    /// A further role with these permissions, as texts of actions and resources.
-    AddRole(&'static str, &'static [(&'static str, &'static str)]),
+    /// A further role with these permissions.
+    AddRole(&'static str, Pairs),
     /// These permissions in place of all that a role has.
-    SetRole(&'static str, &'static [(&'static str, &'static str)]),
+    SetRole(&'static str, Pairs),
     DropRole(&'static str),
     /// A further user, with a token and roles.
-    AddUser(&'static str, &'static str, &'static [&'static str]),
+    AddUser(&'static str, &'static str, Roles),
     /// Other roles of a user.
-    SetRoles(&'static str, &'static [&'static str]),
+    SetRoles(&'static str, Roles),
     /// Another token of a user.
     SetToken(&'static str, &'static str),
     /// Another token and other roles of a user.
-    SetBoth(&'static str, &'static str, &'static [&'static str]),
+    SetBoth(&'static str, &'static str, Roles),
     DropUser(&'static str),
     /// The DAG b without access control.
     Unlisted,
-    /// The access control of the DAG b: roles and actions.
-    Sync(&'static [(&'static str, &'static [&'static str])]),
+    /// The access control of the DAG b.
+    Sync(Access),
+    /// A kind of change, with a body that is none: of what is asked for alone.
+    Badly(ChangeKind),
 }
 
-fn text(alloc: Global, text: &str) -> Result<Text, Fail> {
-    Ok(Text::new(String::from_str(alloc, text)?))
-}
-
-fn role(alloc: Global, name: &str, pairs: &[(&str, &str)]) -> Result<RoleInput, Fail> {
-    let name = RoleName::parse(alloc, name)?;
-    let actions = pair_texts(alloc, pairs)?;
-    Ok(RoleInput { name, actions })
+/// The text of these letters.
+fn text(rt: &impl Abort, alloc: Global, text: &str) -> Text {
+    Text::new(String::from_str(alloc, text).expect(rt, "a text"))
 }
 
 /// Texts of actions and resources.
-pub fn pair_texts(alloc: Global, pairs: &[(&str, &str)]) -> Result<PairTexts, Fail> {
+pub fn pair_texts(rt: &impl Abort, alloc: Global, pairs: &[(&str, &str)]) -> PairTexts {
     let mut items = Vec::new(alloc);
     for (action, resource) in pairs {
-        add_pair(alloc, &mut items, action, resource)?;
+        let action = text(rt, alloc, action);
+        let resource = text(rt, alloc, resource);
+        items
+            .push(PairText { action, resource })
+            .expect(rt, "room for a permission");
     }
-    Ok(PairTexts::of(items))
+    PairTexts::of(items)
 }
 
-fn add_pair(
-    alloc: Global,
-    items: &mut Vec<PairText>,
-    action: &str,
-    resource: &str,
-) -> Result<(), Fail> {
-    let item = pair_text(alloc, action, resource)?;
-    Ok(items.push(item)?)
+/// The name of a role.
+fn role_name(rt: &impl Abort, alloc: Global, name: &str) -> RoleName {
+    RoleName::parse(alloc, name).expect(rt, "the name of a role")
 }
 
-fn pair_text(alloc: Global, action: &str, resource: &str) -> Result<PairText, Fail> {
-    let action = text(alloc, action)?;
-    let resource = text(alloc, resource)?;
-    Ok(PairText { action, resource })
+/// The name of a user.
+fn user_name(rt: &impl Abort, alloc: Global, name: &str) -> UserName {
+    UserName::parse(alloc, name).expect(rt, "the name of a user")
 }
 
-fn patch(
-    alloc: Global,
-    name: &str,
-    token: Option<&str>,
-    roles: Option<&[&str]>,
-) -> Result<Change, Fail> {
-    let digest = maybe_digest(token);
-    let name = UserName::parse(alloc, name)?;
-    let roles = maybe_names(alloc, roles)?;
-    Ok(Change::SetUser(UserPatch {
-        name,
-        digest,
-        roles,
-    }))
+/// A role with these permissions.
+fn role(rt: &impl Abort, alloc: Global, name: &str, pairs: &[(&str, &str)]) -> RoleInput {
+    RoleInput {
+        name: role_name(rt, alloc, name),
+        actions: pair_texts(rt, alloc, pairs),
+    }
 }
 
-fn maybe_digest(token: Option<&str>) -> Option<[u8; 32]> {
-    match token {
-        Some(token) => Some(digest_of(token)),
+/// The access control of these rows, or none.
+pub fn access(rt: &impl Abort, alloc: Global, rows: Option<Access>) -> Option<AccessControl> {
+    match rows {
+        Some(rows) => Some(AccessControl::new(access_rows(rt, alloc, rows))),
         None => None,
     }
 }
 
-fn maybe_names(alloc: Global, roles: Option<&[&str]>) -> Result<Option<RoleNames>, Fail> {
-    match roles {
-        Some(roles) => Ok(Some(RoleNames::of(names(alloc, roles)?))),
-        None => Ok(None),
-    }
-}
-
-/// The access control of these rows: roles, and their actions.
-pub fn access(alloc: Global, rows: &[(&str, &[&str])]) -> Result<AccessControl, Fail> {
+/// Roles and their actions.
+fn access_rows(rt: &impl Abort, alloc: Global, rows: Access) -> Vec<AccessRow> {
     let mut access = Vec::new(alloc);
     for (role, actions) in rows {
-        add_access(alloc, &mut access, role, actions)?;
+        let role = role_name(rt, alloc, role);
+        let actions = texts(rt, alloc, actions);
+        access
+            .push(AccessRow { role, actions })
+            .expect(rt, "room for a role's actions");
     }
-    Ok(AccessControl::new(access))
+    access
 }
 
-fn add_access(
-    alloc: Global,
-    access: &mut Vec<AccessRow>,
-    role: &str,
-    actions: &[&str],
-) -> Result<(), Fail> {
-    let row = access_row(alloc, role, actions)?;
-    Ok(access.push(row)?)
-}
-
-fn access_row(alloc: Global, role: &str, actions: &[&str]) -> Result<AccessRow, Fail> {
-    let role = RoleName::parse(alloc, role)?;
-    let actions = texts(alloc, actions)?;
-    Ok(AccessRow { role, actions })
-}
-
-fn texts(alloc: Global, items: &[&str]) -> Result<Texts, Fail> {
+/// These texts, in their order.
+fn texts(rt: &impl Abort, alloc: Global, items: &[&str]) -> Texts {
     let mut texts = Vec::new(alloc);
     for item in items {
-        add_text(alloc, &mut texts, item)?;
+        texts
+            .push(text(rt, alloc, item))
+            .expect(rt, "room for a text");
     }
-    Ok(Texts::of(texts))
+    Texts::of(texts)
 }
 
-fn add_text(alloc: Global, texts: &mut Vec<Text>, item: &str) -> Result<(), Fail> {
-    let text = text(alloc, item)?;
-    Ok(texts.push(text)?)
-}
-
-fn sync(alloc: Global, access: Option<AccessControl>) -> Result<Change, Fail> {
-    let dag = DagId::parse(alloc, B)?;
-    Ok(Change::SyncDag(DagAccess { dag, access }))
+/// The access control of the DAG b taken over.
+fn sync(rt: &impl Abort, alloc: Global, rows: Option<Access>) -> Change {
+    Change::SyncDag(DagAccess {
+        dag: DagId::parse(alloc, B).expect(rt, "the id of a DAG"),
+        access: access(rt, alloc, rows),
+    })
 }
 
 /// The change of a step.
-pub fn change_of(alloc: Global, step: Step) -> Result<Change, Fail> {
+fn change_of(rt: &impl Abort, alloc: Global, step: Step) -> Change {
     match step {
-        Step::AddRole(name, pairs) => Ok(Change::AddRole(role(alloc, name, pairs)?)),
-        Step::SetRole(name, pairs) => Ok(Change::SetRole(role(alloc, name, pairs)?)),
-        Step::DropRole(name) => Ok(Change::DropRole(RoleName::parse(alloc, name)?)),
-        Step::Unlisted => sync(alloc, None),
-        Step::Sync(rows) => sync(alloc, Some(access(alloc, rows)?)),
-        _ => change_of_user(alloc, step),
+        Step::AddRole(name, pairs) => Change::AddRole(role(rt, alloc, name, pairs)),
+        Step::SetRole(name, pairs) => Change::SetRole(role(rt, alloc, name, pairs)),
+        Step::DropRole(name) => Change::DropRole(role_name(rt, alloc, name)),
+        Step::Unlisted => sync(rt, alloc, None),
+        Step::Sync(rows) => sync(rt, alloc, Some(rows)),
+        Step::AddUser(name, token, roles) => {
+            Change::AddUser(user_of(rt, alloc, name, digest_of(token), roles))
+        }
+        Step::DropUser(name) => Change::DropUser(user_name(rt, alloc, name)),
+        _ => Change::SetUser(patch(rt, alloc, step)),
     }
 }
 
-/// The change of a step about a user.
-fn change_of_user(alloc: Global, step: Step) -> Result<Change, Fail> {
+/// What a step changes of a user.
+fn patch(rt: &impl Abort, alloc: Global, step: Step) -> UserPatch {
     match step {
-        Step::AddUser(name, token, roles) => Ok(Change::AddUser(user(alloc, name, token, roles)?)),
-        Step::SetRoles(name, roles) => patch(alloc, name, None, Some(roles)),
-        Step::SetToken(name, token) => patch(alloc, name, Some(token), None),
-        Step::SetBoth(name, token, roles) => patch(alloc, name, Some(token), Some(roles)),
-        Step::DropUser(name) => Ok(Change::DropUser(UserName::parse(alloc, name)?)),
-        _ => patch(alloc, NOBODY, None, None),
+        Step::SetRoles(name, roles) => UserPatch {
+            name: user_name(rt, alloc, name),
+            digest: None,
+            roles: Some(role_names(rt, alloc, roles)),
+        },
+        Step::SetToken(name, token) => UserPatch {
+            name: user_name(rt, alloc, name),
+            digest: Some(digest_of(token)),
+            roles: None,
+        },
+        Step::SetBoth(name, token, roles) => UserPatch {
+            name: user_name(rt, alloc, name),
+            digest: Some(digest_of(token)),
+            roles: Some(role_names(rt, alloc, roles)),
+        },
+        _ => UserPatch {
+            name: user_name(rt, alloc, NOBODY),
+            digest: None,
+            roles: None,
+        },
     }
 }
 
-/// A fault as it is told, with the text that it names.
-pub fn told(alloc: Global, fault: &ChangeFault) -> Result<String, AllocError> {
-    match fault {
-        ChangeFault::BadAction(text) => told_of_action(alloc, text.as_str()),
-        ChangeFault::PairNotAllowed(pair) => told_of_pair(alloc, pair),
-        ChangeFault::UnknownRole(name) => format!(in alloc; "unknown role: {name}"),
-        _ => String::from_str(alloc, word(fault)),
-    }
-}
-
-fn told_of_action(alloc: Global, action: &str) -> Result<String, AllocError> {
-    format!(in alloc; "bad action: {action}")
-}
-
-fn told_of_pair(alloc: Global, pair: &PairText) -> Result<String, AllocError> {
-    let action = pair.action.as_str();
-    let resource = pair.resource.as_str();
-    format!(in alloc; "not allowed: {resource}.{action}")
-}
-
-/// A fault that names no text.
-fn word(fault: &ChangeFault) -> &'static str {
-    match fault {
-        ChangeFault::NoSuchRole => NO_SUCH_ROLE,
-        ChangeFault::NoSuchUser => NO_SUCH_USER,
-        ChangeFault::DefaultRole => DEFAULT_ROLE,
-        ChangeFault::Exists => EXISTS,
-        ChangeFault::RoleInUse => ROLE_IN_USE,
-        ChangeFault::LastAdmin => LAST_ADMIN,
-        ChangeFault::TooMany => TOO_MANY,
-        ChangeFault::OutOfMemory => OUT_OF_MEMORY,
-        _ => A_TEXT,
-    }
+/// Names of roles, as a user has them.
+fn role_names(rt: &impl Abort, alloc: Global, roles: Roles) -> RoleNames {
+    RoleNames::of(names(rt, alloc, roles))
 }
 
 /// A copy of the change of a step.
-fn copied(alloc: Global, step: Step) -> Result<Change, Fail> {
-    let change = change_of(alloc, step)?;
-    let copy = change.copy(alloc);
+pub fn copied(rt: &impl Abort, alloc: Global, step: Step) -> Change {
+    let change = change_of(rt, alloc, step);
+    let copy = change.copy(alloc).expect(rt, "a copy of a change");
     drop(change);
-    Ok(copy?)
+    copy
 }
 
-/// What is told of a change, and the policy that it leaves in place of the one before.
-fn change_by(alloc: Global, policy: &mut Policy, change: &Change) -> Result<String, AllocError> {
-    match policy.changed(alloc, change) {
-        Ok(later) => put(alloc, policy, later),
-        Err(fault) => keep(alloc, policy, &fault),
+/// What a step asks for.
+pub fn ask_of(rt: &impl Abort, alloc: Global, step: Step) -> Ask {
+    match step {
+        Step::Badly(kind) => Ask::Bad(kind, BadInput::Body),
+        _ => Ask::Made(change_of(rt, alloc, step)),
     }
-}
-
-/// What is told of a change that is made, and the policy that it leaves in place of the one before.
-fn put(alloc: Global, policy: &mut Policy, later: Policy) -> Result<String, AllocError> {
-    replace(policy, later);
-    String::from_str(alloc, DONE)
-}
-
-/// What is told of a fault, and a copy of the policy in its place.
-fn keep(alloc: Global, policy: &mut Policy, fault: &ChangeFault) -> Result<String, AllocError> {
-    let copy = policy.copy()?;
-    replace(policy, copy);
-    told(alloc, fault)
-}
-
-/// Puts a policy in the place of another, which is dropped by `drop`: that is proved once, and not at each way out.
-fn replace(policy: &mut Policy, later: Policy) {
-    drop(std::mem::replace(policy, later));
-}
-
-/// Makes the change of a step of a policy: what is told of it.
-pub fn take(alloc: Global, policy: &mut Policy, step: Step) -> Result<String, Fail> {
-    let change = copied(alloc, step)?;
-    let told = change_by(alloc, policy, &change);
-    drop(change);
-    Ok(told?)
 }

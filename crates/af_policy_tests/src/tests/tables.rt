@@ -1,8 +1,8 @@
 //! Tables that share rows: what a change leaves of the table before it, and how long a search is.
 use crate::tests::asserts::holds;
 use af_policy::{Row, Table, front};
-use std::alloc::{AllocError, Global};
-use std::test::Fail;
+use std::alloc::{AllocError, AllocGlobal, Global};
+use std::process::Abort;
 
 /// A word, which is its own key.
 #[derive(Drop)]
@@ -27,16 +27,16 @@ impl Row for Word {
 }
 
 /// The table of the words of two bytes whose first is below 16, put in by rising or by falling order.
-fn words(alloc: Global, falling: bool) -> Result<Table<Word>, AllocError> {
+fn words(rt: &impl Abort, alloc: Global, falling: bool) -> Table<Word> {
     let mut table = Table::new();
     for k in 0..4096u16 {
         let place = if falling { 4095 - k } else { k };
         let word = Word {
             bytes: place.to_be_bytes(),
         };
-        table.put(alloc, word)?;
+        table.put(alloc, word).expect(rt, "room for a word");
     }
-    Ok(table)
+    table
 }
 
 const TAKEN: [u8; 2] = [3, 7];
@@ -54,20 +54,21 @@ fn shown(table: &Table<Word>) -> (usize, bool, bool, bool) {
     (table.len(), taken, beside, table.has(ADDED.as_slice()))
 }
 
-/// A table without the word that is taken out, and that table with the one that is added.
-fn changed(alloc: Global, old: &Table<Word>) -> Result<(Table<Word>, Table<Word>), AllocError> {
-    let less = old.without(alloc, TAKEN.as_slice())?;
-    let more = less.with(alloc, Word { bytes: ADDED })?;
-    Ok((less, more))
-}
-
-/// Whether a table is left as it was by changes that make two further ones of it.
-fn is_left(alloc: Global, falling: bool) -> Result<bool, AllocError> {
-    let old = words(alloc, falling)?;
-    let was = shown(&old);
-    let (less, more) = changed(alloc, &old)?;
-    let is_old = was == (4096, true, true, false) && shown(&old) == (4096, true, true, false);
-    Ok(is_old && are_changed(&less, &more))
+/// Whether a table is left as it was by changes that make two further ones of it: one without the word that is taken out, and of
+/// that one with the word that is added.
+fn is_left(rt: &impl Abort, alloc: Global, old: &Table<Word>) -> bool {
+    let was = shown(old);
+    let less = old
+        .without(alloc, TAKEN.as_slice())
+        .expect(rt, "a table with one word less");
+    let more = less
+        .with(alloc, Word { bytes: ADDED })
+        .expect(rt, "a table with one word more");
+    let are_changed = are_changed(&less, &more);
+    drop(less);
+    drop(more);
+    let is_old = was == (4096, true, true, false) && shown(old) == (4096, true, true, false);
+    is_old && are_changed
 }
 
 /// Whether the one table is without the word that is taken out, and the other has also the one that is added.
@@ -75,56 +76,70 @@ fn are_changed(less: &Table<Word>, more: &Table<Word>) -> bool {
     shown(less) == (4095, false, true, false) && shown(more) == (4096, false, true, true)
 }
 
+/// Whether all words are listed, and stay where one that is absent is taken out.
+fn are_listed(rt: &impl Abort, alloc: Global, table: &Table<Word>) -> bool {
+    let rows = table.rows(alloc).expect(rt, "the words");
+    let count = rows.len();
+    drop(rows);
+    let same = table
+        .without(alloc, ABSENT.as_slice())
+        .expect(rt, "the same table");
+    let left = same.len();
+    drop(same);
+    count == 4096 && left == 4096
+}
+
+/// Whether a search is short among all words, and among the upper half that is left of them.
+fn is_short(rt: &impl Abort, alloc: Global, table: &mut Table<Word>) -> bool {
+    let height = table.height();
+    for k in 0..2048u16 {
+        table
+            .remove(alloc, k.to_be_bytes().as_slice())
+            .expect(rt, "a table with one word less");
+    }
+    height <= 18 && table.len() == 2048 && table.height() <= 16
+}
+
+/// What is looked at in a table.
+#[derive(Clone, Copy)]
+enum Look {
+    /// What changes of it leave.
+    Left,
+    /// All its words.
+    Listed,
+    /// How long a search is.
+    Short,
+}
+
 /// Words are put in by rising order, and by falling order.
 const ORDERS: &[bool] = &[false, true];
 
-#[test]
-fn a_change_leaves_the_older_version(rt: HostRuntime) -> Result<(), Fail> {
+/// Ends the test where this is otherwise of a table of all words.
+fn are_so(rt: &(impl AllocGlobal + Abort), look: Look, what: &str) {
+    let alloc = rt.alloc();
     for falling in ORDERS {
-        let is_left = is_left(rt.alloc(), *falling)?;
-        holds(&rt, is_left, "the tables");
+        let mut table = words(rt, alloc, *falling);
+        let is_so = match look {
+            Look::Left => is_left(rt, alloc, &table),
+            Look::Listed => are_listed(rt, alloc, &table),
+            Look::Short => is_short(rt, alloc, &mut table),
+        };
+        drop(table);
+        holds(rt, is_so, what);
     }
-    Ok(())
-}
-
-/// Whether all words are listed, and stay where one that is absent is taken out.
-fn are_listed(alloc: Global, falling: bool) -> Result<bool, AllocError> {
-    let table = words(alloc, falling)?;
-    let count = table.rows(alloc)?.len();
-    let same = table.without(alloc, ABSENT.as_slice())?;
-    Ok(count == 4096 && same.len() == 4096)
 }
 
 #[test]
-fn all_words_are_listed(rt: HostRuntime) -> Result<(), Fail> {
-    for falling in ORDERS {
-        let are_listed = are_listed(rt.alloc(), *falling)?;
-        holds(&rt, are_listed, "the words");
-    }
-    Ok(())
-}
-
-/// Takes the lower half of the words out.
-fn halve(alloc: Global, table: &mut Table<Word>) -> Result<(), AllocError> {
-    for k in 0..2048u16 {
-        table.remove(alloc, k.to_be_bytes().as_slice())?;
-    }
-    Ok(())
-}
-
-/// Whether a search is short among all words, and among the half that is left of them.
-fn is_short(alloc: Global, falling: bool) -> Result<bool, AllocError> {
-    let mut table = words(alloc, falling)?;
-    let height = table.height();
-    halve(alloc, &mut table)?;
-    Ok(height <= 18 && table.len() == 2048 && table.height() <= 16)
+fn a_change_leaves_the_older_version(rt: HostRuntime) {
+    are_so(&rt, Look::Left, "the tables");
 }
 
 #[test]
-fn a_search_is_short(rt: HostRuntime) -> Result<(), Fail> {
-    for falling in ORDERS {
-        let is_short = is_short(rt.alloc(), *falling)?;
-        holds(&rt, is_short, "the height");
-    }
-    Ok(())
+fn all_words_are_listed(rt: HostRuntime) {
+    are_so(&rt, Look::Listed, "the words");
+}
+
+#[test]
+fn a_search_is_short(rt: HostRuntime) {
+    are_so(&rt, Look::Short, "the height");
 }

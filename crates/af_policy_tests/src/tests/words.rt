@@ -85,6 +85,8 @@ pub const EVE: &str = "eve";
 
 pub const EXISTS: &str = "exists";
 
+pub const FIVE: &str = "the five";
+
 pub const FIRST_USER: &str = "adam(Admin,) of 5";
 
 pub const FLY: &str = "fly";
@@ -124,6 +126,8 @@ pub const NO_SUCH_ROLE: &str = "no such role";
 pub const NO_SUCH_USER: &str = "no such user";
 
 pub const NO_USER: &str = " of 5";
+
+pub const OF: &str = " of ";
 
 pub const ONLY_B: &str = "OnlyB";
 
@@ -176,6 +180,8 @@ pub const UNAUTHENTICATED: &str = "unauthenticated";
 pub const UNKNOWN_ABSENT: &str = "unknown role: Nobody";
 
 pub const UNKNOWN_SKY: &str = "unknown role: Sky";
+
+pub const USERS: &str = "users";
 
 pub const VERA: &str = "vera";
 

@@ -28,7 +28,7 @@ fn is_read(query: &[u8], limit: usize, offset: usize) -> bool {
 #[test]
 fn queries_are_read(rt: HostRuntime) {
     for (row, (query, limit, offset)) in READ.iter().enumerate() {
-        row_holds(&rt, is_read(query, *limit, *offset), row);
+        row_holds(&rt, is_read(query, *limit, *offset), "queries", row);
     }
 }
 
@@ -48,6 +48,6 @@ const FAULTY: &[(&[u8], Parameter)] = &[
 #[test]
 fn faulty_parameters_are_named(rt: HostRuntime) {
     for (row, (query, parameter)) in FAULTY.iter().enumerate() {
-        row_holds(&rt, Window::read(query) == Err(*parameter), row);
+        row_holds(&rt, Window::read(query) == Err(*parameter), "queries", row);
     }
 }

@@ -2,7 +2,7 @@ use af_listing::{Listed, Page, Window, page};
 use af_names::DagId;
 use af_policy::Reader;
 use std::alloc::Global;
-use std::test::Fail;
+use std::process::Abort;
 
 /// A row that names a DAG, or none.
 #[derive(Drop)]
@@ -20,7 +20,7 @@ impl Listed for Row {
 
 /// Who reads one DAG.
 #[derive(Drop)]
-pub struct ReaderOf {
+struct ReaderOf {
     dag: DagId,
 }
 
@@ -39,17 +39,10 @@ impl Reader for ReaderOf {
     }
 }
 
-/// Who reads the DAG of this id.
-pub fn reader_of(alloc: Global, dag: &str) -> Result<ReaderOf, Fail> {
-    Ok(ReaderOf {
-        dag: DagId::parse(alloc, dag)?,
-    })
-}
-
 /// Who reads all DAGs, and says so or not.
 #[derive(Clone, Copy)]
-pub struct Everybody {
-    pub says_so: bool,
+struct Everybody {
+    says_so: bool,
 }
 
 impl Reader for Everybody {
@@ -66,57 +59,56 @@ impl Reader for Everybody {
     }
 }
 
-/// The page that a query asks for, for who reads all DAGs.
-pub fn page_of_all(
+/// Who reads a list.
+#[derive(Clone, Copy)]
+pub enum Who {
+    /// Who reads the DAG of this id.
+    Of(&'static str),
+    /// Who reads all DAGs, and says so or not.
+    All(bool),
+}
+
+/// The page of these rows for a reader.
+pub fn page_for<T: Listed>(
+    rt: &impl Abort,
     alloc: Global,
-    letters: &[&str],
-    query: &[u8],
-    says_so: bool,
-) -> Result<Page, Fail> {
-    let window = window_of(query)?;
-    let rows = rows_of(alloc, letters)?;
-    Ok(page(alloc, rows.as_slice(), &Everybody { says_so }, window)?)
-}
-
-/// The DAG that a letter names; `-` names none.
-fn dag_of(alloc: Global, letter: &str) -> Result<Option<DagId>, Fail> {
-    if letter == "-" {
-        return Ok(None);
+    rows: &[T],
+    who: Who,
+    window: Window,
+) -> Page {
+    match who {
+        Who::Of(dag) => {
+            let dag = DagId::parse(alloc, dag).expect(rt, "the id of a DAG");
+            let reader = ReaderOf { dag };
+            let page = page(alloc, rows, &reader, window);
+            drop(reader);
+            page.expect(rt, "a page")
+        }
+        Who::All(says_so) => {
+            page(alloc, rows, &Everybody { says_so }, window).expect(rt, "a page of all")
+        }
     }
-    Ok(Some(DagId::parse(alloc, letter)?))
 }
 
-/// A row for each letter, which names that DAG.
-fn rows_of(alloc: Global, letters: &[&str]) -> Result<Vec<Row>, Fail> {
+/// A row for each letter, which names that DAG; `-` names none.
+fn rows_of(rt: &impl Abort, alloc: Global, letters: &[&str]) -> Vec<Row> {
     let mut rows = Vec::new(alloc);
     for letter in letters {
-        add_row(alloc, &mut rows, letter)?;
+        let dag = if *letter == "-" {
+            None
+        } else {
+            Some(DagId::parse(alloc, letter).expect(rt, "the id of a DAG"))
+        };
+        rows.push(Row { dag }).expect(rt, "room for a row");
     }
-    Ok(rows)
+    rows
 }
 
-fn add_row(alloc: Global, rows: &mut Vec<Row>, letter: &str) -> Result<(), Fail> {
-    let dag = dag_of(alloc, letter)?;
-    Ok(rows.push(Row { dag })?)
-}
-
-/// The window that a query asks for.
-fn window_of(query: &[u8]) -> Result<Window, Fail> {
-    match Window::read(query) {
-        Ok(window) => Ok(window),
-        Err(_) => Err(Fail::from("no window")),
-    }
-}
-
-/// The page that a query asks for, for who reads b.
-pub fn page_of(alloc: Global, letters: &[&str], query: &[u8]) -> Result<Page, Fail> {
-    let rows = rows_of(alloc, letters)?;
-    page_to_b(alloc, rows.as_slice(), query)
-}
-
-/// The page of these rows.
-fn page_to_b(alloc: Global, rows: &[Row], query: &[u8]) -> Result<Page, Fail> {
-    let window = window_of(query)?;
-    let reader = reader_of(alloc, "b")?;
-    Ok(page(alloc, rows, &reader, window)?)
+/// The page that a query asks for of the rows of these letters, for a reader.
+pub fn page_of(rt: &impl Abort, alloc: Global, letters: &[&str], query: &[u8], who: Who) -> Page {
+    let window = Window::read(query).expect(rt, "no window");
+    let rows = rows_of(rt, alloc, letters);
+    let page = page_for(rt, alloc, rows.as_slice(), who, window);
+    drop(rows);
+    page
 }

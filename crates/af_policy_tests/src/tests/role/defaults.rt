@@ -1,7 +1,8 @@
-use super::listed;
-use crate::tests::asserts::{all_hold, holds};
+use crate::tests::asserts::{holds, row_holds};
+use crate::tests::telling::Telling;
 use af_role::{Role, default_roles};
-use std::alloc::{AllocError, Global};
+use std::alloc::Global;
+use std::process::Abort;
 
 /// The default roles, each with all its permissions.
 const ROLES: &[(&str, &str)] = &[
@@ -24,33 +25,19 @@ const ROLES: &[(&str, &str)] = &[
     ),
 ];
 
-/// Whether a role has this name, and these are its permissions.
-fn is_role(alloc: Global, role: &Role, name: &str, permissions: &str) -> Result<bool, AllocError> {
-    let text = listed(alloc, role.permissions())?;
-    Ok(role.name().as_str() == name && text.as_str() == permissions)
-}
-
-/// The number of the first role that is another.
-fn first_other(alloc: Global, roles: &[Role]) -> Result<Option<usize>, AllocError> {
+/// Ends the test where one of these roles has another name, or other permissions.
+fn are_roles(rt: &impl Abort, alloc: Global, roles: &[Role]) {
     for (number, (role, (name, permissions))) in roles.iter().zip(ROLES).enumerate() {
-        if !is_role(alloc, role, name, permissions)? {
-            return Ok(Some(number));
-        }
+        let mut telling = Telling::of(permissions);
+        telling.tell_permissions(rt, alloc, role.permissions());
+        let is_role = telling.is_wanted() && role.name().as_str() == *name;
+        row_holds(rt, is_role, "roles", number);
     }
-    Ok(None)
-}
-
-/// How many default roles there are, and that number.
-fn told(alloc: Global) -> Result<(usize, Option<usize>), AllocError> {
-    let roles = default_roles(alloc)?;
-    let other = first_other(alloc, roles.as_slice())?;
-    Ok((roles.len(), other))
 }
 
 #[test]
-fn default_roles_list_their_permissions(rt: HostRuntime) -> Result<(), AllocError> {
-    let (count, other) = told(rt.alloc())?;
-    holds(&rt, count == 5, "five roles");
-    all_hold(&rt, other, "roles");
-    Ok(())
+fn default_roles_list_their_permissions(rt: HostRuntime) {
+    let roles = default_roles(rt.alloc()).expect(&rt, "the default roles");
+    holds(&rt, roles.len() == 5, "five roles");
+    are_roles(&rt, rt.alloc(), roles.as_slice());
 }

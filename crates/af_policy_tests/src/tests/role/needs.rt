@@ -1,72 +1,72 @@
 use crate::tests::asserts::row_holds;
-use af_names::{DagId, NameError};
+use af_names::DagId;
 use af_role::{Action, Need, ResourceKind};
 use std::alloc::Global;
+use std::process::Abort;
 
-/// An action, a resource, whether it may be had of one DAG, and how it is written alone and about the DAG b.1.
-type Row = (Action, ResourceKind, bool, &'static str, &'static str);
-
-const NEEDS: &[Row] = &[
+/// A requirement, and how it is written alone and about the DAG b.1.
+const NEEDS: &[(Need, &str, &str)] = &[
     (
-        Action::Read,
-        ResourceKind::Dags,
-        true,
+        Need {
+            action: Action::Read,
+            kind: ResourceKind::Dags,
+            at_dag: true,
+        },
         "DAGs.can_read",
         "DAG:b.1.can_read",
     ),
     (
-        Action::Read,
-        ResourceKind::Dags,
-        false,
+        Need {
+            action: Action::Read,
+            kind: ResourceKind::Dags,
+            at_dag: false,
+        },
         "DAGs.can_read",
         "DAGs.can_read",
     ),
     (
-        Action::Create,
-        ResourceKind::DagRuns,
-        false,
+        Need {
+            action: Action::Create,
+            kind: ResourceKind::DagRuns,
+            at_dag: false,
+        },
         "DAG Runs.can_create",
         "DAG Runs.can_create",
     ),
     (
-        Action::Delete,
-        ResourceKind::Variables,
-        false,
+        Need {
+            action: Action::Delete,
+            kind: ResourceKind::Variables,
+            at_dag: false,
+        },
         "Variables.can_delete",
         "Variables.can_delete",
     ),
 ];
 
-/// Whether a requirement is written so, alone or about a DAG.
+/// Whether a requirement is written so, alone and about a DAG.
 fn is_written(
+    rt: &impl Abort,
     alloc: Global,
     need: Need,
-    dag: Option<&DagId>,
-    wanted: &str,
-) -> Result<bool, NameError> {
-    let text = need.text(alloc, dag)?;
-    Ok(text.as_str() == wanted)
-}
-
-/// Whether the requirement of a row is written as it should be, alone and about the DAG b.1.
-fn are_written(alloc: Global, row: Row) -> Result<(bool, bool), NameError> {
-    let (action, kind, at_dag, alone, about) = row;
-    let need = Need {
-        action,
-        kind,
-        at_dag,
-    };
-    let dag = DagId::parse(alloc, "b.1")?;
-    let is_alone = is_written(alloc, need, None, alone)?;
-    Ok((is_alone, is_written(alloc, need, Some(&dag), about)?))
+    dag: &DagId,
+    wanted: (&str, &str),
+) -> bool {
+    let alone = need
+        .text(alloc, None)
+        .expect(rt, "the text of a requirement");
+    let about = need
+        .text(alloc, Some(dag))
+        .expect(rt, "the text about a DAG");
+    alone.as_str() == wanted.0 && about.as_str() == wanted.1
 }
 
 #[test]
-fn requirements_are_written_at_their_dag(rt: HostRuntime) -> Result<(), NameError> {
-    for (row, need) in NEEDS.iter().enumerate() {
-        let (is_alone, is_about) = are_written(rt.alloc(), *need)?;
-        row_holds(&rt, is_alone, row);
-        row_holds(&rt, is_about, row);
+fn requirements_are_written_at_their_dag(rt: HostRuntime) {
+    let alloc = rt.alloc();
+    let dag = DagId::parse(alloc, "b.1").expect(&rt, "the id of a DAG");
+    for (row, (need, alone, about)) in NEEDS.iter().enumerate() {
+        let is_written = is_written(&rt, alloc, *need, &dag, (alone, about));
+        row_holds(&rt, is_written, "requirements", row);
     }
-    Ok(())
 }

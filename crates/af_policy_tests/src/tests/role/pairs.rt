@@ -1,15 +1,12 @@
-use super::listed;
-use crate::tests::asserts::row_holds;
-use crate::tests::steps::pair_texts;
-use af_role::{PairFault, PairText, PairTexts, read_pairs};
-use std::alloc::{AllocError, Global};
-use std::test::Fail;
-
-/// Texts of actions and resources.
-type Given = &'static [(&'static str, &'static str)];
+use crate::tests::asserts::{has_memory, row_holds};
+use crate::tests::steps::{Pairs, pair_texts};
+use crate::tests::telling::Telling;
+use af_role::{PairFault, read_pairs};
+use std::alloc::Global;
+use std::process::Abort;
 
 /// Permissions as they are given, and which set they are, or the fault that is told.
-const READ: &[(Given, &str)] = &[
+const READ: &[(Pairs, &str)] = &[
     (&[], ""),
     (
         &[
@@ -35,48 +32,44 @@ const READ: &[(Given, &str)] = &[
     (&[("", "DAGs")], "no action "),
 ];
 
-/// A copy of these texts.
-fn copied(alloc: Global, given: Given) -> Result<PairTexts, Fail> {
-    let texts = pair_texts(alloc, given)?;
-    Ok(texts.copied(alloc)?)
-}
-
-fn told(alloc: Global, fault: &PairFault) -> Result<String, AllocError> {
+/// Tells a fault of permissions, with the texts that it names.
+fn tell_fault(telling: &mut Telling<'_>, fault: &PairFault) {
     match fault {
-        PairFault::BadAction(text) => told_of_action(alloc, text.as_str()),
-        PairFault::NotAllowed(text) => told_of_pair(alloc, text),
-        PairFault::OutOfMemory => String::from_str(alloc, "no memory"),
+        PairFault::BadAction(text) => {
+            telling.tell("no action ");
+            telling.tell(text.as_str());
+        }
+        PairFault::NotAllowed(text) => {
+            telling.tell("not allowed ");
+            telling.tell(text.action.as_str());
+            telling.tell(" ");
+            telling.tell(text.resource.as_str());
+        }
+        PairFault::OutOfMemory => telling.tell("no memory"),
     }
 }
 
-fn told_of_action(alloc: Global, action: &str) -> Result<String, AllocError> {
-    format!(in alloc; "no action {action}")
-}
-
-fn told_of_pair(alloc: Global, text: &PairText) -> Result<String, AllocError> {
-    let action = text.action.as_str();
-    let resource = text.resource.as_str();
-    format!(in alloc; "not allowed {action} {resource}")
-}
-
-/// Which set these texts are, or the fault that is told.
-fn read(alloc: Global, given: Given) -> Result<String, Fail> {
-    let texts = copied(alloc, given)?;
-    Ok(read_texts(alloc, texts.as_slice())?)
-}
-
-fn read_texts(alloc: Global, texts: &[PairText]) -> Result<String, AllocError> {
-    match read_pairs(alloc, texts) {
-        Ok(permissions) => listed(alloc, &permissions),
-        Err(fault) => told(alloc, &fault),
+/// Whether these texts, read from a copy of them, are this set, or this fault is told.
+fn is_read(rt: &impl Abort, alloc: Global, given: Pairs, wanted: &str) -> bool {
+    let texts = pair_texts(rt, alloc, given);
+    let copy = texts.copied(alloc).expect(rt, "a copy of permissions");
+    drop(texts);
+    let read = read_pairs(alloc, copy.as_slice());
+    drop(copy);
+    let has_room = !matches!(&read, Err(PairFault::OutOfMemory));
+    has_memory(rt, has_room, "permissions");
+    let mut telling = Telling::of(wanted);
+    match &read {
+        Ok(permissions) => telling.tell_permissions(rt, alloc, permissions),
+        Err(fault) => tell_fault(&mut telling, fault),
     }
+    drop(read);
+    telling.is_wanted()
 }
 
 #[test]
-fn texts_are_permissions_or_told(rt: HostRuntime) -> Result<(), Fail> {
+fn texts_are_permissions_or_told(rt: HostRuntime) {
     for (row, (given, wanted)) in READ.iter().enumerate() {
-        let text = read(rt.alloc(), *given)?;
-        row_holds(&rt, text.as_str() == *wanted, row);
+        row_holds(&rt, is_read(&rt, rt.alloc(), *given, wanted), "texts", row);
     }
-    Ok(())
 }

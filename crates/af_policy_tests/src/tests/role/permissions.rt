@@ -1,7 +1,10 @@
-use super::listed;
 use crate::tests::asserts::holds;
-use af_role::{Action, Actions, Pair, Permissions, Resource};
-use std::alloc::{AllocError, Global};
+use crate::tests::telling::Telling;
+use crate::tests::words::NO_SUCH_PERMISSION;
+use af_names::RoleName;
+use af_role::{Action, Actions, Pair, Permissions, Resource, Role};
+use std::alloc::Global;
+use std::process::Abort;
 
 /// Texts of actions and resources.
 const TEXTS: &[(&str, &str)] = &[
@@ -19,47 +22,44 @@ const TEXTS: &[(&str, &str)] = &[
 ];
 
 /// The pair of two texts, where they are an action and a resource that carries it.
-fn pair_of(alloc: Global, action: &str, resource: &str) -> Result<Option<Pair>, AllocError> {
-    let Some(action) = Action::read(action) else {
-        return Ok(None);
-    };
-    match Resource::read(alloc, resource)? {
-        Some(resource) => Ok(Pair::new(action, resource)),
-        None => Ok(None),
+fn pair_of(rt: &impl Abort, alloc: Global, action: &str, resource: &str) -> Option<Pair> {
+    let action = Action::read(action)?;
+    match Resource::read(alloc, resource).expect(rt, "a resource") {
+        Some(resource) => Pair::new(action, resource),
+        None => None,
     }
 }
 
-/// The pairs of these texts.
-pub(super) fn permissions_of(
-    alloc: Global,
-    texts: &[(&str, &str)],
-) -> Result<Permissions, AllocError> {
+/// The pairs of these texts, each that is one.
+fn permissions_of(rt: &impl Abort, alloc: Global, texts: &[(&str, &str)]) -> Permissions {
     let mut permissions = Permissions::new(alloc);
     for (action, resource) in texts {
-        if let Some(pair) = pair_of(alloc, action, resource)? {
-            permissions.add(pair)?;
+        if let Some(pair) = pair_of(rt, alloc, action, resource) {
+            permissions.add(pair).expect(rt, "room for a permission");
         }
     }
-    Ok(permissions)
+    permissions
+}
+
+/// The role of this name and these permissions, each of which is one.
+pub fn role_of(rt: &impl Abort, alloc: Global, name: &str, texts: &[(&str, &str)]) -> Role {
+    let name = RoleName::parse(alloc, name).expect(rt, "the name of a role");
+    let permissions = permissions_of(rt, alloc, texts);
+    holds(rt, permissions.len() == texts.len(), NO_SUCH_PERMISSION);
+    Role::new(name, permissions)
 }
 
 const LISTED: &str = "DAGs.can_read,Users.can_read,DAG:B.can_read,DAG:b.can_read,DAG:b.can_edit,";
 
-/// How many pairs these texts are, and whether they stand in order.
-fn in_order(alloc: Global) -> Result<(usize, bool), AllocError> {
-    let permissions = permissions_of(alloc, TEXTS)?;
-    let count = permissions.len();
-    let text = listed(alloc, &permissions);
-    drop(permissions);
-    Ok((count, text?.as_str() == LISTED))
-}
-
 #[test]
-fn permissions_stand_in_order_and_once(rt: HostRuntime) -> Result<(), AllocError> {
-    let (count, is_in_order) = in_order(rt.alloc())?;
+fn permissions_stand_in_order_and_once(rt: HostRuntime) {
+    let permissions = permissions_of(&rt, rt.alloc(), TEXTS);
+    let mut telling = Telling::of(LISTED);
+    telling.tell_permissions(&rt, rt.alloc(), &permissions);
+    let count = permissions.len();
+    drop(permissions);
     holds(&rt, count == 5, "five pairs");
-    holds(&rt, is_in_order, "in order");
-    Ok(())
+    holds(&rt, telling.is_wanted(), "in order");
 }
 
 /// An action, and whether it is in the set.

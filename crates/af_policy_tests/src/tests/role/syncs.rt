@@ -1,14 +1,12 @@
-use super::listed;
-use super::permissions::permissions_of;
-use crate::tests::asserts::row_holds;
-use crate::tests::steps::access;
-use af_names::{DagId, RoleName};
+use super::permissions::role_of;
+use crate::tests::asserts::{has_memory, row_holds};
+use crate::tests::steps::{Access, access};
+use crate::tests::telling::Telling;
+use crate::tests::words::{BLANK, COLON};
+use af_names::DagId;
 use af_role::{AccessControl, Role, SyncFault, sync_access};
-use std::alloc::{AllocError, Global};
-use std::test::Fail;
-
-/// Rows of access control: a role, and its actions.
-type Access = &'static [(&'static str, &'static [&'static str])];
+use std::alloc::Global;
+use std::process::Abort;
 
 /// The roles before each sync.
 const ROLES: &[(&str, &[(&str, &str)])] = &[
@@ -18,7 +16,9 @@ const ROLES: &[(&str, &[(&str, &str)])] = &[
 ];
 
 /// The access control of the DAG b, what a sync tells, and what the roles then list.
-const SYNCS: &[(Option<Access>, &str, &str)] = &[
+type Synced = (Option<Access>, &'static str, &'static str);
+
+const SYNCS: &[Synced] = &[
     (
         None,
         "done",
@@ -69,106 +69,77 @@ const SYNCS: &[(Option<Access>, &str, &str)] = &[
     ),
 ];
 
-fn roles(alloc: Global) -> Result<Vec<Role>, Fail> {
+/// The roles before each sync.
+fn roles(rt: &impl Abort, alloc: Global) -> Vec<Role> {
     let mut roles = Vec::new(alloc);
     for (name, texts) in ROLES {
-        add_role(alloc, &mut roles, name, texts)?;
+        roles
+            .push(role_of(rt, alloc, name, texts))
+            .expect(rt, "room for a role");
     }
-    Ok(roles)
+    roles
 }
 
-fn add_role(
-    alloc: Global,
-    roles: &mut Vec<Role>,
-    name: &str,
-    texts: &[(&str, &str)],
-) -> Result<(), Fail> {
-    let name = RoleName::parse(alloc, name)?;
-    let permissions = permissions_of(alloc, texts)?;
-    Ok(roles.push(Role::new(name, permissions))?)
-}
-
-/// A copy of the access control of these rows.
-fn copied(alloc: Global, rows: Access) -> Result<AccessControl, Fail> {
-    let access = access(alloc, rows)?;
-    Ok(access.copied(alloc)?)
-}
-
-/// The roles, each with what it lists.
-fn shown(alloc: Global, roles: &[Role]) -> Result<String, AllocError> {
-    let mut text = String::new(alloc);
-    for role in roles {
-        add_shown(alloc, &mut text, role)?;
-    }
-    Ok(text)
-}
-
-fn add_shown(alloc: Global, text: &mut String, role: &Role) -> Result<(), AllocError> {
-    let permissions = listed(alloc, role.permissions())?;
-    let name = role.name();
-    let one = format!(in alloc; "{name}: {permissions} ")?;
-    text.push_str(one.as_str())
-}
-
-/// What a sync tells.
-fn told(alloc: Global, done: &Result<(), SyncFault>) -> Result<String, AllocError> {
-    match done {
-        Ok(()) => String::from_str(alloc, "done"),
-        Err(SyncFault::BadAction(text)) => told_of_action(alloc, text.as_str()),
-        Err(SyncFault::UnknownRole(name)) => format!(in alloc; "no role {name}"),
-        Err(SyncFault::OutOfMemory) => String::from_str(alloc, "no memory"),
-    }
-}
-
-fn told_of_action(alloc: Global, action: &str) -> Result<String, AllocError> {
-    format!(in alloc; "no action {action}")
-}
-
-/// Syncs the DAG b with this access control: what is told.
-fn sync(
-    alloc: Global,
-    roles: &mut Vec<Role>,
-    access: Option<&AccessControl>,
-) -> Result<String, Fail> {
-    let dag = DagId::parse(alloc, "b")?;
-    let done = sync_access(alloc, roles, &dag, access);
-    Ok(told(alloc, &done)?)
-}
-
-/// The same with the access control of these rows, or with none.
-fn sync_rows(alloc: Global, roles: &mut Vec<Role>, rows: Option<Access>) -> Result<String, Fail> {
-    match rows {
-        Some(rows) => {
-            let access = copied(alloc, rows)?;
-            sync(alloc, roles, Some(&access))
+/// A copy of the access control of these rows, or none.
+fn copied(rt: &impl Abort, alloc: Global, rows: Option<Access>) -> Option<AccessControl> {
+    match access(rt, alloc, rows) {
+        Some(access) => {
+            let copy = access.copied(alloc).expect(rt, "a copy of access control");
+            drop(access);
+            Some(copy)
         }
-        None => sync(alloc, roles, None),
+        None => None,
     }
 }
 
-/// Whether this is told of a sync of these roles, and they are shown so after it.
-fn is_told(
-    alloc: Global,
-    roles: &mut Vec<Role>,
-    rows: Option<Access>,
-    wanted: (&str, &str),
-) -> Result<bool, Fail> {
-    let told = sync_rows(alloc, roles, rows)?;
-    let shown = shown(alloc, roles.as_slice())?;
-    Ok(told.as_str() == wanted.0 && shown.as_str() == wanted.1)
+/// Tells the roles, each with what it lists.
+fn tell_roles(rt: &impl Abort, alloc: Global, telling: &mut Telling<'_>, roles: &[Role]) {
+    for role in roles {
+        telling.tell(role.name().as_str());
+        telling.tell(COLON);
+        telling.tell_permissions(rt, alloc, role.permissions());
+        telling.tell(BLANK);
+    }
 }
 
-/// The same of the roles above.
-fn is_synced(alloc: Global, rows: Option<Access>, wanted: (&str, &str)) -> Result<bool, Fail> {
-    let mut roles = roles(alloc)?;
-    is_told(alloc, &mut roles, rows, wanted)
+/// Tells what a sync tells.
+fn tell_done(telling: &mut Telling<'_>, done: &Result<(), SyncFault>) {
+    match done {
+        Ok(()) => telling.tell("done"),
+        Err(SyncFault::BadAction(text)) => {
+            telling.tell("no action ");
+            telling.tell(text.as_str());
+        }
+        Err(SyncFault::UnknownRole(name)) => {
+            telling.tell("no role ");
+            telling.tell(name.as_str());
+        }
+        Err(SyncFault::OutOfMemory) => telling.tell("no memory"),
+    }
+}
+
+/// Whether the sync of a row tells this of the roles above, and they are shown so after it.
+fn is_synced(rt: &impl Abort, alloc: Global, row: Synced) -> bool {
+    let dag = DagId::parse(alloc, "b").expect(rt, "the id of a DAG");
+    let access = copied(rt, alloc, row.0);
+    let mut roles = roles(rt, alloc);
+    let done = sync_access(alloc, &mut roles, &dag, access.as_ref());
+    drop(dag);
+    drop(access);
+    let has_room = !matches!(&done, Err(SyncFault::OutOfMemory));
+    has_memory(rt, has_room, "a sync");
+    let mut told = Telling::of(row.1);
+    tell_done(&mut told, &done);
+    drop(done);
+    let mut left = Telling::of(row.2);
+    tell_roles(rt, alloc, &mut left, roles.as_slice());
+    drop(roles);
+    told.is_wanted() && left.is_wanted()
 }
 
 #[test]
-fn access_control_is_taken_over(rt: HostRuntime) -> Result<(), Fail> {
-    for (row, (access, wanted, left)) in SYNCS.iter().enumerate() {
-        let is_synced = is_synced(rt.alloc(), *access, (*wanted, *left))?;
-        row_holds(&rt, is_synced, row);
+fn access_control_is_taken_over(rt: HostRuntime) {
+    for (number, row) in SYNCS.iter().enumerate() {
+        row_holds(&rt, is_synced(&rt, rt.alloc(), *row), "syncs", number);
     }
-    Ok(())
 }
