@@ -94,11 +94,11 @@ pub enum Row {
     User(&'static str, &'static str, Roles),
     /// The role of a number.
     RoleOfNumber,
-    /// The user of a number below 65,536 times 256, whose digest has its three lower bytes behind its first.
+    /// The user of a number below 2^24, whose three bytes stand behind the first of the digest.
     UserOfNumber,
 }
 
-/// What is added is part of this; what it is, each number from 0 of so many; and why each is not added.
+/// What it is part of, in words; what is added; how often, with the numbers from 0 on; and why each is not added.
 pub type Added = (&'static str, Row, u32, Option<RowFault>);
 
 /// adam, the one Admin.

@@ -36,7 +36,7 @@ pub enum Step {
     Unlisted,
     /// The access control of the DAG b.
     Sync(Access),
-    /// A kind of change, with a body that is none: of what is asked for alone.
+    /// A kind of change whose body is bad; for what is asked for alone.
     Badly(ChangeKind),
 }
 

@@ -1,4 +1,4 @@
-//! What is told, compared piece by piece with the text that is wanted: no text is made of it, so who tells it owns none.
+//! What is told, compared piece by piece with the text that is wanted, so that no text of the whole is made and owned.
 use af_role::Permissions;
 use std::alloc::Global;
 use std::process::Abort;

@@ -86,7 +86,7 @@ fn is_full(page: &Page) -> bool {
     page.places().len() == 100 && page.places().last() == Some(&198) && page.total() == 150
 }
 
-/// The page of at most 101 of 300 rows, of which every other one names b, is so.
+/// Of 300 rows every other one names b; 101 are asked for.
 #[test]
 fn a_page_has_a_hundred_rows_at_most(rt: HostRuntime) {
     let letters = pairs(&rt, rt.alloc(), 150);

@@ -106,7 +106,7 @@ fn rows_of(rt: &impl Abort, alloc: Global, letters: &[&str]) -> Vec<Row> {
 
 /// The page that a query asks for of the rows of these letters, for a reader.
 pub fn page_of(rt: &impl Abort, alloc: Global, letters: &[&str], query: &[u8], who: Who) -> Page {
-    let window = Window::read(query).expect(rt, "no window");
+    let window = Window::read(query).expect(rt, "a window");
     let rows = rows_of(rt, alloc, letters);
     let page = page_for(rt, alloc, rows.as_slice(), who, window);
     drop(rows);
