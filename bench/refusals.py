@@ -4,7 +4,7 @@
   python3 bench/refusals.py                           the examples, each kind of change, event logs, readings of the policy, faults
   python3 bench/refusals.py --program 'PATH/PROGRAM'
   python3 bench/refusals.py --has dags,variables      the changes of these kinds alone
-  python3 bench/refusals.py --tests                   each test of the crates below af_http whose tests `rt test` has built
+  python3 bench/refusals.py --tests                   each test that `rt test` has built, but those that compare whole answers
 
 A run is refused its first allocation, the next its second, and so on, until a run meets none to refuse. Each is to end in
 one of three ways: as the run with all its memory does, which is as the oracle says; with some of its answers, whole and in
@@ -107,6 +107,8 @@ def refuse_tests(library):
         names = [line[: -len(": test")] for line in listed.splitlines() if line.endswith(": test")]
         if os.path.basename(program) in WHOLE:
             names = [name for name in names if name.startswith(IN_PARTS)]
+            if not names:
+                sys.exit(f"refusals: {os.path.basename(program)} has no tests under {', '.join(IN_PARTS)}")
         counts = [refuse_each_of_test(program, name, library) for name in names]
         one, other = sum(count[0] for count in counts), sum(count[1] for count in counts)
         print(f"{os.path.basename(program)}: {len(names)} tests, {one} runs as they must be, {other} not", flush=True)

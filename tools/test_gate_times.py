@@ -1,9 +1,15 @@
-"""Tests of gate-times: which crate the seconds of a process are counted for."""
+#!/usr/bin/env python3
+"""Tests of gate-times: which crate the seconds of a process are counted for.
+
+    python3 tools/test_gate_times.py
+"""
 import importlib.machinery
 import importlib.util
 import os
+import sys
 import unittest
 
+sys.dont_write_bytecode = True
 HERE = os.path.dirname(os.path.realpath(__file__))
 LOADER = importlib.machinery.SourceFileLoader("gate_times", os.path.join(HERE, "gate-times"))
 GATE_TIMES = importlib.util.module_from_spec(importlib.util.spec_from_loader("gate_times", LOADER))
