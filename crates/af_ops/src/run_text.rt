@@ -19,7 +19,13 @@ impl Row for Run {
     ghost fields = { run_fields };
 
     fn put_fields(&self, _alloc: Global, out: &mut Text) -> Result<(), AllocError> {
-        put_run(out, self, self.state, self.start_date, self.end_date)
+        put_run(
+            out,
+            self,
+            self.state,
+            self.start_date.get(),
+            self.end_date.get(),
+        )
     }
 }
 
@@ -62,10 +68,10 @@ fn start_of(run: &Run, mark: Mark) -> Option<Instant>
     ensures { result ≡ (if is_in_state mark run.now then run.now.start_date else marked_start mark run.now.start_date) }
 {
     if run.state == mark.state() {
-        return run.start_date;
+        return run.start_date.get();
     }
     match mark {
-        Mark::Success | Mark::Failed => run.start_date,
+        Mark::Success | Mark::Failed => run.start_date.get(),
         Mark::Queued => None,
     }
 }
@@ -75,7 +81,7 @@ fn end_of(run: &Run, mark: Mark, at: Instant) -> Option<Instant>
     ensures { result ≡ (if is_in_state mark run.now then run.now.end_date else marked_end mark at) }
 {
     if run.state == mark.state() {
-        return run.end_date;
+        return run.end_date.get();
     }
     match mark {
         Mark::Success | Mark::Failed => Some(at),

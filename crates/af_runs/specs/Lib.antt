@@ -9,6 +9,7 @@ pub mod Index
 pub mod Instances
 pub mod Laws
 pub mod Marks
+pub mod OptionalInstants
 pub mod Places
 pub mod Runs
 pub mod Texts

@@ -5,6 +5,7 @@ ghost use Rattle.af_runs.specs.Runs.{is_of, is_run, is_dated, queued_run, runs_o
 use crate::instances::{Instances, same_instances};
 use crate::interval::Interval;
 use crate::new_run::NewRun;
+use crate::optional_instant::OptionalInstant;
 use crate::run_state::RunState;
 use crate::run_type::RunType;
 use af_graph::TaskState;
@@ -30,8 +31,8 @@ pub struct Run {
     pub interval: Interval,
     pub run_type: RunType,
     pub state: RunState,
-    pub start_date: Option<Instant>,
-    pub end_date: Option<Instant>,
+    pub start_date: OptionalInstant,
+    pub end_date: OptionalInstant,
     /// Those it was added with, but for changes: to be one for each task of the DAG, in the order of the definition.
     pub instances: Instances,
 }
@@ -49,8 +50,8 @@ impl Run {
             interval: new.interval,
             run_type: new.run_type,
             state: RunState::Queued,
-            start_date: None,
-            end_date: None,
+            start_date: OptionalInstant::none(),
+            end_date: OptionalInstant::none(),
             instances: new.instances,
         }
     }
@@ -87,8 +88,8 @@ impl Run {
             && self.interval == other.interval
             && self.run_type == other.run_type
             && self.state == other.state
-            && self.start_date == other.start_date
-            && self.end_date == other.end_date
+            && self.start_date.get() == other.start_date.get()
+            && self.end_date.get() == other.end_date.get()
             && same_instances(self.instances.as_slice(), other.instances.as_slice())
     }
 

@@ -5,6 +5,7 @@ ghost use Rattle.af_runs.specs.Clears.{chosen_of, cleared_run, is_chosen, is_lef
 use crate::chosen_instance::ChosenInstance;
 use crate::instance::Instance;
 use crate::instances::clear_all;
+use crate::optional_instant::OptionalInstant;
 use crate::run::Run;
 use crate::run_state::RunState;
 use crate::selection::Selection;
@@ -17,8 +18,8 @@ impl Run {
     {
         if self.is_requeued(selection) {
             self.state = RunState::Queued;
-            self.start_date = None;
-            self.end_date = None;
+            self.start_date = OptionalInstant::none();
+            self.end_date = OptionalInstant::none();
         }
         clear_all(&mut self.instances, selection);
     }

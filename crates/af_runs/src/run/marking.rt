@@ -5,6 +5,7 @@ ghost use Rattle.af_runs.specs.Marks.{is_marked, marked_run, stays_in};
 use crate::instance::Instance;
 use crate::instances::mark_all;
 use crate::mark::Mark;
+use crate::optional_instant::OptionalInstant;
 use crate::run::Run;
 use af_names::Instant;
 
@@ -15,8 +16,8 @@ impl Run {
         ensures { self.new ≡ marked_run mark at self.old }
     {
         if self.state != mark.state() {
-            self.start_date = mark.start_of(self.start_date);
-            self.end_date = mark.end_at(at);
+            self.start_date = OptionalInstant::from(mark.start_of(self.start_date.get()));
+            self.end_date = OptionalInstant::from(mark.end_at(at));
         }
         self.state = mark.state();
         mark_all(&mut self.instances, mark, at);

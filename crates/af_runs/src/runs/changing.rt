@@ -2,6 +2,7 @@ ghost use Rattle.std.specs.Prelude.{◌≡◌};
 ghost use Rattle.af_runs.specs.Runs.{with_advanced, with_instance, with_state, without_run};
 
 use crate::instance::Instance;
+use crate::optional_instant::OptionalInstant;
 use crate::run::Run;
 use crate::run_state::RunState;
 use crate::runs::Runs;
@@ -34,8 +35,8 @@ impl Runs {
         if let Some(place) = self.place_of(number) {
             let run = &mut self.rows[place];
             run.state = state;
-            run.start_date = start_date;
-            run.end_date = end_date;
+            run.start_date = OptionalInstant::from(start_date);
+            run.end_date = OptionalInstant::from(end_date);
             self.index.keep_numbers(&self.rows[place]);
         }
     }

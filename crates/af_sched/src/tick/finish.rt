@@ -7,7 +7,7 @@ use crate::dags::Dags;
 use crate::tick::settle::state_at;
 use af_graph::{Dag, TaskState};
 use af_names::Instant;
-use af_runs::{Instance, Run, RunState};
+use af_runs::{Instance, OptionalInstant, Run, RunState};
 
 /// The fifth phase of a tick, on these runs: those that are running and whose instances have all finished end.
 pub(crate) fn finish_all(dags: &Dags<'_>, at: Instant, runs: &mut [Run])
@@ -37,7 +37,7 @@ fn finish(dag: &Dag, at: Instant, run: &mut Run)
 {
     if ends(run) {
         run.state = end_state(dag, run.instances.as_slice());
-        run.end_date = Some(at);
+        run.end_date = OptionalInstant::from(Some(at));
     }
 }
 

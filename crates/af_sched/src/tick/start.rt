@@ -8,7 +8,7 @@ ghost use Rattle.af_sched.specs.declared.dag_row.DagRow.{DagRow};
 use crate::dag_row::DagRow;
 use crate::dags::Dags;
 use af_names::{DagId, Instant};
-use af_runs::{Run, RunState};
+use af_runs::{OptionalInstant, Run, RunState};
 use std::alloc::{AllocError, Global};
 
 /// The second phase of a tick, on these runs, whose numbers rise: queued runs of unpaused DAGs start while their DAG has
@@ -39,7 +39,7 @@ fn start_next(dags: &Dags<'_>, at: Instant, left: &mut [u32], run: &mut Run)
 {
     if run.state == RunState::Queued && take_room(dags, left, &run.dag_id) {
         run.state = RunState::Running;
-        run.start_date = Some(at);
+        run.start_date = OptionalInstant::from(Some(at));
     }
 }
 

@@ -26,8 +26,8 @@ keep_numbers-requires c =
 pub returns-in-Some : goal.returns-in-Some
 returns-in-Some c =
     let stands = rw (← c.self.view_is) at c.in-Some.ensures in
-    let rows : set c.self.inside.rows.items c.in-Some.place (record c.index_mut-run.result.now { state = c.args.state; start_date = c.args.start_date; end_date = c.args.end_date }) ≡ with_state c.self.inside.rows.items c.args.number c.args.state c.args.start_date c.args.end_date =
-    rw c.index_mut-run.ensures.value (sym (with_state-is_set _ _ _ stands c.args.state c.args.start_date c.args.end_date _)) in
+    let rows : set c.self.inside.rows.items c.in-Some.place (record c.index_mut-run.result.now { state = c.args.state; start_date = c.from-run.result; end_date = c.from-run-in-Some.result }) ≡ with_state c.self.inside.rows.items c.args.number c.args.state c.args.start_date c.args.end_date =
+    rw c.from-run.ensures rw c.from-run-in-Some.ensures rw c.index_mut-run.ensures.value (sym (with_state-is_set _ _ _ stands c.args.state c.args.start_date c.args.end_date _)) in
     rw (← c.self.view_is) (λ i. record { rows = rows i; next = c.self.inside.last + 1; spare = c.self.inside.spare })
 
 pub returns-in_default : goal.returns-in_default

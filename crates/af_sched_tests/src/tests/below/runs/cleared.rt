@@ -49,7 +49,7 @@ fn has_instances_after(before: &Run, after: &Run, wanted: &[(u64, usize)]) -> bo
 }
 
 fn is_queued_again(run: &Run) -> bool {
-    run.state == RunState::Queued && run.start_date.is_none() && run.end_date.is_none()
+    run.state == RunState::Queued && run.start_date.get().is_none() && run.end_date.get().is_none()
 }
 
 fn is_told_as(before: &Run, after: &Run) -> bool {

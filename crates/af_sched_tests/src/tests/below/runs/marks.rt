@@ -35,7 +35,7 @@ const IDS_AND_DATES: &[(&str, u32)] = &[("r0", 0), ("r1", 1)];
 /// Whether the run of a number is told so.
 fn is_told_at(runs: &Runs, number: u64, told: Told) -> bool {
     match runs.get(number) {
-        Some(run) => (run.state, run.start_date, run.end_date)
+        Some(run) => (run.state, run.start_date.get(), run.end_date.get())
             == (told.0, maybe(told.1), maybe(told.2)),
         None => false,
     }

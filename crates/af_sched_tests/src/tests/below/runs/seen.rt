@@ -37,7 +37,7 @@ pub fn number_of(run: Option<&Run>) -> Option<u64> {
 /// Whether a run started and ended so.
 pub fn is_dated(runs: &Runs, number: u64, start: Option<Instant>, end: Option<Instant>) -> bool {
     match runs.get(number) {
-        Some(run) => run.start_date == start && run.end_date == end,
+        Some(run) => run.start_date.get() == start && run.end_date.get() == end,
         None => false,
     }
 }
