@@ -8,6 +8,7 @@ use Rattle.af_role.specs.declared.access.AccessRow.{AccessRow}
 use Rattle.af_policy.specs.Rows.{PolicyRows}
 use Rattle.af_policy.specs.Changes.{changed}
 use Rattle.af_policy.specs.declared.change.Change.TheVariants.{SyncDag}
+use Rattle.af_policy.specs.declared.change.DagAccess.{DagAccess}
 use Rattle.af_policy.specs.declared.change_fault.ChangeFault.{ChangeFault}
 use Rattle.af_ops.specs.AccessTexts.{access_in}
 use Rattle.af_base.specs.Readings.{◌>>=◌, member_of}
@@ -29,9 +30,13 @@ abbrev pub changed_or : Result PolicyRows ChangeFault → Result PolicyRows Reas
 changed_or (Ok policy) = Ok policy
 changed_or (Err fault) = Err (change_reason fault)
 
--- the policy after a sync of the DAG of a row
-abbrev pub access_taken : PolicyRows → Data → Result PolicyRows Reason
-access_taken policy row = do
+-- what roles may do on the DAG of a row
+abbrev pub sync_in : Data → Result DagAccess Reason
+sync_in row = do
   dag ← name_in id_grammar (codes "dag_id") row
   access ← dag_access_in row
-  changed_or (changed policy (SyncDag (record { dag = dag; access = access })))
+  Ok (record { dag = dag; access = access })
+
+-- the policy after a sync of the DAG of a row
+abbrev pub access_taken : PolicyRows → Data → Result PolicyRows Reason
+access_taken policy row = sync_in row >>= (λ sync. changed_or (changed policy (SyncDag sync)))

@@ -98,15 +98,33 @@ begun_in value = do
 
 -- ---- all that is told
 
+abbrev pub configuration_of_parts : PolicyRows → Draft → Limits → ConfigurationRows
+configuration_of_parts policy draft limits = record { policy = policy; state = draft.state; scripts = draft.scripts; limits = limits }
+
+-- what an object says whose policy is this once the access control of its DAGs is taken over, and whose lists make this draft
+abbrev pub configuration_within : Data → PolicyRows → Draft → Result ConfigurationRows Reason
+configuration_within config policy draft = do
+  limits ← limits_in config
+  Ok (configuration_of_parts policy draft limits)
+
+-- what an object says whose roles and users make this policy, and whose further lists make this draft
+abbrev pub configuration_with : Data → PolicyRows → Draft → Result ConfigurationRows Reason
+configuration_with config policy draft = do
+  synced ← synced_in config policy
+  configuration_within config synced draft
+
+-- what an object says whose roles and users make this policy
+abbrev pub configuration_under : Data → PolicyRows → Result ConfigurationRows Reason
+configuration_under config policy = do
+  draft ← draft_in config
+  configuration_with config policy draft
+
 -- what a JSON value says: it has to be an object
 abbrev pub configuration_in : Data → Result ConfigurationRows Reason
 configuration_in value = do
   config ← object_or value
   policy ← policy_in config
-  draft ← draft_in config
-  synced ← synced_in config policy
-  limits ← limits_in config
-  Ok (record { policy = synced; state = draft.state; scripts = draft.scripts; limits = limits })
+  configuration_under config policy
 
 -- 16 MiB
 abbrev pub longest : ℕ

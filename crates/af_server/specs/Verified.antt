@@ -23,11 +23,15 @@ abbrev pub trace_or : Result TraceRows TraceFault → Result TraceRows Reason
 trace_or (Ok trace) = Ok trace
 trace_or (Err fault) = Err (trace_reason fault)
 
+-- a trace in the world under a configuration
+abbrev pub recorded_of : ConfigurationRows → TraceRows → Recorded
+recorded_of configuration trace = record { opening = opening_of configuration trace.sessions; trace = trace }
+
 -- what the steps of a JSON value are in the world under a configuration
 abbrev pub recorded_with : Data → ConfigurationRows → Result Recorded Reason
 recorded_with value configuration = do
   trace ← trace_or (trace_in value)
-  Ok (record { opening = opening_of configuration trace.sessions; trace = trace })
+  Ok (recorded_of configuration trace)
 
 -- what a JSON value says under the configuration that this one says
 abbrev pub recorded_under : Data → Data → Result Recorded Reason

@@ -6,7 +6,7 @@ ghost use Rattle.af_sched.specs.State.{AreRows};
 ghost use Rattle.af_base.specs.Parsed.{json_of};
 ghost use Rattle.af_base.specs.Readings.{OrMemory, seen};
 ghost use Rattle.af_server.specs.declared.reason.Reason.{Reason};
-ghost use Rattle.af_server.specs.Configurations.{begun_in, configuration_in, configuration_of, longest, some_user, users_begun};
+ghost use Rattle.af_server.specs.Configurations.{begun_in, configuration_in, configuration_of, configuration_of_parts, configuration_under, configuration_with, configuration_within, longest, some_user, users_begun};
 
 mod access;
 mod dags;
@@ -46,7 +46,6 @@ pub struct Configuration {
     pub state: State,
     /// Nothing runs them yet.
     pub scripts: Vec<Script>,
-    /// Nothing obeys them yet.
     pub limits: Limits,
 }
 
@@ -113,16 +112,69 @@ impl Configuration {
             return Err(Reason::Shape);
         }
         let policy = lists::read_policy(alloc, value)?;
-        let draft = lists::read_state(alloc, value)?;
-        let synced = sync_dags(alloc, policy, value)?;
-        let limits = read_limits(value)?;
+        Configuration::of_policy(alloc, value, policy)
+    }
+
+    /// Reads what an object says beside this policy, which it lists.
+    fn of_policy(alloc: Global, value: &Json<'_>, policy: Policy) -> Result<Configuration, Reason>
+        ensures { OrMemory Reason.Memory (configuration_under (view value.now) policy) result }
+    {
+        match lists::read_state(alloc, value) {
+            Ok(draft) => Configuration::of_lists(alloc, value, policy, draft),
+            Err(reason) => {
+                drop(policy);
+                Err(reason)
+            }
+        }
+    }
+
+    /// Reads what an object says beside this policy and this state, which it lists.
+    fn of_lists(
+        alloc: Global,
+        value: &Json<'_>,
+        policy: Policy,
+        draft: StateDraft,
+    ) -> Result<Configuration, Reason>
+        ensures { OrMemory Reason.Memory (configuration_with (view value.now) policy draft) result }
+    {
+        match sync_dags(alloc, policy, value) {
+            Ok(synced) => Configuration::within_limits(value, synced, draft),
+            Err(reason) => {
+                drop(draft);
+                Err(reason)
+            }
+        }
+    }
+
+    /// Reads the limits, under which the policy and the state stand.
+    fn within_limits(
+        value: &Json<'_>,
+        policy: Policy,
+        draft: StateDraft,
+    ) -> Result<Configuration, Reason>
+        ensures { result ≡ configuration_within (view value.now) policy draft }
+    {
+        match read_limits(value) {
+            Ok(limits) => Ok(Configuration::of_parts(policy, draft, limits)),
+            Err(reason) => {
+                drop(policy);
+                drop(draft);
+                Err(reason)
+            }
+        }
+    }
+
+    /// The configuration of its parts.
+    fn of_parts(policy: Policy, draft: StateDraft, limits: Limits) -> Configuration
+        ensures { result ≡ configuration_of_parts policy draft limits }
+    {
         let StateDraft { state, scripts, .. } = draft;
-        Ok(Configuration {
-            policy: synced,
+        Configuration {
+            policy,
             state,
             scripts,
             limits,
-        })
+        }
     }
 }
 

@@ -40,5 +40,6 @@ pub fn once<R: Source, W: Sink>(
     desk.conditions();
     let ended = converse(alloc, &mut desk, reader, writer);
     desk.conditions();
+    drop(desk);
     Ok(ended)
 }

@@ -7,7 +7,7 @@ ghost use Rattle.af_trace.specs.Traces.{Agrees, trace_in};
 ghost use Rattle.af_server.specs.declared.reason.Reason.{Reason};
 ghost use Rattle.af_server.specs.Configurations.{longest};
 ghost use Rattle.af_server.specs.Openings.{opening_of};
-ghost use Rattle.af_server.specs.Verified.{IsToldOf, IsVerified, config_in, recorded_in, recorded_under, recorded_with, text_in, trace_of, trace_or};
+ghost use Rattle.af_server.specs.Verified.{IsToldOf, IsVerified, config_in, recorded_in, recorded_of, recorded_under, recorded_with, text_in, trace_of, trace_or};
 
 use crate::config::{Configuration, LONGEST, parse};
 use crate::reason::Reason;
@@ -32,7 +32,11 @@ pub fn verify(alloc: Global, trace: &[u8]) -> Result<bool, Reason>
     ensures long { longest < length trace.now → result ≡ Err Reason.Unreadable }
 {
     match read_trace(alloc, trace) {
-        Ok(recorded) => tell_of(alloc, &recorded),
+        Ok(recorded) => {
+            let told = tell_of(alloc, &recorded);
+            drop(recorded);
+            told
+        }
         Err(reason) => Err(reason),
     }
 }
@@ -98,9 +102,21 @@ fn with_steps(
 ) -> Result<Recorded, Reason>
     ensures { OrMemory Reason.Memory (recorded_with (view value.now) configuration) result }
 {
-    let trace = read_steps(alloc, value)?;
+    match read_steps(alloc, value) {
+        Ok(trace) => Ok(under(configuration, trace)),
+        Err(reason) => {
+            drop(configuration);
+            Err(reason)
+        }
+    }
+}
+
+/// This trace, in the world under this configuration.
+fn under(configuration: Configuration, trace: Trace) -> Recorded
+    ensures { result ≡ recorded_of configuration trace }
+{
     let opening = opening_of(configuration, trace.sessions());
-    Ok(Recorded { opening, trace })
+    Recorded { opening, trace }
 }
 
 /// Reads the steps, and what was answered to each.

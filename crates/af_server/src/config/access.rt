@@ -3,7 +3,8 @@ ghost use Rattle.std.specs.Prelude.{map};
 ghost use Rattle.af_base.specs.JsonValue.{view};
 ghost use Rattle.af_base.specs.Readings.{OrMemory, Makes, taking};
 ghost use Rattle.af_server.specs.declared.reason.Reason.{Reason};
-ghost use Rattle.af_server.specs.Accesses.{access_taken, dag_access_in};
+ghost use Rattle.af_policy.specs.Changes.{changed};
+ghost use Rattle.af_server.specs.Accesses.{access_taken, changed_or, dag_access_in, sync_in};
 ghost use Rattle.af_server.specs.Configurations.{synced_in};
 
 use crate::members::{name, optional_list};
@@ -35,11 +36,32 @@ fn sync_rows(alloc: Global, policy: Policy, rows: &[Json<'_>]) -> Result<Policy,
 fn sync_row(alloc: Global, policy: &mut Policy, row: &Json<'_>) -> Result<(), Reason>
     ensures { Makes Reason.Memory (access_taken policy.old (view row.now)) policy.new result }
 {
-    let dag = name(alloc, row, "dag_id")?;
-    let access = read_dag_access(alloc, row)?;
-    let change = Change::SyncDag(DagAccess { dag, access });
-    *policy = policy.changed(alloc, &change)?;
+    let sync = read_sync(alloc, row)?;
+    make(alloc, policy, Change::SyncDag(sync))
+}
+
+/// Makes a change: the policy after it takes the place of the one before.
+fn make(alloc: Global, policy: &mut Policy, change: Change) -> Result<(), Reason>
+    ensures { Makes Reason.Memory (changed_or (changed policy.old change)) policy.new result }
+{
+    let changed = policy.changed(alloc, &change);
+    drop(change);
+    drop(std::mem::replace(policy, changed?));
     Ok(())
+}
+
+/// Reads what roles may do on the DAG of a row.
+fn read_sync(alloc: Global, row: &Json<'_>) -> Result<DagAccess, Reason>
+    ensures { OrMemory Reason.Memory (sync_in (view row.now)) result }
+{
+    let dag = name(alloc, row, "dag_id")?;
+    match read_dag_access(alloc, row) {
+        Ok(access) => Ok(DagAccess { dag, access }),
+        Err(reason) => {
+            drop(dag);
+            Err(reason)
+        }
+    }
 }
 
 /// Reads the access control of a DAG, none where it is absent.

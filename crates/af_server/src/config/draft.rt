@@ -1,6 +1,8 @@
 ghost use Rattle.std.specs.Prelude.{◌≡◌, IfOk};
+ghost use Rattle.af_base.specs.Readings.{seen};
 ghost use Rattle.af_server.specs.Drafts.{opening_draft};
 
+use crate::reason::Reason;
 use af_sched::{Script, State};
 use std::alloc::{AllocError, Global};
 use std::marker::Model;
@@ -38,5 +40,18 @@ impl StateDraft {
             scripts: Vec::new(alloc),
             has_default: false,
         })
+    }
+
+    /// The draft, where the rows that were to be added to it were; where one was refused, why.
+    pub fn unless_refused(self, told: Result<(), Reason>) -> Result<StateDraft, Reason>
+        ensures { result ≡ seen (λ _. self) told }
+    {
+        match told {
+            Ok(()) => Ok(self),
+            Err(reason) => {
+                drop(self);
+                Err(reason)
+            }
+        }
     }
 }

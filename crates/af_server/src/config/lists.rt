@@ -95,15 +95,23 @@ fn add_user(alloc: Global, draft: &mut PolicyDraft, row: &Json<'_>) -> Result<()
 pub fn read_state(alloc: Global, config: &Json<'_>) -> Result<StateDraft, Reason>
     ensures { OrMemory Reason.Memory (draft_in (view config.now)) result }
 {
-    let mut draft = StateDraft::new(alloc)?;
-    read_pools(alloc, &mut draft, config)?;
-    let mut draft = read_variables(alloc, draft, config)?;
-    read_dags(alloc, &mut draft, config)?;
-    Ok(draft)
+    let draft = StateDraft::new(alloc)?;
+    let draft = read_pools(alloc, draft, config)?;
+    let draft = read_variables(alloc, draft, config)?;
+    read_dags(alloc, draft, config)
 }
 
 /// Adds the pools that are listed.
-fn read_pools(alloc: Global, draft: &mut StateDraft, config: &Json<'_>) -> Result<(), Reason>
+fn read_pools(alloc: Global, draft: StateDraft, config: &Json<'_>) -> Result<StateDraft, Reason>
+    ensures { OrMemory Reason.Memory (with_rows pool_taken (codes "pools") (view config.now) draft) result }
+{
+    let mut draft = draft;
+    let told = list_pools(alloc, &mut draft, config);
+    draft.unless_refused(told)
+}
+
+/// Adds the pools that are listed, in place.
+fn list_pools(alloc: Global, draft: &mut StateDraft, config: &Json<'_>) -> Result<(), Reason>
     ensures { Makes Reason.Memory (with_rows pool_taken (codes "pools") (view config.now) draft.old) draft.new result }
 {
     add_pools(alloc, draft, optional_list(config, "pools")?)
@@ -113,11 +121,26 @@ fn read_pools(alloc: Global, draft: &mut StateDraft, config: &Json<'_>) -> Resul
 fn read_variables(alloc: Global, draft: StateDraft, config: &Json<'_>) -> Result<StateDraft, Reason>
     ensures { OrMemory Reason.Memory (with_rows variable_taken (codes "variables") (view config.now) draft) result }
 {
-    add_variables(alloc, draft, optional_list(config, "variables")?)
+    match optional_list(config, "variables") {
+        Ok(rows) => add_variables(alloc, draft, rows),
+        Err(reason) => {
+            drop(draft);
+            Err(reason)
+        }
+    }
 }
 
 /// Adds the DAGs that are listed.
-fn read_dags(alloc: Global, draft: &mut StateDraft, config: &Json<'_>) -> Result<(), Reason>
+fn read_dags(alloc: Global, draft: StateDraft, config: &Json<'_>) -> Result<StateDraft, Reason>
+    ensures { OrMemory Reason.Memory (with_rows dag_taken (codes "dags") (view config.now) draft) result }
+{
+    let mut draft = draft;
+    let told = list_dags(alloc, &mut draft, config);
+    draft.unless_refused(told)
+}
+
+/// Adds the DAGs that are listed, in place.
+fn list_dags(alloc: Global, draft: &mut StateDraft, config: &Json<'_>) -> Result<(), Reason>
     ensures { Makes Reason.Memory (with_rows dag_taken (codes "dags") (view config.now) draft.old) draft.new result }
 {
     add_dags(alloc, draft, optional_list(config, "dags")?)

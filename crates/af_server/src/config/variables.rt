@@ -86,8 +86,8 @@ impl Pending {
         ensures err { IfErr result (λ reason. reason ≡ Reason.Memory) }
     {
         let Pending { mut draft, found } = self;
-        add_in_order(&mut draft, found)?;
-        Ok(draft)
+        let told = add_in_order(&mut draft, found);
+        draft.unless_refused(told)
     }
 }
 
@@ -136,8 +136,13 @@ fn add_first(alloc: Global, draft: StateDraft, rows: &[Json<'_>]) -> Result<Stat
     ensures { OrMemory Reason.Memory (taking variable_taken draft (map view rows.now)) result }
 {
     let mut pending = Pending::of(alloc, draft);
-    pending.add_all(alloc, rows)?;
-    pending.finish()
+    match pending.add_all(alloc, rows) {
+        Ok(()) => pending.finish(),
+        Err(reason) => {
+            drop(pending);
+            Err(reason)
+        }
+    }
 }
 
 /// Adds the variables of the rows to others, one after another.
@@ -145,10 +150,18 @@ fn add_more(alloc: Global, draft: StateDraft, rows: &[Json<'_>]) -> Result<State
     ensures { OrMemory Reason.Memory (taking variable_taken draft (map view rows.now)) result }
 {
     let mut draft = draft;
+    let told = add_each(alloc, &mut draft, rows);
+    draft.unless_refused(told)
+}
+
+/// Adds the variables of the rows, in place.
+fn add_each(alloc: Global, draft: &mut StateDraft, rows: &[Json<'_>]) -> Result<(), Reason>
+    ensures { Makes Reason.Memory (taking variable_taken draft.old (map view rows.now)) draft.new result }
+{
     for row in rows {
-        add_variable(alloc, &mut draft, row)?;
+        add_variable(alloc, draft, row)?;
     }
-    Ok(draft)
+    Ok(())
 }
 
 /// Adds the variable of a row.
