@@ -3,7 +3,7 @@ use crate::tests::dags::{DEFAULT_POOL, row, task};
 use crate::tests::fresh::with_new_state;
 use crate::tests::openings::{add_run_of_g, add_tried, at, instances, moment};
 use crate::tests::seen::states_are;
-use crate::tests::steps::{Step, play};
+use crate::tests::steps::{Step, added_dag, play};
 use af_graph::{Points, Rule, Schedule, TaskSpec, TaskState};
 use af_names::{DagId, NamesDag, RunId};
 use af_runs::{RunFault, RunState};
@@ -89,7 +89,7 @@ fn added_every(
     most: u32,
     seconds: u32,
 ) -> Result<Result<(), AddDagFault>, Fail> {
-    Ok(state.add_dag(every(alloc, pool, most, seconds)?))
+    added_dag(state, every(alloc, pool, most, seconds)?)
 }
 
 /// Advances the run of this number to one that has failed.

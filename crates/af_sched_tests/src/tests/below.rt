@@ -2,4 +2,5 @@
 mod graph;
 mod pool;
 mod runs;
+mod tasks;
 mod vars;

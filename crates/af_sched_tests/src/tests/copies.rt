@@ -42,7 +42,8 @@ fn is_as_before(rt: &impl Abort, copy: &State) {
     holds(rt, are_dags(copy, &["g"]), "the DAG");
     holds(rt, first_are(copy, QUEUED), "the instance");
     holds(rt, states_are(copy, &[RunState::Queued]), "the run");
-    holds(rt, are_variables(copy, &[("k", "v")]), "the variable");
+    let are_variables = are_variables(copy.variables(), &[("k", "v")]);
+    holds(rt, are_variables, "the variable");
     holds(rt, copy.next_run() == Some(2), "the next number");
 }
 
@@ -55,7 +56,9 @@ fn a_copy_stays_where_the_state_changes(rt: HostRuntime) -> Result<(), Fail> {
 fn copy_stays(rt: &impl Abort, alloc: Global, state: &mut State) -> Result<(), Fail> {
     add_one_of_each(alloc, state)?;
     let copy = state.copied(alloc)?;
-    stays(rt, alloc, state, &copy)
+    let ended = stays(rt, alloc, state, &copy);
+    drop(copy);
+    ended
 }
 
 /// Changes a state, and ends the test where its copy does not stay as it was.
@@ -76,7 +79,9 @@ fn a_state_changes_and_its_copy_too(rt: HostRuntime) -> Result<(), Fail> {
 fn copy_changes(rt: &impl Abort, alloc: Global, state: &mut State) -> Result<(), Fail> {
     add_one_of_each(alloc, state)?;
     let mut copy = state.copied(alloc)?;
-    changes(rt, alloc, &mut copy)
+    let ended = changes(rt, alloc, &mut copy);
+    drop(copy);
+    ended
 }
 
 /// Changes a copy, and ends the test where it is not changed.
@@ -85,6 +90,6 @@ fn changes(rt: &impl Abort, alloc: Global, copy: &mut State) -> Result<(), Fail>
     holds(rt, first_are(copy, SUCCESS), "the instance");
     let slots = slots_of(alloc, copy, "p")?;
     holds(rt, slots == Some(7), "the slots");
-    holds(rt, are_variables(copy, &[]), "the variable");
+    holds(rt, copy.variables().is_empty(), "the variable");
     Ok(())
 }

@@ -1,4 +1,5 @@
-//! Lends new states to tests: a function that owns one is dear to prove, one that borrows it is not.
+//! Lends new states to tests: a function that owns one is dear to prove, one that borrows it is not. Who owns one hands it to
+//! `drop`, which is proved once.
 use af_sched::State;
 use std::alloc::{AllocGlobal, Global};
 use std::test::Fail;
@@ -11,7 +12,9 @@ where
     requires { F.IsAlwaysCallable told }
 {
     let mut state = State::new(rt.alloc())?;
-    told(rt, rt.alloc(), &mut state)
+    let ended = told(rt, rt.alloc(), &mut state);
+    drop(state);
+    ended
 }
 
 /// Lends a new state of its own to each row of a table.
@@ -35,5 +38,7 @@ where
     requires { F.IsAlwaysCallable told }
 {
     let mut state = State::new(rt.alloc())?;
-    told(rt, rt.alloc(), &mut state, row)
+    let ended = told(rt, rt.alloc(), &mut state, row);
+    drop(state);
+    ended
 }

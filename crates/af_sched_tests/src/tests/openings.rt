@@ -36,17 +36,9 @@ pub fn only(alloc: Global, instance: Instance) -> Result<Instances, Fail> {
     Ok(Instances::of(vec![in alloc; instance]?))
 }
 
-/// A new run of these ids and this date.
-pub fn new_run(
-    alloc: Global,
-    dag_id: &str,
-    run_id: &str,
-    date: Instant,
-    instances: Instances,
-) -> Result<NewRun, Fail> {
-    let dag_id = DagId::parse(alloc, dag_id)?;
-    let run_id = RunId::parse(alloc, run_id)?;
-    Ok(NewRun {
+/// A new run that is asked for by hand, of these ids, this date, at which its interval begins and ends, and these instances.
+pub fn manual_run(dag_id: DagId, run_id: RunId, date: Instant, instances: Instances) -> NewRun {
+    NewRun {
         dag_id,
         run_id,
         logical_date: date,
@@ -56,7 +48,20 @@ pub fn new_run(
         },
         run_type: RunType::Manual,
         instances,
-    })
+    }
+}
+
+/// The same, where the ids are read of these texts.
+pub fn new_run(
+    alloc: Global,
+    dag_id: &str,
+    run_id: &str,
+    date: Instant,
+    instances: Instances,
+) -> Result<NewRun, Fail> {
+    let dag_id = DagId::parse(alloc, dag_id)?;
+    let run_id = RunId::parse(alloc, run_id)?;
+    Ok(manual_run(dag_id, run_id, date, instances))
 }
 
 /// Adds a run with one instance for each task of its DAG.

@@ -3,7 +3,7 @@ use crate::tests::fresh::with_new_state;
 use crate::tests::openings::{add_pool, add_pooled};
 use af_graph::TaskState;
 use af_names::PoolName;
-use af_pool::PoolFault;
+use af_pool::{Pool, PoolFault};
 use af_sched::State;
 use std::alloc::Global;
 use std::process::Abort;
@@ -40,8 +40,7 @@ fn add_two_pools(alloc: Global, state: &mut State) -> Result<(), Fail> {
 }
 
 /// Whether the pools have these names and slots.
-fn are_pools(state: &State, wanted: &[(&str, u32)]) -> bool {
-    let rows = state.pools();
+pub fn are_pools(rows: &[Pool], wanted: &[(&str, u32)]) -> bool {
     for (row, (name, slots)) in rows.iter().zip(wanted) {
         if row.name.as_str() != *name || row.slots != *slots {
             return false;
@@ -80,7 +79,8 @@ fn a_pool_that_is_needed_stays(rt: HostRuntime) -> Result<(), Fail> {
 fn needed_stays(rt: &impl Abort, alloc: Global, state: &mut State) -> Result<(), Fail> {
     add_two_pools(alloc, state)?;
     are_removed(rt, alloc, state)?;
-    holds(rt, are_pools(state, LEFT), "the pools that are left");
+    let are_left = are_pools(state.pools(), LEFT);
+    holds(rt, are_left, "the pools that are left");
     Ok(())
 }
 

@@ -1,9 +1,9 @@
 use crate::tests::asserts::holds;
 use crate::tests::fresh::with_new_state;
 use crate::tests::openings::{add_dag_of_one, add_run_of_one};
+use crate::tests::seen::number_of;
 use af_graph::TaskState;
 use af_names::DagId;
-use af_runs::Run;
 use af_sched::State;
 use std::alloc::Global;
 use std::process::Abort;
@@ -57,13 +57,6 @@ fn is_page(state: &State, dag_id: &DagId, from: usize, wanted: &[u64]) -> bool {
         }
     }
     page.next().is_none()
-}
-
-fn number_of(run: Option<&Run>) -> Option<u64> {
-    match run {
-        Some(run) => Some(run.number),
-        None => None,
-    }
 }
 
 /// Whether the runs that have not ended have these numbers.

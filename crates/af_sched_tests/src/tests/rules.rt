@@ -47,13 +47,15 @@ fn becomes(alloc: Global, state: &mut State, row: &Row) -> Result<bool, Fail> {
 /// Whether a diamond goes by the rule of a row.
 fn goes(alloc: Global, row: &Row) -> Result<bool, Fail> {
     let mut state = State::new(alloc)?;
-    becomes(alloc, &mut state, row)
+    let goes = becomes(alloc, &mut state, row);
+    drop(state);
+    goes
 }
 
 /// A rule, the states of b and c, and what d becomes.
 type Row = (Rule, TaskState, TaskState, TaskState);
 
-const TABLE: [Row; 24] = [
+const TABLE: &[Row] = &[
     (Rule::AllSuccess, Success, Success, Scheduled),
     (Rule::AllSuccess, Failed, Running, UpstreamFailed),
     (Rule::AllSuccess, Success, Skipped, Skipped),

@@ -97,3 +97,11 @@ pub fn first_instance(state: &State) -> Result<Instance, Fail> {
         None => Err(Fail::from("no instance")),
     }
 }
+
+/// The number of a run, where there is one.
+pub fn number_of(run: Option<&Run>) -> Option<u64> {
+    match run {
+        Some(run) => Some(run.number),
+        None => None,
+    }
+}

@@ -6,7 +6,7 @@ use crate::tests::seen::{are_dags, cursor_is, first_are, first_is, runs_are, sta
 use af_graph::TaskState;
 use af_names::{DagId, Instant, PoolName, RunId, TaskId};
 use af_runs::{Mark, RunState};
-use af_sched::{AddDagFault, Claim, Outcome, ReportFault, State};
+use af_sched::{AddDagFault, Claim, DagRow, Outcome, ReportFault, State};
 use std::alloc::Global;
 use std::process::Abort;
 use std::test::Fail;
@@ -164,7 +164,15 @@ fn is_added(
     wanted: Result<(), AddDagFault>,
 ) -> Result<bool, Fail> {
     let row = dag_of_one(alloc, dag_id, 1, false)?;
-    Ok(state.add_dag(row) == wanted)
+    Ok(added_dag(state, row)? == wanted)
+}
+
+/// What adding a DAG is answered. Out of memory ends the test.
+pub fn added_dag(state: &mut State, row: DagRow) -> Result<Result<(), AddDagFault>, Fail> {
+    match state.add_dag(row) {
+        Err(AddDagFault::OutOfMemory) => Err(AddDagFault::OutOfMemory.into()),
+        told => Ok(told),
+    }
 }
 
 /// Whether the state is as a step says.

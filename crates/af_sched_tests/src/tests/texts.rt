@@ -1,7 +1,8 @@
 use crate::tests::asserts::holds;
 use af_sched::{AddDagFault, Outcome, ReportFault};
 use std::alloc::Global;
-use std::test::Fail;
+use std::fmt::Display;
+use std::process::Abort;
 
 const OUTCOMES: &[(&str, Option<Outcome>)] = &[
     ("success", Some(Outcome::Success)),
@@ -38,41 +39,36 @@ fn has_text(outcome: Option<Outcome>, text: &str) -> bool {
 }
 
 #[test]
-fn outcomes_are_read_by_their_texts(rt: HostRuntime) -> Result<(), Fail> {
+fn outcomes_are_read_by_their_texts(rt: HostRuntime) {
     for (text, wanted) in OUTCOMES {
         let outcome = Outcome::read(text);
         holds(&rt, outcome == *wanted, text);
         holds(&rt, has_text(outcome, text), text);
     }
-    Ok(())
 }
 
-/// Whether the fault of an addition is told so.
-fn is_told_of_adding(alloc: Global, fault: AddDagFault, text: &str) -> Result<bool, Fail> {
-    let shown = format!(in alloc; "{fault}")?;
-    Ok(shown.as_str() == text)
+/// Ends the test where one of these faults is not told so.
+pub fn are_told<T: Display>(rt: &impl Abort, alloc: Global, rows: &[(T, &str)]) {
+    for (fault, text) in rows {
+        let is_told = is_told(rt, alloc, fault, text);
+        holds(rt, is_told, text);
+    }
 }
 
-/// Whether the fault of a report is told so.
-fn is_told_of_a_report(alloc: Global, fault: ReportFault, text: &str) -> Result<bool, Fail> {
-    let shown = format!(in alloc; "{fault}")?;
-    Ok(shown.as_str() == text)
+/// Whether a fault is told so.
+fn is_told<T: Display>(rt: &impl Abort, alloc: Global, fault: &T, text: &str) -> bool {
+    let told = format!(in alloc; "{fault}").expect(rt, "the words of a fault");
+    let is_told = told.as_str() == text;
+    drop(told);
+    is_told
 }
 
 #[test]
-fn faults_of_adding_a_dag_have_texts(rt: HostRuntime) -> Result<(), Fail> {
-    for (fault, text) in ADDED {
-        let is_told = is_told_of_adding(rt.alloc(), *fault, text)?;
-        holds(&rt, is_told, text);
-    }
-    Ok(())
+fn faults_of_adding_a_dag_have_texts(rt: HostRuntime) {
+    are_told(&rt, rt.alloc(), ADDED);
 }
 
 #[test]
-fn faults_of_a_report_have_texts(rt: HostRuntime) -> Result<(), Fail> {
-    for (fault, text) in REPORTED {
-        let is_told = is_told_of_a_report(rt.alloc(), *fault, text)?;
-        holds(&rt, is_told, text);
-    }
-    Ok(())
+fn faults_of_a_report_have_texts(rt: HostRuntime) {
+    are_told(&rt, rt.alloc(), REPORTED);
 }

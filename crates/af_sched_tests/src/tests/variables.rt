@@ -53,8 +53,7 @@ pub fn remove_variable(alloc: Global, state: &mut State, key: &str) -> Result<bo
 }
 
 /// Whether the variables have these keys and texts.
-pub fn are_variables(state: &State, wanted: &[(&str, &str)]) -> bool {
-    let rows = state.variables();
+pub fn are_variables(rows: &[Variable], wanted: &[(&str, &str)]) -> bool {
     for (row, (key, text)) in rows.iter().zip(wanted) {
         if row.key.as_str() != *key || row.value.as_str() != *text {
             return false;
@@ -131,16 +130,16 @@ fn variables_are_changed_one_by_one(rt: HostRuntime) -> Result<(), Fail> {
 
 /// Ends the test where the variables of a new state are not changed as they should be.
 fn are_changed(rt: &impl Abort, alloc: Global, state: &mut State) -> Result<(), Fail> {
-    holds(rt, are_variables(state, &[]), "none at first");
+    holds(rt, state.variables().is_empty(), "none at first");
     state.reserve_variables(3)?;
     are_told(rt, alloc, state)?;
-    let are_left = are_variables(state, LEFT);
+    let are_left = are_variables(state.variables(), LEFT);
     holds(rt, are_left, "the variables that are left");
     Ok(())
 }
 
 /// Whether a variable has this text; of none, whether there is no variable.
-fn has_text(found: Option<&Variable>, wanted: Option<&str>) -> bool {
+pub fn has_text(found: Option<&Variable>, wanted: Option<&str>) -> bool {
     match (found, wanted) {
         (Some(row), Some(text)) => row.value.as_str() == text,
         (None, None) => true,

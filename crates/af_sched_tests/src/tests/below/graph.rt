@@ -4,51 +4,24 @@ mod rules;
 mod schedules;
 mod texts;
 
-use af_graph::{DagSpec, Rule, TaskIds, TaskSpec, TaskSpecs};
-use af_names::{DagId, PoolName, TaskId};
+use crate::tests::below::tasks::{task_after, task_ids};
+use af_graph::{TaskIds, TaskSpec};
 use std::alloc::Global;
-use std::test::Fail;
+use std::process::Abort;
 
 /// A task after those, of so many slots.
-fn task(alloc: Global, id: &str, upstream: TaskIds, slots: u64) -> Result<TaskSpec, Fail> {
-    let task_id = TaskId::parse(alloc, id)?;
-    Ok(TaskSpec {
-        task_id,
-        upstream,
-        pool: PoolName::parse(alloc, "default_pool")?,
-        pool_slots: slots,
-        priority_weight: 1,
-        retries: 0,
-        retry_delay: 300,
-        trigger_rule: Rule::AllSuccess,
-    })
+fn task(rt: &impl Abort, alloc: Global, id: &str, upstream: TaskIds, slots: u64) -> TaskSpec {
+    let mut task = task_after(rt, alloc, id, upstream, "default_pool");
+    task.pool_slots = slots;
+    task
 }
 
-fn ids(alloc: Global, names: &[&str]) -> Result<TaskIds, Fail> {
-    let mut ids = Vec::new(alloc);
-    for name in names {
-        ids.push(TaskId::parse(alloc, name)?)?;
-    }
-    Ok(TaskIds::of(ids))
-}
-
-/// A definition of these tasks, each after those, of so many slots.
-fn spec(alloc: Global, rows: &[(&str, &[&str])], slots: u64) -> Result<DagSpec, Fail> {
+/// Tasks, each after those, of so many slots.
+fn tasks(rt: &impl Abort, alloc: Global, rows: &[(&str, &[&str])], slots: u64) -> Vec<TaskSpec> {
     let mut tasks = Vec::new(alloc);
     for (id, upstream) in rows {
-        let before = ids(alloc, upstream)?;
-        tasks.push(task(alloc, id, before, slots)?)?;
+        let task = task(rt, alloc, id, task_ids(rt, alloc, upstream), slots);
+        tasks.push(task).expect(rt, "room for a task");
     }
-    defined(alloc, tasks)
-}
-
-fn defined(alloc: Global, tasks: Vec<TaskSpec>) -> Result<DagSpec, Fail> {
-    let dag_id = DagId::parse(alloc, "d")?;
-    Ok(DagSpec {
-        dag_id,
-        tasks: TaskSpecs::of(tasks),
-        schedule: None,
-        catchup: true,
-        max_active_runs: 16,
-    })
+    tasks
 }

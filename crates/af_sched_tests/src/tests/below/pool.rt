@@ -1,13 +1,14 @@
 mod held;
 mod kept;
 
-use crate::tests::asserts::holds;
-use af_graph::{Dag, DagSpec, Rule, TaskIds, TaskSpec, TaskSpecs};
-use af_names::{DagId, PoolName, TaskId};
-use af_pool::{Pool, PoolFault, Pools};
+use crate::tests::asserts::{has_memory, holds};
+use crate::tests::below::tasks::{dag, task};
+use crate::tests::pools::are_pools;
+use af_graph::Dag;
+use af_names::PoolName;
+use af_pool::{PoolFault, Pools};
 use std::alloc::Global;
 use std::process::Abort;
-use std::test::Fail;
 
 /// A pool is added or gets other slots, with so many slots, or is removed while there are DAGs or while there are none.
 #[derive(Clone, Copy)]
@@ -23,58 +24,34 @@ use Step::{Add, Remove, RemoveAmongDags, Set};
 /// A step on the pool of a name, and what it answers.
 type Row<'a> = (Step, &'a str, Result<(), PoolFault>);
 
-/// What a step answers. Out of memory ends the test.
-fn taken(
-    pools: &mut Pools,
-    name: PoolName,
-    step: Step,
-    dags: &[Dag],
-) -> Result<Result<(), PoolFault>, Fail> {
-    let answer = match step {
+/// What a step on the pool of a name answers.
+fn answer(pools: &mut Pools, name: PoolName, step: Step, dags: &[Dag]) -> Result<(), PoolFault> {
+    match step {
         Add(slots) => pools.add(name, slots),
         Set(slots) => pools.set_slots(&name, slots),
         Remove => pools.remove::<Dag>(&name, &[]),
         RemoveAmongDags => pools.remove(&name, dags),
-    };
-    match answer {
-        Err(PoolFault::OutOfMemory) => Err(PoolFault::OutOfMemory.into()),
-        told => Ok(told),
     }
 }
 
-/// What a step on the pool of a name answers.
-fn answer(
-    alloc: Global,
-    pools: &mut Pools,
-    name: &str,
-    step: Step,
-    dags: &[Dag],
-) -> Result<Result<(), PoolFault>, Fail> {
-    taken(pools, PoolName::parse(alloc, name)?, step, dags)
+/// The name of a pool.
+fn name_of(rt: &impl Abort, alloc: Global, text: &str) -> PoolName {
+    PoolName::parse(alloc, text).expect(rt, "the name of a pool")
 }
 
-/// Takes the steps, and compares what each answers.
-fn played(
-    rt: &impl Abort,
-    alloc: Global,
-    pools: &mut Pools,
-    dags: &[Dag],
-    steps: &[Row<'_>],
-) -> Result<(), Fail> {
+/// Takes the steps, and ends the test where one answers otherwise.
+fn play(rt: &impl Abort, alloc: Global, pools: &mut Pools, dags: &[Dag], steps: &[Row<'_>]) {
     for (step, name, wanted) in steps {
-        let answer = answer(alloc, pools, name, *step, dags)?;
-        holds(rt, answer == *wanted, name);
+        let told = answer(pools, name_of(rt, alloc, name), *step, dags);
+        has_memory(rt, told != Err(PoolFault::OutOfMemory), name);
+        holds(rt, told == *wanted, name);
     }
-    Ok(())
 }
 
-fn has_rows(rows: &[Pool], wanted: &[(&str, u32)]) -> bool {
-    for (row, (name, slots)) in rows.iter().zip(wanted) {
-        if row.name.as_str() != *name || row.slots != *slots {
-            return false;
-        }
-    }
-    rows.len() == wanted.len()
+/// Ends the test where the rows are not these.
+fn have_rows(rt: &impl Abort, pools: &Pools, wanted: &[(&str, u32)], what: &str) {
+    let are_pools = are_pools(pools.rows(), wanted);
+    holds(rt, are_pools, what);
 }
 
 const ADDED: &[Row<'static>] = &[
@@ -130,38 +107,50 @@ const FOUND: &[(&str, Option<u32>)] = &[("p", Some(7)), ("Zed", Some(0)), ("abse
 
 /// Whether it is told rightly whether the pool of a name is there, and whether these are its slots.
 fn is_found(
+    rt: &impl Abort,
     alloc: Global,
     pools: &Pools,
-    name: &str,
+    text: &str,
     slots: Option<u32>,
-) -> Result<(bool, bool), Fail> {
-    let name = PoolName::parse(alloc, name)?;
+) -> (bool, bool) {
+    let name = name_of(rt, alloc, text);
     let is_there = pools.has(&name) == slots.is_some();
-    Ok((is_there, slots_of(pools, &name) == slots))
+    let has_slots = slots_of(pools, &name) == slots;
+    drop(name);
+    (is_there, has_slots)
 }
 
 /// Ends the test where a pool is not found as it should be.
-fn are_found(rt: &impl Abort, alloc: Global, pools: &Pools) -> Result<(), Fail> {
+fn are_found(rt: &impl Abort, alloc: Global, pools: &Pools) {
     for (name, slots) in FOUND {
-        let (is_there, has_slots) = is_found(alloc, pools, name, *slots)?;
+        let (is_there, has_slots) = is_found(rt, alloc, pools, name, *slots);
         holds(rt, is_there, name);
         holds(rt, has_slots, name);
     }
-    Ok(())
+}
+
+/// What the rows are looked at for.
+const AFTER: &str = "the rows after the steps";
+
+/// Ends the test where one of the stages does not go as it says.
+fn go(rt: &impl Abort, alloc: Global, pools: &mut Pools) {
+    for (steps, rows) in STAGES {
+        play(rt, alloc, pools, &[], steps);
+        have_rows(rt, pools, rows, AFTER);
+    }
+}
+
+/// New pools, of which the default pool is one.
+fn new_pools(rt: &impl Abort, alloc: Global) -> Pools {
+    Pools::new(alloc).expect(rt, "new pools")
 }
 
 #[test]
-fn rows_go_by_name_and_a_fault_leaves_them(rt: HostRuntime) -> Result<(), Fail> {
-    let mut pools = Pools::new(rt.alloc())?;
-    for (steps, rows) in STAGES {
-        played(&rt, rt.alloc(), &mut pools, &[], steps)?;
-        holds(
-            &rt,
-            has_rows(pools.rows(), rows),
-            "the rows after the steps",
-        );
-    }
-    are_found(&rt, rt.alloc(), &pools)
+fn rows_go_by_name_and_a_fault_leaves_them(rt: HostRuntime) {
+    let mut pools = new_pools(&rt, rt.alloc());
+    go(&rt, rt.alloc(), &mut pools);
+    are_found(&rt, rt.alloc(), &pools);
+    drop(pools);
 }
 
 const IN_RESERVE: &[Row<'static>] = &[
@@ -172,77 +161,33 @@ const IN_RESERVE: &[Row<'static>] = &[
 
 const FOUR: &[(&str, u32)] = &[("default_pool", 128), ("p", 2), ("q", 1), ("r", 3)];
 
+/// Ends the test where new pools have no room for two once it is reserved.
+fn have_room(rt: &impl Abort, pools: &mut Pools) {
+    pools.reserve(2).expect(rt, "two rows are reserved");
+    have_rows(rt, pools, FIRST, "as before");
+    holds(rt, pools.spare() >= 2, "room for two");
+}
+
 #[test]
-fn reserved_rows_are_there(rt: HostRuntime) -> Result<(), Fail> {
-    let mut pools = Pools::new(rt.alloc())?;
-    pools.reserve(2)?;
-    holds(&rt, has_rows(pools.rows(), FIRST), "as before");
-    holds(&rt, pools.spare() >= 2, "room for two");
-    played(&rt, rt.alloc(), &mut pools, &[], IN_RESERVE)?;
-    holds(
-        &rt,
-        has_rows(pools.rows(), FOUR),
-        "the rows after the steps",
-    );
-    Ok(())
+fn reserved_rows_are_there(rt: HostRuntime) {
+    let mut pools = new_pools(&rt, rt.alloc());
+    have_room(&rt, &mut pools);
+    play(&rt, rt.alloc(), &mut pools, &[], IN_RESERVE);
+    have_rows(&rt, &pools, FOUR, AFTER);
+    drop(pools);
+}
+
+/// Adds a pool of this name and so many slots.
+fn add(rt: &impl Abort, alloc: Global, pools: &mut Pools, name: &str, slots: u64) {
+    let told = pools.add(name_of(rt, alloc, name), slots);
+    told.expect(rt, "a pool is added");
 }
 
 /// The default pool, and p of so many slots.
-fn with_p(alloc: Global, slots: u64) -> Result<Pools, Fail> {
-    let mut pools = Pools::new(alloc)?;
-    pools.add(PoolName::parse(alloc, "p")?, slots)?;
-    Ok(pools)
-}
-
-/// A task of this pool.
-fn task(alloc: Global, task_id: &str, pool: &str) -> Result<TaskSpec, Fail> {
-    let pool = PoolName::parse(alloc, pool)?;
-    Ok(TaskSpec {
-        task_id: TaskId::parse(alloc, task_id)?,
-        upstream: TaskIds::of(Vec::new(alloc)),
-        pool,
-        pool_slots: 1,
-        priority_weight: 1,
-        retries: 0,
-        retry_delay: 300,
-        trigger_rule: Rule::AllSuccess,
-    })
-}
-
-/// Tasks x in the default pool and y in p.
-fn tasks(alloc: Global) -> Result<Vec<TaskSpec>, Fail> {
-    let mut tasks = Vec::new(alloc);
-    for (task_id, pool) in [("x", "default_pool"), ("y", "p")] {
-        tasks.push(task(alloc, task_id, pool)?)?;
-    }
-    Ok(tasks)
-}
-
-/// A DAG of two tasks, x in the default pool and y in p.
-fn dag(alloc: Global) -> Result<Dag, Fail> {
-    let tasks = tasks(alloc)?;
-    let dag_id = DagId::parse(alloc, "a")?;
-    let spec = DagSpec {
-        dag_id,
-        tasks: TaskSpecs::of(tasks),
-        schedule: None,
-        catchup: true,
-        max_active_runs: 16,
-    };
-    Ok(Dag::new(alloc, spec)?)
-}
-
-#[test]
-fn a_pool_that_a_task_names_stays(rt: HostRuntime) -> Result<(), Fail> {
-    let dags = [dag(rt.alloc())?];
-    let mut pools = Pools::new(rt.alloc())?;
-    played(&rt, rt.alloc(), &mut pools, &dags, AMONG_DAGS)?;
-    holds(
-        &rt,
-        has_rows(pools.rows(), FIRST),
-        "the rows after the steps",
-    );
-    Ok(())
+fn with_p(rt: &impl Abort, alloc: Global, slots: u64) -> Pools {
+    let mut pools = new_pools(rt, alloc);
+    add(rt, alloc, &mut pools, "p", slots);
+    pools
 }
 
 const AMONG_DAGS: &[Row<'static>] = &[
@@ -252,3 +197,26 @@ const AMONG_DAGS: &[Row<'static>] = &[
     (Remove, "p", Ok(())),
     (RemoveAmongDags, "q", Ok(())),
 ];
+
+/// A DAG of two tasks, x in the default pool and y in p.
+fn dag_of_two(rt: &impl Abort, alloc: Global) -> Dag {
+    let first = task(rt, alloc, "x", "default_pool");
+    let second = task(rt, alloc, "y", "p");
+    let tasks = vec![in alloc; first, second].expect(rt, "two tasks");
+    dag(rt, alloc, "a", tasks)
+}
+
+/// Ends the test where of new pools one that a task of these DAGs names does not stay.
+fn named_stays(rt: &impl Abort, alloc: Global, dags: &[Dag]) {
+    let mut pools = new_pools(rt, alloc);
+    play(rt, alloc, &mut pools, dags, AMONG_DAGS);
+    have_rows(rt, &pools, FIRST, AFTER);
+    drop(pools);
+}
+
+#[test]
+fn a_pool_that_a_task_names_stays(rt: HostRuntime) {
+    let dags = [dag_of_two(&rt, rt.alloc())];
+    named_stays(&rt, rt.alloc(), &dags);
+    drop(dags);
+}

@@ -12,10 +12,11 @@ mod tasks;
 mod texts;
 
 use crate::tests::asserts::holds;
+use crate::tests::seen::number_of;
 use af_runs::{RunFault, RunState, Runs};
 use asserts::has_memory;
 use making::{FAILED, New, UNTRIED, add_runs, ids, moment, new_run};
-use seen::{Row, has_rows, have_instances, is_dated, is_row, number_of};
+use seen::{Row, has_rows, have_instances, is_dated, is_row};
 use std::alloc::Global;
 use std::process::Abort;
 

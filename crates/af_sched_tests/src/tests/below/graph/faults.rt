@@ -1,15 +1,22 @@
-use super::{defined, ids, spec, task};
-use crate::tests::asserts::{holds, row_holds};
-use af_graph::{Dag, DagFault, DagSpec, TaskIds, TaskSpec};
+use super::{task, tasks};
+use crate::tests::asserts::{has_memory, holds, row_holds};
+use crate::tests::below::tasks::{definition, task_ids};
+use af_graph::{Dag, DagFault, TaskIds, TaskSpec};
 use std::alloc::Global;
-use std::test::Fail;
+use std::process::Abort;
 
-/// What is told of a definition, if it is no DAG. Out of memory ends the test.
-fn told(alloc: Global, spec: DagSpec) -> Result<Option<DagFault>, Fail> {
-    match Dag::new(alloc, spec) {
-        Ok(_) => Ok(None),
-        Err(fault) if matches!(fault, DagFault::OutOfMemory) => Err(fault.into()),
-        Err(fault) => Ok(Some(fault)),
+/// What is told of a definition of these tasks, if it is no DAG. Out of memory ends the test.
+fn told(rt: &impl Abort, alloc: Global, tasks: Vec<TaskSpec>) -> Option<DagFault> {
+    match Dag::new(alloc, definition(rt, alloc, "d", tasks)) {
+        Ok(dag) => {
+            drop(dag);
+            None
+        }
+        Err(fault) => {
+            let has_room = !matches!(&fault, DagFault::OutOfMemory);
+            has_memory(rt, has_room, "a definition");
+            Some(fault)
+        }
     }
 }
 
@@ -65,49 +72,67 @@ const FAULTS: &[Row] = &[
 ];
 
 /// Whether that is told of the tasks of a row.
-fn is_told(alloc: Global, row: &Row) -> Result<bool, Fail> {
-    let fault = told(alloc, spec(alloc, row.0, row.1)?)?;
-    Ok(shown(&fault) == row.2)
+fn is_told(rt: &impl Abort, alloc: Global, row: &Row) -> bool {
+    let fault = told(rt, alloc, tasks(rt, alloc, row.0, row.1));
+    let is_told = shown(&fault) == row.2;
+    drop(fault);
+    is_told
 }
 
 #[test]
-fn the_first_fault_is_told(rt: HostRuntime) -> Result<(), Fail> {
+fn the_first_fault_is_told(rt: HostRuntime) {
     for (place, row) in FAULTS.iter().enumerate() {
-        let is_told = is_told(rt.alloc(), row)?;
+        let is_told = is_told(&rt, rt.alloc(), row);
         row_holds(&rt, is_told, place);
     }
-    Ok(())
+}
+
+/// The id that is this number.
+fn id_of(rt: &impl Abort, alloc: Global, place: usize) -> String {
+    format!(in alloc; "t{place}").expect(rt, "the text of an id")
 }
 
 /// A task whose id is this number, after those.
-fn numbered(alloc: Global, place: usize, before: TaskIds) -> Result<TaskSpec, Fail> {
-    let id = format!(in alloc; "t{place}")?;
-    task(alloc, id.as_str(), before, 1)
+fn numbered(rt: &impl Abort, alloc: Global, place: usize, before: TaskIds) -> TaskSpec {
+    let id = id_of(rt, alloc, place);
+    let task = task(rt, alloc, id.as_str(), before, 1);
+    drop(id);
+    task
 }
 
 /// The id that is the number before this one, if there is one.
-fn before(alloc: Global, place: usize) -> Result<TaskIds, Fail> {
+fn before(rt: &impl Abort, alloc: Global, place: usize) -> TaskIds {
     if place == 0 {
-        return ids(alloc, &[]);
+        return TaskIds::of(Vec::new(alloc));
     }
-    let id = format!(in alloc; "t{}", place - 1)?;
-    ids(alloc, &[id.as_str()])
+    let id = id_of(rt, alloc, place - 1);
+    let ids = task_ids(rt, alloc, &[id.as_str()]);
+    drop(id);
+    ids
 }
 
-/// What is told of so many tasks, each after the one before it.
-fn chained(alloc: Global, count: usize) -> Result<Option<DagFault>, Fail> {
+/// So many tasks, each after the one before it.
+fn chain(rt: &impl Abort, alloc: Global, count: usize) -> Vec<TaskSpec> {
     let mut tasks = Vec::new(alloc);
     for place in 0..count {
-        let before = before(alloc, place)?;
-        tasks.push(numbered(alloc, place, before)?)?;
+        let task = numbered(rt, alloc, place, before(rt, alloc, place));
+        tasks.push(task).expect(rt, "room for a task");
     }
-    told(alloc, defined(alloc, tasks)?)
+    tasks
+}
+
+/// Whether this is told of so many tasks, each after the one before it.
+fn is_told_of(rt: &impl Abort, alloc: Global, count: usize, wanted: &Option<DagFault>) -> bool {
+    let fault = told(rt, alloc, chain(rt, alloc, count));
+    let is_told = fault == *wanted;
+    drop(fault);
+    is_told
 }
 
 #[test]
-fn the_most_tasks(rt: HostRuntime) -> Result<(), Fail> {
-    holds(&rt, chained(rt.alloc(), 512)?.is_none(), "a chain of 512");
-    let told = chained(rt.alloc(), 513)?;
-    holds(&rt, told == Some(DagFault::TooMany), "a chain of 513");
-    Ok(())
+fn the_most_tasks(rt: HostRuntime) {
+    let of_512 = is_told_of(&rt, rt.alloc(), 512, &None);
+    holds(&rt, of_512, "a chain of 512");
+    let of_513 = is_told_of(&rt, rt.alloc(), 513, &Some(DagFault::TooMany));
+    holds(&rt, of_513, "a chain of 513");
 }

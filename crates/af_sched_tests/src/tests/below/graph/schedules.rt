@@ -1,7 +1,7 @@
 use crate::tests::asserts::row_holds;
 use af_graph::{Points, Schedule};
 use af_names::{Instant, Preset};
-use std::test::Fail;
+use std::process::Abort;
 
 /// 2024-02-01T00:00:00Z, and a month later.
 const FEBRUARY: u64 = 1_706_745_600_000_000;
@@ -23,20 +23,23 @@ enum Call {
 
 use Call::{After, Last, Next};
 
+/// The moment of this text.
+fn at(rt: &impl Abort, text: &str) -> Instant {
+    Instant::read(text).expect(rt, "a moment")
+}
+
 /// What a schedule of these points from a start date answers, in microseconds.
-fn answered(points: Points, start: &str, call: Call, at: &str) -> Result<Option<u64>, Fail> {
-    let start_date = Instant::read(start)?;
-    let at = Instant::read(at)?;
+fn answered(points: Points, start_date: Instant, call: Call, at: Instant) -> Option<u64> {
     let schedule = Schedule { points, start_date };
     let found = match call {
         Next => schedule.next_at_or_after(at),
         After => schedule.next_after(at),
         Last => schedule.last_at_or_before(at),
     };
-    Ok(match found {
+    match found {
         Some(instant) => Some(instant.micros()),
         None => None,
-    })
+    }
 }
 
 const MONTHS: Points = Points::Preset(Preset::Monthly);
@@ -95,10 +98,9 @@ const MOMENTS: &[Row] = &[
 ];
 
 #[test]
-fn moments_from_a_start_date(rt: HostRuntime) -> Result<(), Fail> {
-    for (row, (points, start, call, at, wanted)) in MOMENTS.iter().enumerate() {
-        let told = answered(*points, *start, *call, *at)?;
+fn moments_from_a_start_date(rt: HostRuntime) {
+    for (row, (points, start, call, moment, wanted)) in MOMENTS.iter().enumerate() {
+        let told = answered(*points, at(&rt, start), *call, at(&rt, moment));
         row_holds(&rt, told == *wanted, row);
     }
-    Ok(())
 }

@@ -1,10 +1,10 @@
-use super::with_p;
+use super::{name_of, with_p};
 use crate::tests::asserts::row_holds;
 use af_graph::TaskState;
 use af_names::PoolName;
 use af_pool::{Occupant, Pools};
 use std::alloc::Global;
-use std::test::Fail;
+use std::process::Abort;
 
 fn occupant<'a>(pool: &'a PoolName, slots: u64, state: TaskState) -> Occupant<'a> {
     Occupant { pool, slots, state }
@@ -66,7 +66,7 @@ const ALL_HELD: [TaskState; 4] = [
 /// The pool asked for, the slots of p, the states, and what is occupied, queued, running and open.
 type Row = (&'static str, u64, [TaskState; 4], [u64; 4]);
 
-const HELD: [Row; 6] = [
+const HELD: &[Row] = &[
     ("p", 2, UNTRIED, [0, 0, 0, 2]),
     ("p", 2, TWO_QUEUED, [2, 2, 0, 0]),
     ("p", 1, ONE_OF_EACH, [2, 1, 1, 0]),
@@ -76,40 +76,44 @@ const HELD: [Row; 6] = [
 ];
 
 /// What instances in these states hold of the pool of a name.
-fn held(
-    alloc: Global,
-    pools: &Pools,
-    name: &str,
-    states: [TaskState; 4],
-) -> Result<[u64; 4], Fail> {
-    let name = PoolName::parse(alloc, name)?;
-    let them = occupants(&name, states);
-    Ok([
-        pools.occupied(&name, &them),
-        pools.queued(&name, &them),
-        pools.running(&name, &them),
-        pools.open(&name, &them),
-    ])
+fn held(pools: &Pools, name: &PoolName, states: [TaskState; 4]) -> [u64; 4] {
+    let them = occupants(name, states);
+    [
+        pools.occupied(name, &them),
+        pools.queued(name, &them),
+        pools.running(name, &them),
+        pools.open(name, &them),
+    ]
 }
 
 /// Gives p so many slots.
-fn set_p(alloc: Global, pools: &mut Pools, slots: u64) -> Result<(), Fail> {
-    pools.set_slots(&PoolName::parse(alloc, "p")?, slots)?;
-    Ok(())
+fn set_p(rt: &impl Abort, alloc: Global, pools: &mut Pools, slots: u64) {
+    let name = name_of(rt, alloc, "p");
+    let told = pools.set_slots(&name, slots);
+    drop(name);
+    told.expect(rt, "the slots of p");
 }
 
 /// Whether it is told what instances hold, where p has the slots of a row.
-fn is_held(alloc: Global, pools: &mut Pools, row: &Row) -> Result<bool, Fail> {
-    set_p(alloc, pools, row.1)?;
-    Ok(held(alloc, pools, row.0, row.2)? == row.3)
+fn is_held(rt: &impl Abort, alloc: Global, pools: &mut Pools, row: &Row) -> bool {
+    set_p(rt, alloc, pools, row.1);
+    let name = name_of(rt, alloc, row.0);
+    let is_held = held(pools, &name, row.2) == row.3;
+    drop(name);
+    is_held
+}
+
+/// Ends the test where it is not told what the instances of each row hold.
+fn are_held(rt: &impl Abort, alloc: Global, pools: &mut Pools) {
+    for (place, row) in HELD.iter().enumerate() {
+        let is_held = is_held(rt, alloc, pools, row);
+        row_holds(rt, is_held, place);
+    }
 }
 
 #[test]
-fn queued_and_running_instances_hold_slots(rt: HostRuntime) -> Result<(), Fail> {
-    let mut pools = with_p(rt.alloc(), 2)?;
-    for (place, row) in HELD.iter().enumerate() {
-        let is_held = is_held(rt.alloc(), &mut pools, row)?;
-        row_holds(&rt, is_held, place);
-    }
-    Ok(())
+fn queued_and_running_instances_hold_slots(rt: HostRuntime) {
+    let mut pools = with_p(&rt, rt.alloc(), 2);
+    are_held(&rt, rt.alloc(), &mut pools);
+    drop(pools);
 }

@@ -3,7 +3,7 @@ use super::making::{FAILED, New, add_runs, moment, new_run, run_of};
 use super::seen::{Row, has_rows, have_instances, is_dated};
 use super::{Asked, DATE_TAKEN, ID_TAKEN};
 use crate::tests::asserts::holds;
-use af_runs::{Additions, NewRun, Run, RunFault, RunState, Runs};
+use af_runs::{Additions, NewRun, OptionalInstant, Run, RunFault, RunState, Runs};
 use std::alloc::Global;
 use std::process::Abort;
 
@@ -137,8 +137,8 @@ fn ended(rt: &impl Abort, alloc: Global, number: u64) -> Run {
         interval,
         run_type,
         state: RunState::Failed,
-        start_date: Some(logical_date),
-        end_date: Some(moment(9)),
+        start_date: OptionalInstant::from(Some(logical_date)),
+        end_date: OptionalInstant::from(Some(moment(9))),
         instances,
     }
 }

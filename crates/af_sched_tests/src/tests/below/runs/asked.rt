@@ -1,7 +1,8 @@
 use super::making::maybe;
 use super::tasks::two_tasks;
-use af_graph::{TaskIds, TaskSpec};
-use af_names::{DagId, RunId, TaskId};
+use crate::tests::below::tasks::task_ids;
+use af_graph::TaskSpec;
+use af_names::{DagId, RunId};
 use af_runs::{ChosenTasks, RunFilter, Selection};
 use std::alloc::Global;
 use std::process::Abort;
@@ -54,16 +55,6 @@ pub fn filter_of(rt: &impl Abort, alloc: Global, asked: &Asked) -> RunFilter {
         start_date: maybe(asked.start_date),
         end_date: maybe(asked.end_date),
     }
-}
-
-/// The ids of these tasks.
-fn task_ids(rt: &impl Abort, alloc: Global, texts: &[&str]) -> TaskIds {
-    let mut ids = Vec::new(alloc);
-    for text in texts {
-        let id = TaskId::parse(alloc, text).expect(rt, "the id of a task");
-        ids.push(id).expect(rt, "room for the id of a task");
-    }
-    TaskIds::of(ids)
 }
 
 /// Those of these tasks that are asked for.

@@ -1,9 +1,9 @@
-use crate::tests::asserts::holds;
+use crate::tests::asserts;
 use af_runs::RunFault;
 use std::process::Abort;
 
 /// Ends the test where a run found no memory, in words that say so.
 pub fn has_memory(rt: &impl Abort, told: Result<u64, RunFault>) {
     let has_memory = told != Err(RunFault::OutOfMemory);
-    holds(rt, has_memory, "a run is added: OutOfMemory");
+    asserts::has_memory(rt, has_memory, "a run is added");
 }

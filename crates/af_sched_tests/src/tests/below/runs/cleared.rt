@@ -1,6 +1,6 @@
 //! What a clear makes of the four runs.
 use super::four::four_runs;
-use super::seen::number_of;
+use crate::tests::seen::number_of;
 use af_graph::TaskState;
 use af_runs::{Instance, Run, RunState, Runs};
 use std::alloc::Global;

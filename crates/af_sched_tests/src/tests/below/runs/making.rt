@@ -1,8 +1,9 @@
 //! What the tests are made of. What should not fail is expected to succeed, with words for it, or proved to: so no function has a
 //! way out before its end, at which what it owns would be dropped anew.
+use crate::tests::openings::manual_run;
 use af_graph::TaskState;
 use af_names::{DagId, Instant, RunId};
-use af_runs::{Instance, Instances, Interval, NewRun, RunType, Runs};
+use af_runs::{Instance, Instances, NewRun, Runs};
 use std::alloc::Global;
 use std::process::Abort;
 
@@ -50,18 +51,7 @@ pub type New<'a> = (&'a str, &'a str, u32);
 pub fn run_of(rt: &impl Abort, alloc: Global, row: New<'_>, instances: &[Instance]) -> NewRun {
     let (dag_id, run_id) = ids(rt, alloc, row.0, row.1);
     let instances = Vec::from_slice(alloc, instances).expect(rt, "the instances of a run");
-    let date = moment(row.2);
-    NewRun {
-        dag_id,
-        run_id,
-        logical_date: date,
-        interval: Interval {
-            start: date,
-            end: date,
-        },
-        run_type: RunType::Manual,
-        instances: Instances::of(instances),
-    }
+    manual_run(dag_id, run_id, moment(row.2), Instances::of(instances))
 }
 
 /// A run of two tasks.

@@ -1,6 +1,6 @@
 use super::making::{UNTRIED, maybe, moment, run_of};
-use super::seen::number_of;
 use crate::tests::asserts::{holds, row_holds};
+use crate::tests::seen::number_of;
 use af_graph::TaskState;
 use af_runs::{Instance, Mark, RunState, Runs};
 use std::alloc::Global;

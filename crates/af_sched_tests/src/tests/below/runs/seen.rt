@@ -26,14 +26,6 @@ pub fn is_row(run: &Run, wanted: &Row<'_>) -> bool {
     ) == *wanted
 }
 
-/// The number of a run, where there is one.
-pub fn number_of(run: Option<&Run>) -> Option<u64> {
-    match run {
-        Some(run) => Some(run.number),
-        None => None,
-    }
-}
-
 /// Whether a run started and ended so.
 pub fn is_dated(runs: &Runs, number: u64, start: Option<Instant>, end: Option<Instant>) -> bool {
     match runs.get(number) {

@@ -1,24 +1,16 @@
 use super::making::UNTRIED;
 use crate::tests::asserts::holds;
-use af_graph::{Dag, DagSpec, Rule, TaskIds, TaskSpec, TaskSpecs};
-use af_names::{DagId, PoolName, TaskId};
+use crate::tests::below::tasks;
+use af_graph::{Dag, TaskSpec};
 use af_runs::{Instance, new_instances};
 use std::alloc::Global;
 use std::process::Abort;
 
+/// A task of so many retries.
 pub fn task(rt: &impl Abort, alloc: Global, task_id: &str, retries: u32) -> TaskSpec {
-    let task_id = TaskId::parse(alloc, task_id).expect(rt, "the id of a task");
-    let pool = PoolName::parse(alloc, "default_pool").expect(rt, "the name of a pool");
-    TaskSpec {
-        task_id,
-        upstream: TaskIds::of(Vec::new(alloc)),
-        pool,
-        pool_slots: 1,
-        priority_weight: 1,
-        retries,
-        retry_delay: 300,
-        trigger_rule: Rule::AllSuccess,
-    }
+    let mut task = tasks::task(rt, alloc, task_id, "default_pool");
+    task.retries = retries;
+    task
 }
 
 #[test]
@@ -49,12 +41,5 @@ pub fn two_tasks(rt: &impl Abort, alloc: Global) -> Vec<TaskSpec> {
 
 /// DAG a of these two.
 fn dag_of_two(rt: &impl Abort, alloc: Global) -> Dag {
-    let spec = DagSpec {
-        dag_id: DagId::parse(alloc, "a").expect(rt, "the id of a DAG"),
-        tasks: TaskSpecs::of(two_tasks(rt, alloc)),
-        schedule: None,
-        catchup: true,
-        max_active_runs: 16,
-    };
-    Dag::new(alloc, spec).expect(rt, "a DAG of two tasks")
+    tasks::dag(rt, alloc, "a", two_tasks(rt, alloc))
 }

@@ -1,7 +1,6 @@
 use crate::tests::asserts::holds;
+use crate::tests::texts::are_told;
 use af_runs::{RunFault, RunState, RunType};
-use std::alloc::Global;
-use std::process::Abort;
 
 const STATES: &[(&str, Option<RunState>)] = &[
     ("queued", Some(RunState::Queued)),
@@ -17,12 +16,10 @@ const TYPES: &[(&str, Option<RunType>)] = &[
     ("backfill", None),
 ];
 
-/// Ends the test where a fault is not told in its words.
-fn is_told(rt: &impl Abort, alloc: Global) {
-    let told = format!(in alloc; "{}", RunFault::DateTaken).expect(rt, "the words of a fault");
-    let is_told = told.as_str() == "the DAG has a run of that logical date";
-    holds(rt, is_told, "in words");
-}
+const FAULTS: &[(RunFault, &str)] = &[(
+    RunFault::DateTaken,
+    "the DAG has a run of that logical date",
+)];
 
 #[test]
 fn states_types_and_faults_have_texts(rt: HostRuntime) {
@@ -32,5 +29,5 @@ fn states_types_and_faults_have_texts(rt: HostRuntime) {
     for (text, want) in TYPES {
         holds(&rt, RunType::read(text) == *want, text);
     }
-    is_told(&rt, rt.alloc());
+    are_told(&rt, rt.alloc(), FAULTS);
 }

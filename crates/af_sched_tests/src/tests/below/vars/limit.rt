@@ -1,41 +1,53 @@
-use crate::tests::below::vars::playing::text;
+use crate::tests::asserts::holds;
+use crate::tests::below::vars::playing::{key, text};
 use af_names::VarKey;
 use af_vars::{MOST_VARIABLES, Variable, VariableFault, Variables};
 use std::alloc::Global;
-use std::test::Fail;
+use std::process::Abort;
 
 /// The key that is this number.
-fn key_of(alloc: Global, number: usize) -> Result<VarKey, Fail> {
-    let key = format!(in alloc; "{number}")?;
-    Ok(VarKey::parse(alloc, key.as_str())?)
+fn key_of(rt: &impl Abort, alloc: Global, number: usize) -> VarKey {
+    let shown = format!(in alloc; "{number}").expect(rt, "the text of a key");
+    let key = key(rt, alloc, shown.as_str());
+    drop(shown);
+    key
 }
 
 /// A variable whose key is this number.
-fn numbered(alloc: Global, number: usize) -> Result<Variable, Fail> {
-    let value = text(alloc, "")?;
-    Ok(Variable {
-        key: key_of(alloc, number)?,
+fn numbered(rt: &impl Abort, alloc: Global, number: usize) -> Variable {
+    let value = text(rt, alloc, "");
+    Variable {
+        key: key_of(rt, alloc, number),
         value,
-    })
+    }
 }
 
-/// As many variables as there may be, whose keys are the numbers from 100,000 on.
-fn full(alloc: Global) -> Result<Variables, Fail> {
-    let mut variables = Variables::new(alloc);
+/// Adds as many variables as there may be, whose keys are the numbers from 100,000 on.
+fn fill(rt: &impl Abort, alloc: Global, variables: &mut Variables) {
     for place in 0..65_536 {
-        variables.add(numbered(alloc, 100_000 + place)?)?;
+        let told = variables.add(numbered(rt, alloc, 100_000 + place));
+        told.expect(rt, "a variable is added");
     }
-    Ok(variables)
 }
 
 #[test]
-fn at_the_limit_none_is_added(rt: HostRuntime) -> Result<(), Fail> {
-    let mut variables = full(rt.alloc())?;
+fn at_the_limit_none_is_added(rt: HostRuntime) {
+    let mut variables = Variables::new(rt.alloc());
+    fill(&rt, rt.alloc(), &mut variables);
+    none_is_added(&rt, rt.alloc(), &mut variables);
+    drop(variables);
+}
+
+/// Ends the test where there are not as many variables as there may be, or one more is not refused.
+fn none_is_added(rt: &impl Abort, alloc: Global, variables: &mut Variables) {
     let count = variables.rows().len();
-    assert!(rt; count == MOST_VARIABLES, "as many as there may be");
-    let told = variables.add(numbered(rt.alloc(), 100_000)?);
-    assert!(rt; told == Err(VariableFault::Exists), "the key is told first");
-    let told = variables.add(numbered(rt.alloc(), 99_999)?);
-    assert!(rt; told == Err(VariableFault::Full), "one too many");
-    Ok(())
+    holds(rt, count == MOST_VARIABLES, "as many as there may be");
+    let told = variables.add(numbered(rt, alloc, 100_000));
+    holds(
+        rt,
+        told == Err(VariableFault::Exists),
+        "the key is told first",
+    );
+    let told = variables.add(numbered(rt, alloc, 99_999));
+    holds(rt, told == Err(VariableFault::Full), "one too many");
 }

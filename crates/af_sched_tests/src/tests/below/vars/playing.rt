@@ -1,9 +1,11 @@
-use crate::tests::asserts::is_right;
+//! Steps on variables, and what they answer. What should not fail is expected to succeed, with words for it: so no function has a
+//! way out before its end, at which what it owns would be dropped anew.
+use crate::tests::asserts::{has_memory, holds, is_right};
+use crate::tests::variables::are_variables;
 use af_names::VarKey;
 use af_vars::{VarText, Variable, VariableFault, Variables};
 use std::alloc::Global;
 use std::process::Abort;
-use std::test::Fail;
 
 /// A variable is added or gets another text, with this text, or is removed.
 #[derive(Clone, Copy)]
@@ -21,73 +23,81 @@ pub type Row = (Step, &'static str, Result<(), VariableFault>);
 /// What is told beforehand, and what is answered.
 type Told = (Option<VariableFault>, Result<(), VariableFault>);
 
-pub fn text(alloc: Global, text: &str) -> Result<VarText, Fail> {
-    Ok(VarText::of(String::from_str(alloc, text)?))
+/// The key of this text.
+pub fn key(rt: &impl Abort, alloc: Global, text: &str) -> VarKey {
+    VarKey::parse(alloc, text).expect(rt, "the key of a variable")
+}
+
+/// The text of a variable.
+pub fn text(rt: &impl Abort, alloc: Global, text: &str) -> VarText {
+    VarText::of(String::from_str(alloc, text).expect(rt, "the text of a variable"))
 }
 
 /// Adds a variable of this key and this text.
-fn add(alloc: Global, variables: &mut Variables, key: VarKey, value: &str) -> Result<Told, Fail> {
+fn add(
+    rt: &impl Abort,
+    alloc: Global,
+    variables: &mut Variables,
+    key: VarKey,
+    value: &str,
+) -> Told {
     let foretold = variables.add_fault(&key);
-    let value = text(alloc, value)?;
-    Ok((foretold, variables.add(Variable { key, value })))
+    let value = text(rt, alloc, value);
+    (foretold, variables.add(Variable { key, value }))
 }
 
 /// Gives the variable of this key another text.
-fn set(alloc: Global, variables: &mut Variables, key: &VarKey, value: &str) -> Result<Told, Fail> {
-    let foretold = variables.change_fault(key);
-    let value = text(alloc, value)?;
-    Ok((foretold, variables.set_value(key, value)))
+fn set(
+    rt: &impl Abort,
+    alloc: Global,
+    variables: &mut Variables,
+    key: VarKey,
+    value: &str,
+) -> Told {
+    let foretold = variables.change_fault(&key);
+    let told = variables.set_value(&key, text(rt, alloc, value));
+    drop(key);
+    (foretold, told)
+}
+
+/// Removes the variable of this key.
+fn remove(variables: &mut Variables, key: VarKey) -> Told {
+    let told = (variables.change_fault(&key), variables.remove(&key));
+    drop(key);
+    told
 }
 
 /// Takes a step on the variable of a key.
-fn taken(alloc: Global, variables: &mut Variables, key: VarKey, step: Step) -> Result<Told, Fail> {
-    match step {
-        Add(value) => add(alloc, variables, key, value),
-        Set(value) => set(alloc, variables, &key, value),
-        Remove => Ok((variables.change_fault(&key), variables.remove(&key))),
+fn taken(rt: &impl Abort, alloc: Global, variables: &mut Variables, row: Row) -> Told {
+    let key = key(rt, alloc, row.1);
+    match row.0 {
+        Add(value) => add(rt, alloc, variables, key, value),
+        Set(value) => set(rt, alloc, variables, key, value),
+        Remove => remove(variables, key),
     }
 }
 
-/// What a step answers. A fault that was told beforehand is answered too; out of memory ends the test.
-fn answered(told: Told) -> Result<Result<(), VariableFault>, Fail> {
+/// What a step answers. A fault that was told beforehand is answered too.
+fn answered(told: Told) -> Result<(), VariableFault> {
     match told {
-        (_, Err(VariableFault::OutOfMemory)) => Err(VariableFault::OutOfMemory.into()),
-        (Some(fault), Ok(())) => Ok(Err(fault)),
-        (_, answer) => Ok(answer),
+        (Some(fault), Ok(())) => Err(fault),
+        (_, answer) => answer,
     }
 }
 
-/// Whether a step on the variable of a key answers this.
-fn goes(alloc: Global, variables: &mut Variables, row: Row) -> Result<bool, Fail> {
-    let key = VarKey::parse(alloc, row.1)?;
-    let told = taken(alloc, variables, key, row.0)?;
-    Ok(answered(told)? == row.2)
-}
-
-/// Takes the steps, and compares what each answers, and the rows after the last.
-pub fn played(
+/// Takes the steps, and ends the test where one answers otherwise, or the rows after the last are not these.
+pub fn play(
     rt: &impl Abort,
     alloc: Global,
     variables: &mut Variables,
     steps: &[Row],
     rows: &[(&str, &str)],
-) -> Result<(), Fail> {
+) {
     for (place, step) in steps.iter().enumerate() {
-        let goes = goes(alloc, variables, *step)?;
-        is_right(rt, goes, "the answer", place);
+        let told = answered(taken(rt, alloc, variables, *step));
+        has_memory(rt, told != Err(VariableFault::OutOfMemory), step.1);
+        is_right(rt, told == step.2, "the answer", place);
     }
-    assert!(rt;
-        has_rows(variables.rows(), rows),
-        "the rows after the steps"
-    );
-    Ok(())
-}
-
-fn has_rows(rows: &[Variable], wanted: &[(&str, &str)]) -> bool {
-    for (row, (key, value)) in rows.iter().zip(wanted) {
-        if row.key.as_str() != *key || row.value.as_str() != *value {
-            return false;
-        }
-    }
-    rows.len() == wanted.len()
+    let are_variables = are_variables(variables.rows(), rows);
+    holds(rt, are_variables, "the rows after the steps");
 }

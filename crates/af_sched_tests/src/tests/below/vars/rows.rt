@@ -1,10 +1,10 @@
-use crate::tests::asserts::is_right;
-use crate::tests::below::vars::playing::{Row, Step, played};
+use crate::tests::asserts::{holds, is_right};
+use crate::tests::below::vars::playing::{Row, Step, key, play};
+use crate::tests::variables::has_text;
 use Step::{Add, Remove, Set};
-use af_names::VarKey;
 use af_vars::{Variable, VariableFault, Variables};
 use std::alloc::Global;
-use std::test::Fail;
+use std::process::Abort;
 
 const ADDED: &[Row] = &[
     (Add("v"), "k", Ok(())),
@@ -30,7 +30,7 @@ const ALL: &[(&str, &str)] = &[("Zed", ""), ("a b", "a \u{e9}"), ("k", "v")];
 const LEFT: &[(&str, &str)] = &[("Zed", "w"), ("k", "w")];
 
 /// Steps, and the rows after the last of them.
-const STAGES: [(&[Row], &[(&str, &str)]); 4] = [
+const STAGES: &[(&[Row], &[(&str, &str)])] = &[
     (&[], &[]),
     (ADDED, ALL),
     (REFUSED, ALL),
@@ -38,41 +38,45 @@ const STAGES: [(&[Row], &[(&str, &str)]); 4] = [
 ];
 
 /// Keys, and the texts of their variables, where these are there.
-const FOUND: [(&str, Option<&str>); 3] = [("k", Some("w")), ("Zed", Some("w")), ("absent", None)];
+const FOUND: &[(&str, Option<&str>)] = &[("k", Some("w")), ("Zed", Some("w")), ("absent", None)];
 
 /// Whether it is told rightly that the variable of a key is there, and whether it has this text.
 fn is_found(
+    rt: &impl Abort,
     alloc: Global,
     variables: &Variables,
-    key: &str,
+    text: &str,
     value: Option<&str>,
-) -> Result<(bool, bool), Fail> {
-    let key = VarKey::parse(alloc, key)?;
+) -> (bool, bool) {
+    let key = key(rt, alloc, text);
     let is_there = variables.has(&key) == value.is_some();
-    Ok((is_there, has_text(variables.get(&key), value)))
+    let has_text = has_text(variables.get(&key), value);
+    drop(key);
+    (is_there, has_text)
 }
 
-/// Whether a variable has this text; or there is none, and there is to be none.
-fn has_text(variable: Option<&Variable>, value: Option<&str>) -> bool {
-    match (variable, value) {
-        (Some(variable), Some(value)) => variable.value.as_str() == value,
-        (None, None) => true,
-        _ => false,
+/// Ends the test where a variable is not found as it should be.
+fn are_found(rt: &impl Abort, alloc: Global, variables: &Variables) {
+    for (row, (key, value)) in FOUND.iter().enumerate() {
+        let (is_there, has_text) = is_found(rt, alloc, variables, key, *value);
+        is_right(rt, is_there, "whether it is there", row);
+        is_right(rt, has_text, "its text", row);
+    }
+}
+
+/// Ends the test where one of the stages does not go as it says.
+fn go(rt: &impl Abort, alloc: Global, variables: &mut Variables) {
+    for (steps, rows) in STAGES {
+        play(rt, alloc, variables, steps, rows);
     }
 }
 
 #[test]
-fn rows_go_by_key_and_a_fault_leaves_them(rt: HostRuntime) -> Result<(), Fail> {
+fn rows_go_by_key_and_a_fault_leaves_them(rt: HostRuntime) {
     let mut variables = Variables::new(rt.alloc());
-    for (steps, rows) in STAGES {
-        played(&rt, rt.alloc(), &mut variables, steps, rows)?;
-    }
-    for (row, (key, value)) in FOUND.iter().enumerate() {
-        let (is_there, has_text) = is_found(rt.alloc(), &variables, key, *value)?;
-        is_right(&rt, is_there, "whether it is there", row);
-        is_right(&rt, has_text, "its text", row);
-    }
-    Ok(())
+    go(&rt, rt.alloc(), &mut variables);
+    are_found(&rt, rt.alloc(), &variables);
+    drop(variables);
 }
 
 const IN_RESERVE: &[Row] = &[(Add("1"), "q", Ok(())), (Add("2"), "p", Ok(()))];
@@ -80,22 +84,31 @@ const IN_RESERVE: &[Row] = &[(Add("1"), "q", Ok(())), (Add("2"), "p", Ok(()))];
 const TWO: &[(&str, &str)] = &[("p", "2"), ("q", "1")];
 
 /// A copy of the first variable.
-fn first_again(alloc: Global, variables: &Variables) -> Result<Variable, Fail> {
-    match variables.rows().first() {
-        Some(first) => Ok(first.copied(alloc)?),
-        None => Err(Fail::from("no row")),
-    }
+fn first_again(rt: &impl Abort, alloc: Global, variables: &Variables) -> Variable {
+    let first = variables.rows().first().expect(rt, "no row");
+    first.copied(alloc).expect(rt, "a copy of a variable")
+}
+
+/// Ends the test where a copy of the first variable is not that of p.
+fn is_copied(rt: &impl Abort, alloc: Global, variables: &Variables) {
+    let again = first_again(rt, alloc, variables);
+    holds(rt, again.key.as_str() == "p", "the key of the copy");
+    holds(rt, again.value.as_str() == "2", "the text of the copy");
+    drop(again);
+}
+
+/// Ends the test where new variables have no room for two once it is reserved.
+fn have_room(rt: &impl Abort, variables: &mut Variables) {
+    variables.reserve(2).expect(rt, "two rows are reserved");
+    holds(rt, variables.rows().is_empty(), "as before");
+    holds(rt, variables.spare() >= 2, "room for two");
 }
 
 #[test]
-fn reserved_rows_are_there(rt: HostRuntime) -> Result<(), Fail> {
+fn reserved_rows_are_there(rt: HostRuntime) {
     let mut variables = Variables::new(rt.alloc());
-    variables.reserve(2)?;
-    assert!(rt; variables.rows().is_empty(), "as before");
-    assert!(rt; variables.spare() >= 2, "room for two");
-    played(&rt, rt.alloc(), &mut variables, IN_RESERVE, TWO)?;
-    let again = first_again(rt.alloc(), &variables)?;
-    assert!(rt; again.key.as_str() == "p", "the key of the copy");
-    assert!(rt; again.value.as_str() == "2", "the text of the copy");
-    Ok(())
+    have_room(&rt, &mut variables);
+    play(&rt, rt.alloc(), &mut variables, IN_RESERVE, TWO);
+    is_copied(&rt, rt.alloc(), &variables);
+    drop(variables);
 }

@@ -1,10 +1,9 @@
 use super::super::making::moment;
 use super::super::tasks::task;
+use crate::tests::openings::manual_run;
 use af_graph::TaskState;
 use af_names::{DagId, RunId};
-use af_runs::{
-    ChosenTasks, Instance, Instances, Interval, Mark, NewRun, RunState, RunType, Runs, Selection,
-};
+use af_runs::{ChosenTasks, Instance, Instances, Mark, NewRun, RunState, Runs, Selection};
 use std::alloc::Global;
 use std::process::Abort;
 
@@ -31,17 +30,12 @@ fn instance(held: bool) -> Instance {
     }
 }
 
+/// A new run of this DAG and a key.
 pub fn new_run(rt: &impl Abort, alloc: Global, dag_id: &DagId, key: u32) -> NewRun {
-    let at = moment(key);
     let items = vec![in alloc; instance(false)].expect(rt, "one instance");
-    NewRun {
-        dag_id: dag_id.copied(alloc).expect(rt, "the id of a DAG again"),
-        run_id: run_id(rt, alloc, key),
-        logical_date: at,
-        interval: Interval { start: at, end: at },
-        run_type: RunType::Manual,
-        instances: Instances::of(items),
-    }
+    let dag_id = dag_id.copied(alloc).expect(rt, "the id of a DAG again");
+    let run_id = run_id(rt, alloc, key);
+    manual_run(dag_id, run_id, moment(key), Instances::of(items))
 }
 
 /// All instances of a run of one task.
