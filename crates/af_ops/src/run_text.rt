@@ -63,7 +63,7 @@ fn put_marked(out: &mut Text, run: &Run, mark: Mark, at: Instant) -> Result<(), 
     put_run(out, run, mark.state(), start_date, end_date)
 }
 
-/// The start of a run once it is marked: one that is queued again has none.
+/// The start of a run once it is marked: in that state already it keeps its own, and queued again it has none.
 fn start_of(run: &Run, mark: Mark) -> Option<Instant>
     ensures { result ≡ (if is_in_state mark run.now then run.now.start_date else marked_start mark run.now.start_date) }
 {
@@ -76,7 +76,7 @@ fn start_of(run: &Run, mark: Mark) -> Option<Instant>
     }
 }
 
-/// The end of a run once it is marked at a moment: one that is queued again has none.
+/// The end of a run once it is marked at a moment: in that state already it keeps its own, and queued again it has none.
 fn end_of(run: &Run, mark: Mark, at: Instant) -> Option<Instant>
     ensures { result ≡ (if is_in_state mark run.now then run.now.end_date else marked_end mark at) }
 {

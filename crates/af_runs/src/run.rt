@@ -20,7 +20,7 @@ pub(crate) use clearing::list_chosen;
 /// A run of a DAG, with its instances.
 #[derive(Drop)]
 pub struct Run {
-    // What pages and look-ups read stands first and together, of three rows in four the number and the id in one line of the cache.
+    // What pages and look-ups read stands first and together, within 64 bytes of the 128 that a row has.
     /// From 1 on, in the order in which runs were added; no number is used again.
     pub number: u64,
     /// Of the DAG's runs this one alone has this logical date.
