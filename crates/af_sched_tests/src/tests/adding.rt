@@ -2,7 +2,7 @@ use crate::tests::asserts::holds;
 use crate::tests::dags::{DEFAULT_POOL, row, task};
 use crate::tests::fresh::with_new_state;
 use crate::tests::openings::{add_run_of_g, add_tried, at, instances, moment};
-use crate::tests::seen::states_are;
+use crate::tests::seen::{number_of, states_are};
 use crate::tests::steps::{Step, added_dag, play};
 use af_graph::{Points, Rule, Schedule, TaskSpec, TaskState};
 use af_names::{DagId, NamesDag, RunId};
@@ -129,13 +129,10 @@ fn run_fault(
 }
 
 /// The number of the run of this id of DAG g.
-fn number_of(alloc: Global, state: &State, run_id: &str) -> Result<Option<u64>, Fail> {
+fn number_by_id(alloc: Global, state: &State, run_id: &str) -> Result<Option<u64>, Fail> {
     let dag_id = DagId::parse(alloc, "g")?;
     let run_id = RunId::parse(alloc, run_id)?;
-    Ok(match state.run(&dag_id, &run_id) {
-        Some(run) => Some(run.number),
-        None => None,
-    })
+    Ok(number_of(state.run(&dag_id, &run_id)))
 }
 
 /// Adds run s of DAG g, where memory is reserved: its number.
@@ -170,7 +167,7 @@ fn a_run_is_added_and_looked_up(rt: HostRuntime) -> Result<(), Fail> {
 fn is_looked_up(rt: &impl Abort, alloc: Global, state: &mut State) -> Result<(), Fail> {
     add_tried(alloc, state, TaskState::NoStatus, 0)?;
     holds(rt, added(alloc, state)? == 2, "the second run");
-    let by_ids = number_of(alloc, state, "s")?;
+    let by_ids = number_by_id(alloc, state, "s")?;
     holds(rt, by_ids == Some(2), "by its ids");
     holds(rt, is_dated(state, 2, 1), "by its number");
     Ok(())

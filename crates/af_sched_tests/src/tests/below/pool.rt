@@ -1,7 +1,7 @@
 mod held;
 mod kept;
 
-use crate::tests::asserts::{has_memory, holds};
+use crate::tests::asserts::{has_memory, holds, is_right};
 use crate::tests::below::tasks::{dag, task};
 use crate::tests::pools::are_pools;
 use af_graph::Dag;
@@ -41,10 +41,10 @@ fn name_of(rt: &impl Abort, alloc: Global, text: &str) -> PoolName {
 
 /// Takes the steps, and ends the test where one answers otherwise.
 fn play(rt: &impl Abort, alloc: Global, pools: &mut Pools, dags: &[Dag], steps: &[Row<'_>]) {
-    for (step, name, wanted) in steps {
+    for (place, (step, name, wanted)) in steps.iter().enumerate() {
         let told = answer(pools, name_of(rt, alloc, name), *step, dags);
         has_memory(rt, told != Err(PoolFault::OutOfMemory), name);
-        holds(rt, told == *wanted, name);
+        is_right(rt, told == *wanted, name, place);
     }
 }
 
@@ -129,7 +129,7 @@ fn are_found(rt: &impl Abort, alloc: Global, pools: &Pools) {
     }
 }
 
-/// What the rows are looked at for.
+/// What is told where the rows after the steps are others.
 const AFTER: &str = "the rows after the steps";
 
 /// Ends the test where one of the stages does not go as it says.
@@ -161,8 +161,8 @@ const IN_RESERVE: &[Row<'static>] = &[
 
 const FOUR: &[(&str, u32)] = &[("default_pool", 128), ("p", 2), ("q", 1), ("r", 3)];
 
-/// Ends the test where new pools have no room for two once it is reserved.
-fn have_room(rt: &impl Abort, pools: &mut Pools) {
+/// Reserves two rows of new pools; ends the test where the rows are not as before, or there is no room for two.
+fn reserve_two(rt: &impl Abort, pools: &mut Pools) {
     pools.reserve(2).expect(rt, "two rows are reserved");
     have_rows(rt, pools, FIRST, "as before");
     holds(rt, pools.spare() >= 2, "room for two");
@@ -171,7 +171,7 @@ fn have_room(rt: &impl Abort, pools: &mut Pools) {
 #[test]
 fn reserved_rows_are_there(rt: HostRuntime) {
     let mut pools = new_pools(&rt, rt.alloc());
-    have_room(&rt, &mut pools);
+    reserve_two(&rt, &mut pools);
     play(&rt, rt.alloc(), &mut pools, &[], IN_RESERVE);
     have_rows(&rt, &pools, FOUR, AFTER);
     drop(pools);

@@ -14,7 +14,7 @@ mod texts;
 use crate::tests::asserts::holds;
 use crate::tests::seen::number_of;
 use af_runs::{RunFault, RunState, Runs};
-use asserts::has_memory;
+use asserts::run_has_memory;
 use making::{FAILED, New, UNTRIED, add_runs, ids, moment, new_run};
 use seen::{Row, has_rows, have_instances, is_dated, is_row};
 use std::alloc::Global;
@@ -28,7 +28,7 @@ fn are_told_of(rt: &impl Abort, alloc: Global, runs: &mut Runs, rows: &[Asked<'_
     for row in rows {
         let new = new_run(rt, alloc, (row.0, row.1, row.2));
         let told = runs.add_run(new);
-        has_memory(rt, told);
+        run_has_memory(rt, told);
         holds(rt, told == row.3, row.4);
     }
 }

@@ -87,12 +87,12 @@ fn the_first_fault_is_told(rt: HostRuntime) {
     }
 }
 
-/// The id that is this number.
+/// The text of the id of the task at this place: t and its number.
 fn id_of(rt: &impl Abort, alloc: Global, place: usize) -> String {
     format!(in alloc; "t{place}").expect(rt, "the text of an id")
 }
 
-/// A task whose id is this number, after those.
+/// The task at this place, after those.
 fn numbered(rt: &impl Abort, alloc: Global, place: usize, before: TaskIds) -> TaskSpec {
     let id = id_of(rt, alloc, place);
     let task = task(rt, alloc, id.as_str(), before, 1);
@@ -100,7 +100,7 @@ fn numbered(rt: &impl Abort, alloc: Global, place: usize, before: TaskIds) -> Ta
     task
 }
 
-/// The id that is the number before this one, if there is one.
+/// The id of the task at the place before this one, if there is one.
 fn before(rt: &impl Abort, alloc: Global, place: usize) -> TaskIds {
     if place == 0 {
         return TaskIds::of(Vec::new(alloc));

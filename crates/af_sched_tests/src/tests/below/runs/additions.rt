@@ -1,4 +1,4 @@
-use super::asserts::has_memory;
+use super::asserts::run_has_memory;
 use super::making::{FAILED, New, add_runs, moment, new_run, run_of};
 use super::seen::{Row, has_rows, have_instances, is_dated};
 use super::{Asked, DATE_TAKEN, ID_TAKEN};
@@ -30,7 +30,7 @@ fn are_told_of(rt: &impl Abort, alloc: Global, additions: &mut Additions<'_>) {
     for row in ASKED {
         let new = new_run(rt, alloc, (row.0, row.1, row.2));
         let told = additions.add_run(new);
-        has_memory(rt, told);
+        run_has_memory(rt, told);
         holds(rt, told == row.3, row.4);
     }
 }

@@ -77,15 +77,7 @@ fn taken(rt: &impl Abort, alloc: Global, variables: &mut Variables, row: Row) ->
     }
 }
 
-/// What a step answers. A fault that was told beforehand is answered too.
-fn answered(told: Told) -> Result<(), VariableFault> {
-    match told {
-        (Some(fault), Ok(())) => Err(fault),
-        (_, answer) => answer,
-    }
-}
-
-/// Takes the steps, and ends the test where one answers otherwise, or the rows after the last are not these.
+/// Takes the steps, and ends the test where one is foretold or answers otherwise, or the rows after the last are not these.
 pub fn play(
     rt: &impl Abort,
     alloc: Global,
@@ -94,8 +86,9 @@ pub fn play(
     rows: &[(&str, &str)],
 ) {
     for (place, step) in steps.iter().enumerate() {
-        let told = answered(taken(rt, alloc, variables, *step));
+        let (foretold, told) = taken(rt, alloc, variables, *step);
         has_memory(rt, told != Err(VariableFault::OutOfMemory), step.1);
+        is_right(rt, foretold == step.2.err(), "what is foretold", place);
         is_right(rt, told == step.2, "the answer", place);
     }
     let are_variables = are_variables(variables.rows(), rows);

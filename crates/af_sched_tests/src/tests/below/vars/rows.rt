@@ -85,7 +85,7 @@ const TWO: &[(&str, &str)] = &[("p", "2"), ("q", "1")];
 
 /// A copy of the first variable.
 fn first_again(rt: &impl Abort, alloc: Global, variables: &Variables) -> Variable {
-    let first = variables.rows().first().expect(rt, "no row");
+    let first = variables.rows().first().expect(rt, "the first row");
     first.copied(alloc).expect(rt, "a copy of a variable")
 }
 
@@ -97,8 +97,8 @@ fn is_copied(rt: &impl Abort, alloc: Global, variables: &Variables) {
     drop(again);
 }
 
-/// Ends the test where new variables have no room for two once it is reserved.
-fn have_room(rt: &impl Abort, variables: &mut Variables) {
+/// Reserves two rows of new variables; ends the test where the rows are not as before, or there is no room for two.
+fn reserve_two(rt: &impl Abort, variables: &mut Variables) {
     variables.reserve(2).expect(rt, "two rows are reserved");
     holds(rt, variables.rows().is_empty(), "as before");
     holds(rt, variables.spare() >= 2, "room for two");
@@ -107,7 +107,7 @@ fn have_room(rt: &impl Abort, variables: &mut Variables) {
 #[test]
 fn reserved_rows_are_there(rt: HostRuntime) {
     let mut variables = Variables::new(rt.alloc());
-    have_room(&rt, &mut variables);
+    reserve_two(&rt, &mut variables);
     play(&rt, rt.alloc(), &mut variables, IN_RESERVE, TWO);
     is_copied(&rt, rt.alloc(), &variables);
     drop(variables);

@@ -3,7 +3,7 @@ use super::acts::{act_on_runs, all, new_run, run_id};
 use super::filters::{agrees_at, agrees_of_dag};
 use super::next_of;
 use super::plain::{Plain, Which, act_on_plain, clear_between, nth, queued};
-use crate::tests::below::runs::asserts::has_memory;
+use crate::tests::below::runs::asserts::run_has_memory;
 use af_names::{DagId, Instant, RunId};
 use af_runs::{RunFault, RunFilter, Runs};
 use std::alloc::Global;
@@ -80,7 +80,7 @@ impl Twins {
         let there = nth(self.plain.as_slice(), Which::Key(dag, key), 0).is_some();
         let dag_id = self.dags.get(dag).expect(rt, "three DAGs");
         let told = self.runs.add_run(new_run(rt, self.alloc, dag_id, key));
-        has_memory(rt, told);
+        run_has_memory(rt, told);
         match told {
             Ok(number) => {
                 self.plain
