@@ -24,7 +24,7 @@ mod users;
 mod variable_rows;
 
 use af_names::Instant;
-use af_ops::{Endpoint, Shown};
+use af_ops::{Endpoint, Served, Shown};
 use std::test::Fail;
 use told::Told;
 
@@ -49,6 +49,15 @@ fn token_of(who: &str) -> Option<&[u8]> {
         None
     } else {
         Some(who.as_bytes())
+    }
+}
+
+/// What is shown. Where there was no memory for it, the test ends in words that say so.
+fn shown_of(served: Served) -> Result<Shown, Fail> {
+    match served {
+        Served::Shown(shown) => Ok(shown),
+        Served::NothingDone => Err(Fail::new("nothing is shown: OutOfMemory")),
+        Served::ReplyLost => Err(Fail::new("a reply is lost")),
     }
 }
 

@@ -18,9 +18,10 @@ pub type Request = (u32, &'static str, Endpoint, &'static str, &'static [u8]);
 /// How many requests are permitted, one after another, up to the first that is refused, and why that one is.
 type Refusal = (usize, Option<OpFault>);
 
-/// Why an operation is refused.
+/// Why an operation is refused. Where there was no memory for it, the test ends in words that say so.
 fn fault_of(fault: CallFault) -> Result<Option<OpFault>, Fail> {
     match fault {
+        CallFault::Op(OpFault::OutOfMemory) => Err(Fail::new("nothing is decided: OutOfMemory")),
         CallFault::Op(fault) => Ok(Some(fault)),
         _ => Err(Fail::new("the user may not do it")),
     }

@@ -4,9 +4,9 @@ use super::calls::named;
 use super::rows::Ask;
 use super::scenes::{Scene, state};
 use super::users::policy;
-use super::{Row, now, text, token_of};
+use super::{Row, now, shown_of, text, token_of};
 use crate::tests::asserts::row_holds;
-use af_ops::{Endpoint, Op, Served, Shown, Standing, Status};
+use af_ops::{Endpoint, Op, Shown, Standing, Status};
 use af_policy::Policy;
 use std::alloc::Global;
 use std::process::Abort;
@@ -41,10 +41,7 @@ fn answered(
     op: &Op,
 ) -> Result<Shown, Fail> {
     let now = now()?;
-    match standing.answer(alloc, policy, token_of(who), op, now) {
-        Served::Shown(shown) => Ok(shown),
-        _ => Err(Fail::new("nothing is shown")),
-    }
+    shown_of(standing.answer(alloc, policy, token_of(who), op, now))
 }
 
 /// What is told of a request.

@@ -4,7 +4,7 @@ use super::policy_texts::{BAD_LIMIT, FIRST_USER, NO_USERS, TWO_ROLES};
 use super::role_rows::{READINGS, ROLES};
 use super::user_rows::{SYNCS, USERS_CHANGED};
 use super::users::policy;
-use super::{text, token_of};
+use super::{shown_of, text, token_of};
 use crate::tests::asserts::{holds, row_holds};
 use af_ops::{Call, Endpoint, PolicyOp, Served, Shown, Status, answer_policy};
 use af_policy::{ChangeKind, Versions};
@@ -59,10 +59,7 @@ fn answered(
     who: &str,
     op: &PolicyOp,
 ) -> Result<Shown, Fail> {
-    match answer_policy(alloc, versions, token_of(who), op) {
-        Served::Shown(shown) => Ok(shown),
-        _ => Err(Fail::new("nothing is shown")),
-    }
+    shown_of(answer_policy(alloc, versions, token_of(who), op))
 }
 
 /// What is told of what is asked at this part of the path, with this query and this body.
@@ -126,11 +123,13 @@ fn play_page(
     Ok(one(is_told))
 }
 
-/// The status of what is served, or none where there was no memory.
-fn status_of(served: Served) -> Result<Option<Status>, Fail> {
+/// Whether this status is served, or none where that is wanted. Where there was no memory for one that is, the test ends in words
+/// that say so.
+fn is_status(served: Served, wanted: Option<Status>) -> Result<bool, Fail> {
     match served {
-        Served::Shown(shown) => Ok(Some(shown.status)),
-        Served::NothingDone => Ok(None),
+        Served::Shown(shown) => Ok(wanted == Some(shown.status)),
+        Served::NothingDone if wanted.is_some() => Err(Fail::new("no status is told: OutOfMemory")),
+        Served::NothingDone => Ok(true),
         Served::ReplyLost => Err(Fail::new("a reply is lost")),
     }
 }
@@ -145,7 +144,7 @@ fn play_unread(
     let op = PolicyOp::Unread(ChangeKind::AddUser);
     let served = answer_policy(alloc, versions, token_of(who), &op);
     drop(op);
-    Ok(one(status_of(served)? == status))
+    Ok(one(is_status(served, status)?))
 }
 
 fn play(alloc: Global, versions: &mut Versions, story: Story) -> Result<(usize, bool), Fail> {
