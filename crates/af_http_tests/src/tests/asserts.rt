@@ -6,6 +6,11 @@ pub fn holds(rt: &impl Abort, holds: bool, what: &str) {
     assert!(rt; holds, "{what}");
 }
 
+/// Ends the test where this found no memory, in words that say so.
+pub fn has_memory(rt: &impl Abort, has_memory: bool, what: &str) {
+    assert!(rt; has_memory, "{what}: OutOfMemory");
+}
+
 /// Ends the test where a row does not hold.
 pub fn row_holds(rt: &impl Abort, holds: bool, row: usize) {
     assert!(rt; holds, "row {row}");

@@ -1,10 +1,10 @@
-use crate::tests::tools::{Paper, Pieces, run};
+use crate::tests::tools::{Pieces, new_paper, run};
 use af_http::Ended;
 use std::alloc::Global;
-use std::test::Fail;
+use std::process::Abort;
 
 /// Sizes of pieces in which an input comes.
-pub const ANY_PIECES: [usize; 5] = [1, 2, 3, 40, 100_000];
+pub const ANY_PIECES: &[usize] = &[1, 2, 3, 40, 100_000];
 
 /// What comes on a connection, in pieces of which sizes, and what comes of it: how it ends, and the two parts of what is
 /// written.
@@ -17,19 +17,21 @@ pub struct Case<'a> {
 }
 
 /// The first of its sizes with which a case does not go as it says.
-pub fn first_fault(alloc: Global, case: &Case<'_>) -> Result<Option<usize>, Fail> {
+pub fn first_fault(rt: &impl Abort, alloc: Global, case: &Case<'_>) -> Option<usize> {
     for size in case.pieces {
-        if !goes(alloc, case, *size)? {
-            return Ok(Some(*size));
+        if !goes(rt, alloc, case, *size) {
+            return Some(*size);
         }
     }
-    Ok(None)
+    None
 }
 
 /// Whether a case goes as it says with pieces of a size.
-fn goes(alloc: Global, case: &Case<'_>, size: usize) -> Result<bool, Fail> {
-    let (ended, paper, _) = run(alloc, Pieces::of(case.input, size), Paper::new(alloc)?);
-    Ok(ended == case.ended && is_joined(paper.bytes.as_slice(), case.written))
+fn goes(rt: &impl Abort, alloc: Global, case: &Case<'_>, size: usize) -> bool {
+    let (ended, paper, _) = run(alloc, Pieces::of(case.input, size), new_paper(rt, alloc));
+    let is_written = is_joined(paper.bytes.as_slice(), case.written);
+    drop(paper);
+    ended == case.ended && is_written
 }
 
 /// Whether a text is these two parts.

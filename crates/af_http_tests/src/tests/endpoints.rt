@@ -1,13 +1,13 @@
 //! Which operation of the table each method and path names (Airflow 2, "Stable REST API").
 use crate::tests::asserts::holds;
-use crate::tests::tools::{Paper, Pieces};
+use crate::tests::tools::{Pieces, new_paper};
 use af_http::{Counted, Service, serve};
 use af_ops::{Call, Endpoint, Served};
 use std::alloc::Global;
-use std::test::Fail;
+use std::process::Abort;
 
 /// Each operation, by a method and a path.
-const TABLE: [(&str, Endpoint); 37] = [
+const TABLE: &[(&str, Endpoint)] = &[
     ("GET /api/v1/version", Endpoint::Version),
     ("GET /api/v1/dags", Endpoint::ListDags),
     ("GET /api/v1/dags/b", Endpoint::GetDag),
@@ -72,20 +72,23 @@ impl Service for Noted {
 }
 
 /// The operation that the service is called for, where this method and path are asked for.
-fn called(alloc: Global, asked: &str) -> Result<Option<Endpoint>, Fail> {
-    let input = format!(in alloc; "{asked} HTTP/1.1\r\nHost: h\r\n\r\n")?;
+fn called(rt: &impl Abort, alloc: Global, asked: &str) -> Option<Endpoint> {
+    let input = format!(in alloc; "{asked} HTTP/1.1\r\nHost: h\r\n\r\n");
+    let input = input.expect(rt, "a request");
     let mut reader = Counted::new(Pieces::of(input.as_bytes(), 1000));
-    let mut writer = Counted::new(Paper::new(alloc)?);
+    let mut writer = Counted::new(new_paper(rt, alloc));
     let mut service = Noted { called: None };
     let _ = serve(alloc, &mut reader, &mut writer, &mut service);
-    Ok(service.called)
+    drop(writer);
+    drop(reader);
+    drop(input);
+    service.called
 }
 
 #[test]
-fn each_endpoint(rt: HostRuntime) -> Result<(), Fail> {
+fn each_endpoint(rt: HostRuntime) {
     for (asked, wanted) in TABLE {
-        let is_called = called(rt.alloc(), asked)? == Some(wanted);
+        let is_called = called(&rt, rt.alloc(), asked) == Some(*wanted);
         holds(&rt, is_called, asked);
     }
-    Ok(())
 }

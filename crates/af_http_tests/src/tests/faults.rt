@@ -1,24 +1,29 @@
 ghost use Rattle.std.specs.Prelude.{◌<◌};
 
 use crate::tests::answers::{INCOMPLETE, LAST_VERSION, MEMORY, NO_PATH, VERSION};
-use crate::tests::asserts::{call_holds, number_holds};
+use crate::tests::asserts::{call_holds, holds, number_holds};
 use crate::tests::cases::is_joined;
-use crate::tests::tools::{Paper, Pieces, run, run_long};
+use crate::tests::tools::{Paper, Pieces, broken_paper, new_paper, run, run_long};
 use af_http::Ended;
 use af_ops::Status;
 use std::alloc::Global;
-use std::test::Fail;
+use std::process::Abort;
 
 /// A request of 41 bytes, one of 31, and a part of a third of 36.
 const INPUT: &[u8] =
     b"GET /api/v1/version HTTP/1.1\r\nHost: h\r\n\r\nGET /nope HTTP/1.1\r\nHost: h\r\n\r\nGET /api/v1/dags HTTP/1.1\r\nHost: h\r\n";
 
 /// What answers the whole input, to the byte.
-fn whole(alloc: Global) -> Result<Vec<u8>, Fail> {
-    let mut text = Vec::from_slice(alloc, VERSION.as_bytes())?;
-    text.extend_from_slice(NO_PATH.as_bytes())?;
-    text.extend_from_slice(INCOMPLETE.as_bytes())?;
-    Ok(text)
+const WHOLE: &[&str] = &[VERSION, NO_PATH, INCOMPLETE];
+
+/// The same in one text.
+fn whole(rt: &impl Abort, alloc: Global) -> Vec<u8> {
+    let mut text = Vec::new(alloc);
+    for part in WHOLE {
+        text.extend_from_slice(part.as_bytes())
+            .expect(rt, "room for an answer");
+    }
+    text
 }
 
 /// How many bytes answer the requests that are whole in so many bytes of the input.
@@ -33,37 +38,39 @@ fn answered(came: usize) -> usize {
 }
 
 /// Whether a text is the first so many bytes of what answers the whole input.
-fn is_front(alloc: Global, text: &[u8], count: usize) -> Result<bool, Fail> {
-    let whole = whole(alloc)?;
+fn is_front(rt: &impl Abort, alloc: Global, text: &[u8], count: usize) -> bool {
+    let whole = whole(rt, alloc);
     let (front, _) = whole.as_slice().split_at(count.min(whole.len()));
-    Ok(text == front)
+    let is_front = text == front;
+    drop(whole);
+    is_front
 }
 
 /// Whether the input in pieces of a size, where the reader fails at this call, ends so, whether the requests that came whole are
 /// answered, to the byte, and nothing else, and whether the service is called where there was one.
-fn fails_at(alloc: Global, size: usize, call: usize) -> Result<bool, Fail> {
+fn fails_at(rt: &impl Abort, alloc: Global, size: usize, call: usize) -> bool {
     let mut pieces = Pieces::of(INPUT, size);
     pieces.fails_at = Some(call);
-    let (ended, paper, calls) = run(alloc, pieces, Paper::new(alloc)?);
+    let (ended, paper, calls) = run(alloc, pieces, new_paper(rt, alloc));
     let count = answered(size.saturating_mul(call.saturating_sub(1)));
-    let is_whole = is_front(alloc, paper.bytes.as_slice(), count)?;
-    Ok(ended == Ended::ReadFault && is_whole && (calls == 1) == (count > 0))
+    let is_whole = is_front(rt, alloc, paper.bytes.as_slice(), count);
+    drop(paper);
+    ended == Ended::ReadFault && is_whole && (calls == 1) == (count > 0)
 }
 
 /// Sizes of pieces, and the last call of each.
-const READERS: [(usize, usize); 4] = [(1, 109), (2, 55), (3, 37), (10, 12)];
+const READERS: &[(usize, usize)] = &[(1, 109), (2, 55), (3, 37), (10, 12)];
 
 /// A reader that fails at each call in turn.
 #[test]
-fn readers_that_fail(rt: HostRuntime) -> Result<(), Fail> {
+fn readers_that_fail(rt: HostRuntime) {
     assert!(rt; INPUT.len() == 108, "the input");
     for (size, last) in READERS {
-        for call in 1..=last {
-            let fails = fails_at(rt.alloc(), size, call)?;
-            call_holds(&rt, fails, size, call);
+        for call in 1..=*last {
+            let fails = fails_at(&rt, rt.alloc(), *size, call);
+            call_holds(&rt, fails, *size, call);
         }
     }
-    Ok(())
 }
 
 /// How many bytes a writer took in so many calls: first what answers the two requests, which leaves before the read that
@@ -80,23 +87,24 @@ fn taken(size: usize, calls: usize) -> usize
 
 /// Whether a writer that fails, or takes no byte, at this call ends the connection so, and took all that the calls before it
 /// were given.
-fn breaks_at(alloc: Global, size: usize, call: usize, stalls: bool) -> Result<bool, Fail>
+fn breaks_at(rt: &impl Abort, alloc: Global, size: usize, call: usize, stalls: bool) -> bool
     requires { 0 < size }
 {
-    let paper = Paper::broken(alloc, size, call, stalls)?;
+    let paper = broken_paper(rt, alloc, size, call, stalls);
     let (ended, paper, calls) = run(alloc, Pieces::of(INPUT, 1000), paper);
     let count = taken(size, call.saturating_sub(1));
-    let is_taken = is_front(alloc, paper.bytes.as_slice(), count)?;
-    Ok(ended == Ended::WriteFault && calls == 1 && is_taken)
+    let is_taken = is_front(rt, alloc, paper.bytes.as_slice(), count);
+    drop(paper);
+    ended == Ended::WriteFault && calls == 1 && is_taken
 }
 
 /// Whether both writers do so, the one that fails at this call and the one that takes no byte.
-fn both_break_at(alloc: Global, size: usize, call: usize) -> Result<bool, Fail>
+fn both_break_at(rt: &impl Abort, alloc: Global, size: usize, call: usize) -> bool
     requires { 0 < size }
 {
-    let fails = breaks_at(alloc, size, call, false)?;
-    let stalls = breaks_at(alloc, size, call, true)?;
-    Ok(fails && stalls)
+    let fails = breaks_at(rt, alloc, size, call, false);
+    let stalls = breaks_at(rt, alloc, size, call, true);
+    fails && stalls
 }
 
 /// How many calls a writer of this size gets.
@@ -111,51 +119,57 @@ fn last_call(size: usize) -> usize
 
 /// A writer that fails, or takes no byte, at each call in turn.
 #[test]
-fn writers_that_fail(rt: HostRuntime) -> Result<(), Fail> {
+fn writers_that_fail(rt: HostRuntime) {
     for size in [3usize, 40] {
         for call in 1..=last_call(size) {
-            let both_break = both_break_at(rt.alloc(), size, call)?;
+            let both_break = both_break_at(&rt, rt.alloc(), size, call);
             call_holds(&rt, both_break, size, call);
         }
     }
-    Ok(())
 }
+
+/// How few bytes a writer takes a call.
+const LITTLE: &[usize] = &[1, 2, 3, 7, 40];
 
 /// A writer that takes few bytes a call takes all of them.
 #[test]
-fn writers_that_take_little(rt: HostRuntime) -> Result<(), Fail> {
-    for size in [1usize, 2, 3, 7, 40] {
-        let takes = takes_little(rt.alloc(), size)?;
-        number_holds(&rt, takes, "pieces of", size);
+fn writers_that_take_little(rt: HostRuntime) {
+    for size in LITTLE {
+        let takes = takes_little(&rt, rt.alloc(), *size);
+        number_holds(&rt, takes, "pieces of", *size);
     }
-    Ok(())
 }
 
 /// Whether a writer that takes so many bytes a call sees the connection end so, and takes all of them.
-fn takes_little(alloc: Global, size: usize) -> Result<bool, Fail> {
-    let mut paper = Paper::new(alloc)?;
+fn takes_little(rt: &impl Abort, alloc: Global, size: usize) -> bool {
+    let mut paper = new_paper(rt, alloc);
     paper.size = size;
     let (ended, paper, calls) = run(alloc, Pieces::of(INPUT, size), paper);
-    let wanted = whole(alloc)?;
+    let wanted = whole(rt, alloc);
     let is_whole = paper.bytes.as_slice() == wanted.as_slice();
-    Ok(ended == Ended::Refused(Status::BadRequest) && calls == 1 && is_whole)
+    drop(wanted);
+    drop(paper);
+    ended == Ended::Refused(Status::BadRequest) && calls == 1 && is_whole
 }
 
 const ASKS_LONG: &[u8] =
     b"GET /api/v1/dags HTTP/1.1\r\nHost: h\r\nAuthorization: Bearer test\r\nConnection: close\r\n\r\n";
 
 /// The head of an answer with a body of so many bytes.
-fn long_head(alloc: Global, length: usize) -> Result<String, Fail> {
-    Ok(format!(in alloc;
+fn long_head(rt: &impl Abort, alloc: Global, length: usize) -> String {
+    let head = format!(in alloc;
         "HTTP/1.1 200 OK\r\nContent-Type: application/json\r\nContent-Length: {length}\r\nX-Policy-Version: 3\r\nX-Plane-Seq: 70\r\nConnection: close\r\n\r\n"
-    )?)
+    );
+    head.expect(rt, "the head of an answer")
 }
 
 /// Whether an answer begins with the head of a body of so many bytes, and whether that body follows, which is x alone.
-fn is_long(alloc: Global, text: &[u8], length: usize) -> Result<bool, Fail> {
-    let head = long_head(alloc, length)?;
+fn is_long(rt: &impl Abort, alloc: Global, text: &[u8], length: usize) -> bool {
+    let head = long_head(rt, alloc, length);
     let (front, body) = text.split_at(head.len().min(text.len()));
-    Ok(front == head.as_bytes() && body.len() == length && has_x_alone(body))
+    let is_head = front == head.as_bytes();
+    drop(head);
+    is_head && body.len() == length && has_x_alone(body)
 }
 
 fn has_x_alone(bytes: &[u8]) -> bool {
@@ -168,25 +182,24 @@ fn has_x_alone(bytes: &[u8]) -> bool {
 }
 
 /// Whether a connection with an answer of so many bytes closes after it, and that answer is told.
-fn answers_long(alloc: Global, length: usize) -> Result<bool, Fail> {
-    let (ended, paper, calls) = run_long(
-        alloc,
-        length,
-        Pieces::of(ASKS_LONG, 1000),
-        Paper::new(alloc)?,
-    );
-    let is_told = is_long(alloc, paper.bytes.as_slice(), length)?;
-    Ok(ended == Ended::Closed && calls == 1 && is_told)
+fn answers_long(rt: &impl Abort, alloc: Global, length: usize) -> bool {
+    let pieces = Pieces::of(ASKS_LONG, 1000);
+    let (ended, paper, calls) = run_long(alloc, length, pieces, new_paper(rt, alloc));
+    let is_told = is_long(rt, alloc, paper.bytes.as_slice(), length);
+    drop(paper);
+    ended == Ended::Closed && calls == 1 && is_told
 }
+
+/// Lengths of bodies.
+const LONG: &[usize] = &[65_400, 65_536, 65_537, 200_000];
 
 /// An answer that is longer than what is held for the writer is whole.
 #[test]
-fn long_answers(rt: HostRuntime) -> Result<(), Fail> {
-    for length in [65_400usize, 65_536, 65_537, 200_000] {
-        let answers = answers_long(rt.alloc(), length)?;
-        number_holds(&rt, answers, "a body of", length);
+fn long_answers(rt: HostRuntime) {
+    for length in LONG {
+        let answers = answers_long(&rt, rt.alloc(), *length);
+        number_holds(&rt, answers, "a body of", *length);
     }
-    Ok(())
 }
 
 /// Whether a connection that ends so, after so many calls, had the fixed answer at its end, or closed after both of its requests.
@@ -203,15 +216,14 @@ fn is_answered(ended: Ended, written: &[u8], calls: usize) -> bool {
 /// Where memory is refused, the fixed answer is given, at the opening or to the request that wanted it, and never
 /// anything between.
 #[test]
-fn memory_refused(rt: HostRuntime) -> Result<(), Fail> {
+fn memory_refused(rt: HostRuntime) {
     let alloc = rt.alloc();
     let input =
         b"GET /api/v1/version HTTP/1.1\r\nHost: h\r\n\r\nGET /api/v1/version HTTP/1.1\r\nHost: h\r\nConnection: close\r\n\r\n";
-    let Ok(paper) = Paper::new(alloc) else {
-        return Ok(());
-    };
-    let (ended, paper, calls) = run(alloc, Pieces::of(input, 1000), paper);
-    let is_answered = is_answered(ended, paper.bytes.as_slice(), calls);
-    assert!(rt; is_answered, "the answers, and the end");
-    Ok(())
+    if let Ok(paper) = Paper::new(alloc) {
+        let (ended, paper, calls) = run(alloc, Pieces::of(input, 1000), paper);
+        let is_answered = is_answered(ended, paper.bytes.as_slice(), calls);
+        drop(paper);
+        holds(&rt, is_answered, "the answers, and the end");
+    }
 }

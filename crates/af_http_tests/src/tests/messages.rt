@@ -4,10 +4,9 @@ use crate::tests::answers::{
 use crate::tests::asserts::row_goes;
 use crate::tests::cases::{ANY_PIECES, Case, first_fault};
 use af_http::Ended;
-use std::test::Fail;
 
 /// Inputs that end between requests, or after a request that closes, with all that is written, in two parts.
-const MESSAGES: [(&[u8], &str, &str); 22] = [
+const MESSAGES: &[(&[u8], &str, &str)] = &[
     (
         b"GET /api/v1/version HTTP/1.1\r\nHost: h\r\n\r\n",
         VERSION,
@@ -114,16 +113,15 @@ const MESSAGES: [(&[u8], &str, &str); 22] = [
 
 /// Each byte of each answer, however the input is cut.
 #[test]
-fn messages(rt: HostRuntime) -> Result<(), Fail> {
+fn messages(rt: HostRuntime) {
     for (row, (input, first, second)) in MESSAGES.iter().enumerate() {
         let case = Case {
             input,
-            pieces: &ANY_PIECES,
+            pieces: ANY_PIECES,
             ended: Ended::Closed,
             written: [first, second],
         };
-        let fault = first_fault(rt.alloc(), &case)?;
+        let fault = first_fault(&rt, rt.alloc(), &case);
         row_goes(&rt, fault, row);
     }
-    Ok(())
 }

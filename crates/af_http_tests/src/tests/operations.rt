@@ -23,9 +23,10 @@ mod user_rows;
 mod users;
 mod variable_rows;
 
+use crate::tests::asserts::has_memory;
 use af_names::Instant;
-use af_ops::{Endpoint, Shown};
-use std::test::Fail;
+use af_ops::{Endpoint, Served, Shown};
+use std::process::Abort;
 use told::Told;
 
 /// Who asks for what, at which parts of the path and with which body, and what is told, with the number of entries.
@@ -39,8 +40,8 @@ type Row = (
 );
 
 /// The moment of all that is asked.
-fn now() -> Result<Instant, Fail> {
-    Ok(Instant::read("2024-01-01T00:00:00Z")?)
+fn now(rt: &impl Abort) -> Instant {
+    Instant::read("2024-01-01T00:00:00Z").expect(rt, "the moment")
 }
 
 /// The token of a user, which is the name. The empty name stands for nobody.
@@ -49,6 +50,15 @@ fn token_of(who: &str) -> Option<&[u8]> {
         None
     } else {
         Some(who.as_bytes())
+    }
+}
+
+/// What is shown. Where there was no memory for it, the test ends in words that say so.
+fn shown_of(rt: &impl Abort, served: Served) -> Shown {
+    has_memory(rt, !matches!(&served, Served::NothingDone), "an answer");
+    match served {
+        Served::Shown(shown) => shown,
+        _ => panic!(rt; "a reply is lost"),
     }
 }
 

@@ -4,14 +4,14 @@ use crate::tests::answers::{
 };
 use crate::tests::asserts::{holds, number_holds};
 use crate::tests::cases::is_joined;
-use crate::tests::tools::{Paper, Pieces, run};
+use crate::tests::tools::{Pieces, new_paper, run};
 use af_http::Ended;
-use std::alloc::Global;
-use std::test::Fail;
+use std::alloc::{AllocGlobal, Global};
+use std::process::Abort;
 
 /// Methods and paths, with what answers them without a token: 401 where they name an operation. A part is decoded once, is
 /// UTF-8 and a name of its kind, and only then the methods of the path count; `~` stands for all DAGs in the listing of runs alone.
-const PATHS: [(&str, &str); 19] = [
+const PATHS: &[(&str, &str)] = &[
     ("GET /api/v1/dags/b", NO_TOKEN),
     ("GET /api/v1/dags/%62", NO_TOKEN),
     ("GET /api/v1/dags/%20", NO_PATH),
@@ -34,7 +34,7 @@ const PATHS: [(&str, &str); 19] = [
 ];
 
 /// The same for pools and variables. Their names are printed ASCII, where a space, a slash or a `~` is a byte like others.
-const ROW_PATHS: [(&str, &str); 22] = [
+const ROW_PATHS: &[(&str, &str)] = &[
     ("GET /api/v1/pools", NO_TOKEN),
     ("POST /api/v1/pools", NO_TOKEN),
     ("DELETE /api/v1/pools", BAD_METHOD_OF_ROWS),
@@ -60,7 +60,7 @@ const ROW_PATHS: [(&str, &str); 22] = [
 ];
 
 /// The same for roles and users. Their names are printed ASCII as those of pools are.
-const ACCOUNT_PATHS: [(&str, &str); 23] = [
+const ACCOUNT_PATHS: &[(&str, &str)] = &[
     ("GET /api/v1/roles", NO_TOKEN),
     ("POST /api/v1/roles", NO_TOKEN),
     ("PATCH /api/v1/roles", BAD_METHOD_OF_ROWS),
@@ -87,7 +87,7 @@ const ACCOUNT_PATHS: [(&str, &str); 23] = [
 ];
 
 /// The same for the event logs, and for the paths beside the API's, where `~` is no DAG. Texts of a path are not decoded.
-const OTHER_PATHS: [(&str, &str); 20] = [
+const OTHER_PATHS: &[(&str, &str)] = &[
     ("GET /api/v1/eventLogs", NO_TOKEN),
     ("GET /api/v1/eventLogs?limit=x", NO_TOKEN),
     ("POST /api/v1/eventLogs", BAD_METHOD),
@@ -111,56 +111,49 @@ const OTHER_PATHS: [(&str, &str); 20] = [
 ];
 
 /// What answers this method and path, twice on one connection.
-fn is_answered(alloc: Global, asked: &str, wanted: &str) -> Result<bool, Fail> {
+fn is_answered(rt: &impl Abort, alloc: Global, asked: &str, wanted: &str) -> bool {
     let input = format!(in alloc;
         "{asked} HTTP/1.1\r\nHost: h\r\n\r\n{asked} HTTP/1.1\r\nHost: h\r\n\r\n"
-    )?;
-    let (ended, paper, _) = run(
-        alloc,
-        Pieces::of(input.as_bytes(), 10_000),
-        Paper::new(alloc)?,
     );
-    Ok(ended == Ended::Closed && is_joined(paper.bytes.as_slice(), [wanted, wanted]))
+    let input = input.expect(rt, "two requests");
+    let pieces = Pieces::of(input.as_bytes(), 10_000);
+    let (ended, paper, _) = run(alloc, pieces, new_paper(rt, alloc));
+    drop(input);
+    let is_written = is_joined(paper.bytes.as_slice(), [wanted, wanted]);
+    drop(paper);
+    ended == Ended::Closed && is_written
+}
+
+/// Ends the test where something else answers a method and a path.
+fn are_answered(rt: &(impl AllocGlobal + Abort), paths: &[(&str, &str)]) {
+    for (asked, wanted) in paths {
+        let is_answered = is_answered(rt, rt.alloc(), asked, wanted);
+        holds(rt, is_answered, asked);
+    }
 }
 
 #[test]
-fn paths(rt: HostRuntime) -> Result<(), Fail> {
-    for (asked, wanted) in PATHS {
-        let is_answered = is_answered(rt.alloc(), asked, wanted)?;
-        holds(&rt, is_answered, asked);
-    }
-    Ok(())
+fn paths(rt: HostRuntime) {
+    are_answered(&rt, PATHS);
 }
 
 #[test]
-fn row_paths(rt: HostRuntime) -> Result<(), Fail> {
-    for (asked, wanted) in ROW_PATHS {
-        let is_answered = is_answered(rt.alloc(), asked, wanted)?;
-        holds(&rt, is_answered, asked);
-    }
-    Ok(())
+fn row_paths(rt: HostRuntime) {
+    are_answered(&rt, ROW_PATHS);
 }
 
 #[test]
-fn account_paths(rt: HostRuntime) -> Result<(), Fail> {
-    for (asked, wanted) in ACCOUNT_PATHS {
-        let is_answered = is_answered(rt.alloc(), asked, wanted)?;
-        holds(&rt, is_answered, asked);
-    }
-    Ok(())
+fn account_paths(rt: HostRuntime) {
+    are_answered(&rt, ACCOUNT_PATHS);
 }
 
 #[test]
-fn other_paths(rt: HostRuntime) -> Result<(), Fail> {
-    for (asked, wanted) in OTHER_PATHS {
-        let is_answered = is_answered(rt.alloc(), asked, wanted)?;
-        holds(&rt, is_answered, asked);
-    }
-    Ok(())
+fn other_paths(rt: HostRuntime) {
+    are_answered(&rt, OTHER_PATHS);
 }
 
 /// Names of so many bytes, plain and with each byte encoded: 250 are the most, of the text and not of its encoding.
-const NAMES: [(&str, usize, &str); 6] = [
+const NAMES: &[(&str, usize, &str)] = &[
     ("x", 249, NO_TOKEN),
     ("x", 250, NO_TOKEN),
     ("x", 251, NO_PATH),
@@ -170,7 +163,7 @@ const NAMES: [(&str, usize, &str); 6] = [
 ];
 
 /// What stands before and after a name in a path.
-const AROUND: [(&str, &str); 6] = [
+const AROUND: &[(&str, &str)] = &[
     ("GET /api/v1/dags/", ""),
     ("GET /api/v1/dags/", "/dagRuns"),
     ("GET /api/v1/dags/b/dagRuns/", ""),
@@ -180,7 +173,7 @@ const AROUND: [(&str, &str); 6] = [
 ];
 
 /// Names of roles and users: 64 bytes are the most.
-const ACCOUNT_NAMES: [(&str, usize, &str); 6] = [
+const ACCOUNT_NAMES: &[(&str, usize, &str)] = &[
     ("x", 63, NO_TOKEN),
     ("x", 64, NO_TOKEN),
     ("x", 65, NO_PATH),
@@ -190,57 +183,72 @@ const ACCOUNT_NAMES: [(&str, usize, &str); 6] = [
 ];
 
 /// What stands before the name of a role or a user.
-const BEFORE_ACCOUNT: [(&str, &str); 2] = [("GET /api/v1/roles/", ""), ("GET /api/v1/users/", "")];
+const BEFORE_ACCOUNT: &[(&str, &str)] = &[("GET /api/v1/roles/", ""), ("GET /api/v1/users/", "")];
 
 /// A text so many times.
-fn repeated(alloc: Global, letter: &str, count: usize) -> Result<String, Fail> {
+fn repeated(rt: &impl Abort, alloc: Global, letter: &str, count: usize) -> String {
     let mut name = String::new(alloc);
     for _ in 0..count {
-        name.push_str(letter)?;
+        name.push_str(letter).expect(rt, "room for a letter");
     }
-    Ok(name)
+    name
 }
 
 /// Whether this answers a path with a name between these two.
 fn is_name_answered(
+    rt: &impl Abort,
     alloc: Global,
     (before, after): (&str, &str),
     name: &str,
     wanted: &str,
-) -> Result<bool, Fail> {
-    let asked = format!(in alloc; "{before}{name}{after}")?;
-    is_answered(alloc, asked.as_str(), wanted)
+) -> bool {
+    let asked = format!(in alloc; "{before}{name}{after}").expect(rt, "a method and a path");
+    let is_answered = is_answered(rt, alloc, asked.as_str(), wanted);
+    drop(asked);
+    is_answered
 }
 
 /// Whether this answers each of these paths with a name of so many of these letters.
 fn is_long_name_answered(
+    rt: &impl Abort,
     alloc: Global,
     places: &[(&str, &str)],
     (letter, count, wanted): (&str, usize, &str),
-) -> Result<bool, Fail> {
-    let name = repeated(alloc, letter, count)?;
+) -> bool {
+    let name = repeated(rt, alloc, letter, count);
+    let are_answered = are_all_answered(rt, alloc, places, name.as_str(), wanted);
+    drop(name);
+    are_answered
+}
+
+/// The same of a name.
+fn are_all_answered(
+    rt: &impl Abort,
+    alloc: Global,
+    places: &[(&str, &str)],
+    name: &str,
+    wanted: &str,
+) -> bool {
     for around in places {
-        if !is_name_answered(alloc, *around, name.as_str(), wanted)? {
-            return Ok(false);
+        if !is_name_answered(rt, alloc, *around, name, wanted) {
+            return false;
         }
     }
-    Ok(true)
+    true
 }
 
 #[test]
-fn long_names(rt: HostRuntime) -> Result<(), Fail> {
+fn long_names(rt: HostRuntime) {
     for name in NAMES {
-        let is_answered = is_long_name_answered(rt.alloc(), &AROUND, name)?;
+        let is_answered = is_long_name_answered(&rt, rt.alloc(), AROUND, *name);
         number_holds(&rt, is_answered, name.0, name.1);
     }
-    Ok(())
 }
 
 #[test]
-fn long_account_names(rt: HostRuntime) -> Result<(), Fail> {
+fn long_account_names(rt: HostRuntime) {
     for name in ACCOUNT_NAMES {
-        let is_answered = is_long_name_answered(rt.alloc(), &BEFORE_ACCOUNT, name)?;
+        let is_answered = is_long_name_answered(&rt, rt.alloc(), BEFORE_ACCOUNT, *name);
         number_holds(&rt, is_answered, name.0, name.1);
     }
-    Ok(())
 }

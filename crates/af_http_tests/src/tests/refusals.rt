@@ -6,10 +6,9 @@ use crate::tests::asserts::row_goes;
 use crate::tests::cases::{ANY_PIECES, Case, first_fault};
 use af_http::Ended;
 use af_ops::Status;
-use std::test::Fail;
 
 /// Inputs at whose end something is no request, with the status of its refusal and all that is written, in two parts.
-const REFUSALS: [(&[u8], Status, &str, &str); 19] = [
+const REFUSALS: &[(&[u8], Status, &str, &str)] = &[
     (
         b"GET /api/v1/version HTTP/1.1\r\n\r\n",
         Status::BadRequest,
@@ -123,16 +122,15 @@ const REFUSALS: [(&[u8], Status, &str, &str); 19] = [
 
 /// Each byte of each answer, however the input is cut.
 #[test]
-fn refusals(rt: HostRuntime) -> Result<(), Fail> {
+fn refusals(rt: HostRuntime) {
     for (row, (input, status, first, second)) in REFUSALS.iter().enumerate() {
         let case = Case {
             input,
-            pieces: &ANY_PIECES,
+            pieces: ANY_PIECES,
             ended: Ended::Refused(*status),
             written: [first, second],
         };
-        let fault = first_fault(rt.alloc(), &case)?;
+        let fault = first_fault(&rt, rt.alloc(), &case);
         row_goes(&rt, fault, row);
     }
-    Ok(())
 }

@@ -3,6 +3,7 @@ use af_ops::{Body, Call, Op, Served, Shown, Status};
 use std::alloc::{AllocError, Global};
 use std::io;
 use std::io::{Read, Write};
+use std::process::Abort;
 
 /// Gives at most so many bytes a read, and fails at this read.
 #[derive(Drop)]
@@ -58,23 +59,29 @@ impl Paper {
             writes: 0,
         })
     }
+}
 
-    /// A writer that fails at this write, or takes no byte of it.
-    pub fn broken(
-        alloc: Global,
-        size: usize,
-        call: usize,
-        stalls: bool,
-    ) -> Result<Paper, AllocError> {
-        let mut paper = Paper::new(alloc)?;
-        paper.size = size;
-        if stalls {
-            paper.stalls_at = Some(call);
-        } else {
-            paper.fails_at = Some(call);
-        }
-        Ok(paper)
+/// A writer that takes all that it is given.
+pub fn new_paper(rt: &impl Abort, alloc: Global) -> Paper {
+    Paper::new(alloc).expect(rt, "a writer")
+}
+
+/// A writer of this size that fails at this write, or takes no byte of it.
+pub fn broken_paper(
+    rt: &impl Abort,
+    alloc: Global,
+    size: usize,
+    call: usize,
+    stalls: bool,
+) -> Paper {
+    let mut paper = new_paper(rt, alloc);
+    paper.size = size;
+    if stalls {
+        paper.stalls_at = Some(call);
+    } else {
+        paper.fails_at = Some(call);
     }
+    paper
 }
 
 impl Write for Paper {
@@ -96,6 +103,40 @@ impl Write for Paper {
     fn flush(&mut self) -> io::Result<()> {
         Ok(())
     }
+}
+
+/// What a token is answered with.
+#[derive(Clone, Copy)]
+enum Answer {
+    /// A body of many bytes.
+    Long,
+    /// No body, with the status that says so.
+    Empty,
+    /// The body of two bytes.
+    Short(Status),
+    /// The change is done, and its reply is lost.
+    Lost,
+    /// There was no memory, and nothing was done.
+    NoMemory,
+}
+
+/// Tokens, and what each is answered with.
+const ANSWERS: &[(&[u8], Answer)] = &[
+    (b"test", Answer::Long),
+    (b"empty", Answer::Empty),
+    (b"full", Answer::Short(Status::NoContent)),
+    (b"lost", Answer::Lost),
+    (b"memory", Answer::NoMemory),
+];
+
+/// What a token is answered with. One that is not listed is nobody's.
+fn answer_to(token: &[u8]) -> Answer {
+    for (known, answer) in ANSWERS {
+        if *known == token {
+            return *answer;
+        }
+    }
+    Answer::Short(Status::Unauthorized)
 }
 
 /// The answers: the version to everybody; of all else, what the token says.
@@ -145,13 +186,12 @@ impl Fixed {
         if matches!(call, Call::State(Op::Version)) {
             return self.version();
         }
-        match token.unwrap_or(b"") {
-            b"test" => self.long(),
-            b"empty" => Ok(Fixed::told(Status::NoContent, None)),
-            b"full" => self.short(Status::NoContent),
-            b"lost" => Ok(Served::ReplyLost),
-            b"memory" => Ok(Served::NothingDone),
-            _ => self.short(Status::Unauthorized),
+        match answer_to(token.unwrap_or(b"")) {
+            Answer::Long => self.long(),
+            Answer::Empty => Ok(Fixed::told(Status::NoContent, None)),
+            Answer::Short(status) => self.short(status),
+            Answer::Lost => Ok(Served::ReplyLost),
+            Answer::NoMemory => Ok(Served::NothingDone),
         }
     }
 }

@@ -4,7 +4,6 @@ use super::scenes::Scene;
 use super::told::{CUT, EMPTY, GO_ON, NOTHING, PAUSE};
 use super::{Row, told};
 use af_ops::Endpoint;
-use std::test::Fail;
 
 /// Those who read. Each user's name is the token.
 const READINGS: &[Row] = &[
@@ -113,11 +112,11 @@ pub const ALL_DAGS: Row = (
 );
 
 #[test]
-fn what_readers_are_told(rt: HostRuntime) -> Result<(), Fail> {
-    all_told(&rt, rt.alloc(), Scene::ThreeDags, Story::Rows(READINGS))
+fn what_readers_are_told(rt: HostRuntime) {
+    all_told(&rt, Scene::ThreeDags, Story::Rows(READINGS));
 }
 
 #[test]
-fn what_is_paused(rt: HostRuntime) -> Result<(), Fail> {
-    all_told(&rt, rt.alloc(), Scene::ThreeDags, Story::Rows(CHANGES))
+fn what_is_paused(rt: HostRuntime) {
+    all_told(&rt, Scene::ThreeDags, Story::Rows(CHANGES));
 }

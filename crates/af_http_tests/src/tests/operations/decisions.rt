@@ -3,11 +3,12 @@ use super::calls::named;
 use super::now;
 use super::scenes::{Scene, state};
 use super::users::policy;
+use crate::tests::asserts::{has_memory, holds};
 use af_ops::{CallFault, Endpoint, Op, OpFault, Under, commit, decide};
 use af_policy::Policy;
 use af_sched::State;
-use std::alloc::Global;
-use std::test::Fail;
+use std::alloc::{AllocGlobal, Global};
+use std::process::Abort;
 
 /// So many entries there are at most.
 const MOST_ENTRIES: u32 = 1_000_000;
@@ -18,58 +19,70 @@ pub type Request = (u32, &'static str, Endpoint, &'static str, &'static [u8]);
 /// How many requests are permitted, one after another, up to the first that is refused, and why that one is.
 type Refusal = (usize, Option<OpFault>);
 
-/// Why an operation is refused.
-fn fault_of(fault: CallFault) -> Result<Option<OpFault>, Fail> {
+/// Why an operation is refused. Where there was no memory for it, the test ends in words that say so.
+fn fault_of(rt: &impl Abort, fault: CallFault) -> OpFault {
     match fault {
-        CallFault::Op(fault) => Ok(Some(fault)),
-        _ => Err(Fail::new("the user may not do it")),
+        CallFault::Op(fault) => {
+            let has_room = !matches!(&fault, OpFault::OutOfMemory);
+            has_memory(rt, has_room, "a decision");
+            fault
+        }
+        _ => panic!(rt; "the user may not do it"),
     }
 }
 
 /// Does an operation of a user's where there are so many entries: why it is refused, if it is.
 fn decided(
+    rt: &impl Abort,
     alloc: Global,
     policy: &Policy,
     state: &mut State,
     entries: u32,
     who: &str,
     op: &Op,
-) -> Result<Option<OpFault>, Fail> {
-    let now = now()?;
+) -> Option<OpFault> {
     let under = Under {
         version: 0,
         seq: entries,
     };
     let token = Some(who.as_bytes());
-    match decide(alloc, policy, state, under, MOST_ENTRIES, token, op, now) {
+    match decide(
+        alloc,
+        policy,
+        state,
+        under,
+        MOST_ENTRIES,
+        token,
+        op,
+        now(rt),
+    ) {
         Ok(prepared) => {
             drop(commit(state, prepared));
-            Ok(None)
+            None
         }
-        Err(fault) => fault_of(fault),
+        Err(fault) => Some(fault_of(rt, fault)),
     }
 }
 
 /// Does what is asked for: why it is refused, if it is.
 fn done(
+    rt: &impl Abort,
     alloc: Global,
     policy: &Policy,
     state: &mut State,
     request: Request,
-) -> Result<Option<OpFault>, Fail> {
+) -> Option<OpFault> {
     let (entries, who, endpoint, part, body) = request;
-    let op = named(alloc, endpoint, part, body)?;
-    let fault = decided(alloc, policy, state, entries, who, &op);
+    let op = named(rt, alloc, endpoint, part, body);
+    let fault = decided(rt, alloc, policy, state, entries, who, &op);
     drop(op);
     fault
 }
 
 /// A run of f is triggered by adam.
-pub fn trigger(alloc: Global, policy: &Policy, state: &mut State) -> Result<(), Fail> {
-    match done(alloc, policy, state, TRIGGERED)? {
-        None => Ok(()),
-        Some(_) => Err(Fail::new("no run is triggered")),
-    }
+pub fn trigger(rt: &impl Abort, alloc: Global, policy: &Policy, state: &mut State) {
+    let fault = done(rt, alloc, policy, state, TRIGGERED);
+    holds(rt, fault.is_none(), "a run is triggered");
 }
 
 /// Adam triggers a run of f.
@@ -77,46 +90,42 @@ const TRIGGERED: Request = (0, "adam", Endpoint::TriggerRun, "f", b"{}");
 
 /// Does what is asked for, one after another, up to the first request that is refused.
 fn all_done(
+    rt: &impl Abort,
     alloc: Global,
     policy: &Policy,
     state: &mut State,
     requests: &[Request],
-) -> Result<Refusal, Fail> {
+) -> Refusal {
     for (place, request) in requests.iter().enumerate() {
-        let fault = done(alloc, policy, state, *request)?;
+        let fault = done(rt, alloc, policy, state, *request);
         if fault.is_some() {
-            return Ok((place, fault));
+            return (place, fault);
         }
     }
-    Ok((requests.len(), None))
-}
-
-fn refusal_under(
-    alloc: Global,
-    policy: &Policy,
-    scene: Scene,
-    requests: &[Request],
-) -> Result<Refusal, Fail> {
-    let mut state = state(alloc, policy, scene)?;
-    let refusal = all_done(alloc, policy, &mut state, requests);
-    drop(state);
-    refusal
+    (requests.len(), None)
 }
 
 /// How many requests are permitted, one after another, where a state holds this, up to the first that is refused, and why.
-pub fn refusal_in(alloc: Global, scene: Scene, requests: &[Request]) -> Result<Refusal, Fail> {
-    let policy = policy(alloc)?;
-    let refusal = refusal_under(alloc, &policy, scene, requests);
+pub fn refusal_in(rt: &(impl AllocGlobal + Abort), scene: Scene, requests: &[Request]) -> Refusal {
+    let alloc = rt.alloc();
+    let policy = policy(rt, alloc);
+    let mut state = state(rt, alloc, &policy, scene);
+    let refusal = all_done(rt, alloc, &policy, &mut state, requests);
+    drop(state);
     drop(policy);
     refusal
 }
 
 /// Whether a request is permitted where a state holds this, or the history is full; none where it is refused for another reason.
-pub fn permitted_in(alloc: Global, scene: Scene, request: Request) -> Result<Option<bool>, Fail> {
-    let (_, fault) = refusal_in(alloc, scene, &[request])?;
+pub fn permitted_in(
+    rt: &(impl AllocGlobal + Abort),
+    scene: Scene,
+    request: Request,
+) -> Option<bool> {
+    let (_, fault) = refusal_in(rt, scene, &[request]);
     match fault {
-        None => Ok(Some(true)),
-        Some(OpFault::HistoryFull) => Ok(Some(false)),
-        Some(_) => Ok(None),
+        None => Some(true),
+        Some(OpFault::HistoryFull) => Some(false),
+        Some(_) => None,
     }
 }

@@ -3,28 +3,27 @@ use super::decisions::permitted_in;
 use super::scenes::Scene;
 use crate::tests::asserts::holds;
 use af_ops::Endpoint;
-use std::alloc::Global;
-use std::test::Fail;
+use std::alloc::AllocGlobal;
+use std::process::Abort;
 
 /// Whether an operation of uma's at the DAG b is permitted where there are so many entries, or the history is full.
 fn of_uma(
-    alloc: Global,
+    rt: &(impl AllocGlobal + Abort),
     entries: u32,
     endpoint: Endpoint,
     body: &'static str,
-) -> Result<Option<bool>, Fail> {
+) -> Option<bool> {
     let request = (entries, "uma", endpoint, "b", body.as_bytes());
-    permitted_in(alloc, Scene::ThreeDags, request)
+    permitted_in(rt, Scene::ThreeDags, request)
 }
 
 /// The last entry may be added, and none after it; what changes nothing is told nevertheless.
 #[test]
-fn a_full_history_takes_no_change(rt: HostRuntime) -> Result<(), Fail> {
+fn a_full_history_takes_no_change(rt: HostRuntime) {
     for (entries, endpoint, body, permitted) in FULL {
-        let told = of_uma(rt.alloc(), *entries, *endpoint, *body)?;
+        let told = of_uma(&rt, *entries, *endpoint, *body);
         holds(&rt, told == Some(*permitted), body);
     }
-    Ok(())
 }
 
 /// So many entries, an operation with its body, and whether it is permitted then.

@@ -7,7 +7,6 @@ use super::row_texts::{
 use super::rows::Ask;
 use super::scenes::{Kind, Scene};
 use af_ops::{Endpoint, Status};
-use std::test::Fail;
 
 /// As many pools as there may be, the default one among them.
 const ALL_POOLS: Scene = Scene::Numbered(Kind::Pool, 1, 65_536);
@@ -78,11 +77,11 @@ const VARIABLES: &[Ask] = &[
 ];
 
 #[test]
-fn a_pool_too_many(rt: HostRuntime) -> Result<(), Fail> {
-    all_told(&rt, rt.alloc(), ALL_POOLS, Story::Asks(POOLS))
+fn a_pool_too_many(rt: HostRuntime) {
+    all_told(&rt, ALL_POOLS, Story::Asks(POOLS));
 }
 
 #[test]
-fn a_variable_too_many(rt: HostRuntime) -> Result<(), Fail> {
-    all_told(&rt, rt.alloc(), ALL_VARIABLES, Story::Asks(VARIABLES))
+fn a_variable_too_many(rt: HostRuntime) {
+    all_told(&rt, ALL_VARIABLES, Story::Asks(VARIABLES));
 }

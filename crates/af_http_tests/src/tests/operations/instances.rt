@@ -6,7 +6,6 @@ use super::told::{CUT, NAMED_R, NOTHING};
 use super::{Row, told};
 use crate::tests::asserts::holds;
 use af_ops::Endpoint;
-use std::test::Fail;
 
 /// A run of the DAG f is triggered.
 const RUN_OF_F: Row = (
@@ -153,36 +152,25 @@ const INSTANCES: &Listing = &(&[RUN_OF_F], INSTANCES_OF_F, TASK_ID, LAST_INSTANC
 const TASKS: &Listing = &(&[], TASKS_OF_F, TASK_ID, LAST_TASK);
 
 #[test]
-fn what_is_told_of_instances(rt: HostRuntime) -> Result<(), Fail> {
-    all_told(&rt, rt.alloc(), Scene::DagF(Tasks::Two), Story::Rows(ROWS))
+fn what_is_told_of_instances(rt: HostRuntime) {
+    all_told(&rt, Scene::DagF(Tasks::Two), Story::Rows(ROWS));
 }
 
 #[test]
-fn what_is_told_of_tasks(rt: HostRuntime) -> Result<(), Fail> {
-    all_told(
-        &rt,
-        rt.alloc(),
-        Scene::DagF(Tasks::Two),
-        Story::Rows(TASK_ROWS),
-    )
+fn what_is_told_of_tasks(rt: HostRuntime) {
+    all_told(&rt, Scene::DagF(Tasks::Two), Story::Rows(TASK_ROWS));
 }
 
 #[test]
-fn a_hundred_of_150_instances_are_told(rt: HostRuntime) -> Result<(), Fail> {
-    let (count, is_end) = played(
-        rt.alloc(),
-        Scene::DagF(Tasks::Many),
-        Story::Lists(INSTANCES),
-    )?;
+fn a_hundred_of_150_instances_are_told(rt: HostRuntime) {
+    let (count, is_end) = played(&rt, Scene::DagF(Tasks::Many), Story::Lists(INSTANCES));
     holds(&rt, count == 100, "a hundred");
     holds(&rt, is_end, "the last of them");
-    Ok(())
 }
 
 #[test]
-fn all_of_150_tasks_are_told(rt: HostRuntime) -> Result<(), Fail> {
-    let (count, is_end) = played(rt.alloc(), Scene::DagF(Tasks::Many), Story::Lists(TASKS))?;
+fn all_of_150_tasks_are_told(rt: HostRuntime) {
+    let (count, is_end) = played(&rt, Scene::DagF(Tasks::Many), Story::Lists(TASKS));
     holds(&rt, count == 150, "all of them");
     holds(&rt, is_end, "the last of them");
-    Ok(())
 }

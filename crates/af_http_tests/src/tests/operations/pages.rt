@@ -3,7 +3,6 @@ use super::dags::ALL_DAGS;
 use super::playing::{Listing, Story, played};
 use super::scenes::{Kind, Scene};
 use crate::tests::asserts::holds;
-use std::test::Fail;
 
 const DAG_ID: &[u8] = b"\"dag_id\"";
 
@@ -14,9 +13,8 @@ const DAGS: &Listing = &(&[], ALL_DAGS, DAG_ID, OF_MANY);
 const MANY_DAGS: Scene = Scene::Numbered(Kind::Dag, 0, 1024);
 
 #[test]
-fn a_page_has_a_hundred_rows(rt: HostRuntime) -> Result<(), Fail> {
-    let (count, is_end) = played(rt.alloc(), MANY_DAGS, Story::Lists(DAGS))?;
+fn a_page_has_a_hundred_rows(rt: HostRuntime) {
+    let (count, is_end) = played(&rt, MANY_DAGS, Story::Lists(DAGS));
     holds(&rt, count == 100, "a hundred");
     holds(&rt, is_end, "of 1,024");
-    Ok(())
 }

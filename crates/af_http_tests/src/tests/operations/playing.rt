@@ -1,16 +1,15 @@
-//! Requests that a server answers, one after another: who owns the policy, or where the server stands, lends it to the function
-//! that plays them, and drops it by `drop`, which is proved once, and not at each way out.
+//! Requests that a server answers, one after another: who owns the policy, and where the server stands, lends them to the function
+//! that plays them, and drops them by `drop`, which is proved once.
 use super::calls::named;
 use super::rows::Ask;
 use super::scenes::{Scene, state};
 use super::users::policy;
-use super::{Row, now, text, token_of};
-use crate::tests::asserts::row_holds;
-use af_ops::{Endpoint, Op, Served, Shown, Standing, Status};
+use super::{Row, now, shown_of, text, token_of};
+use crate::tests::asserts::{holds, row_holds};
+use af_ops::{Endpoint, Shown, Standing, Status};
 use af_policy::Policy;
-use std::alloc::Global;
+use std::alloc::{AllocGlobal, Global};
 use std::process::Abort;
-use std::test::Fail;
 
 /// Who asks for what, at which parts of the path and with which body.
 type Request = (&'static str, Endpoint, &'static str, &'static [u8]);
@@ -32,33 +31,19 @@ pub enum Story {
     Lists(&'static Listing),
 }
 
-/// What is told of an operation. The empty name stands for nobody.
-fn answered(
-    alloc: Global,
-    policy: &Policy,
-    standing: &mut Standing,
-    who: &str,
-    op: &Op,
-) -> Result<Shown, Fail> {
-    let now = now()?;
-    match standing.answer(alloc, policy, token_of(who), op, now) {
-        Served::Shown(shown) => Ok(shown),
-        _ => Err(Fail::new("nothing is shown")),
-    }
-}
-
-/// What is told of a request.
+/// What is told of a request. The empty name stands for nobody.
 fn shown(
+    rt: &impl Abort,
     alloc: Global,
     policy: &Policy,
     standing: &mut Standing,
     request: Request,
-) -> Result<Shown, Fail> {
+) -> Shown {
     let (who, endpoint, path, body) = request;
-    let op = named(alloc, endpoint, path, body)?;
-    let shown = answered(alloc, policy, standing, who, &op);
+    let op = named(rt, alloc, endpoint, path, body);
+    let served = standing.answer(alloc, policy, token_of(who), &op, now(rt));
     drop(op);
-    shown
+    shown_of(rt, served)
 }
 
 /// Whether this answer is what is shown.
@@ -72,16 +57,17 @@ fn is_told(shown: &Shown, answer: Answer) -> bool {
 
 /// Whether this is told of a request.
 fn goes(
+    rt: &impl Abort,
     alloc: Global,
     policy: &Policy,
     standing: &mut Standing,
     request: Request,
     answer: Answer,
-) -> Result<bool, Fail> {
-    let shown = shown(alloc, policy, standing, request)?;
+) -> bool {
+    let shown = shown(rt, alloc, policy, standing, request);
     let is_told = is_told(&shown, answer);
     drop(shown);
-    Ok(is_told)
+    is_told
 }
 
 fn request_of_row(row: Row) -> Request {
@@ -103,44 +89,36 @@ fn answer_of_ask(ask: Ask) -> Answer {
 
 /// How many rows, one after another, are told as they should be, up to the first that is not, and whether these are all.
 fn play_rows(
+    rt: &impl Abort,
     alloc: Global,
     policy: &Policy,
     standing: &mut Standing,
     rows: &[Row],
-) -> Result<(usize, bool), Fail> {
+) -> (usize, bool) {
     for (place, row) in rows.iter().enumerate() {
-        if !goes(
-            alloc,
-            policy,
-            standing,
-            request_of_row(*row),
-            answer_of_row(*row),
-        )? {
-            return Ok((place, false));
+        let request = request_of_row(*row);
+        if !goes(rt, alloc, policy, standing, request, answer_of_row(*row)) {
+            return (place, false);
         }
     }
-    Ok((rows.len(), true))
+    (rows.len(), true)
 }
 
 /// The same of what is asked of pools and variables.
 fn play_asks(
+    rt: &impl Abort,
     alloc: Global,
     policy: &Policy,
     standing: &mut Standing,
     asks: &[Ask],
-) -> Result<(usize, bool), Fail> {
+) -> (usize, bool) {
     for (place, ask) in asks.iter().enumerate() {
-        if !goes(
-            alloc,
-            policy,
-            standing,
-            request_of_ask(*ask),
-            answer_of_ask(*ask),
-        )? {
-            return Ok((place, false));
+        let request = request_of_ask(*ask);
+        if !goes(rt, alloc, policy, standing, request, answer_of_ask(*ask)) {
+            return (place, false);
         }
     }
-    Ok((asks.len(), true))
+    (asks.len(), true)
 }
 
 /// How many times these bytes stand in what is told; of no bytes none.
@@ -160,59 +138,49 @@ fn count_of(shown: &Shown, bytes: &[u8]) -> usize {
 
 /// Plays what comes before a listing: then how many times the bytes stand in it, and whether it ends as it should.
 fn list(
+    rt: &impl Abort,
     alloc: Global,
     policy: &Policy,
     standing: &mut Standing,
     listing: &Listing,
-) -> Result<(usize, bool), Fail> {
+) -> (usize, bool) {
     let (before, row, bytes, end) = *listing;
-    let (_, is_all) = play_rows(alloc, policy, standing, before)?;
-    if !is_all {
-        return Err(Fail::new("a row before the listing is told otherwise"));
-    }
-    let shown = shown(alloc, policy, standing, request_of_row(row))?;
+    let (_, is_all) = play_rows(rt, alloc, policy, standing, before);
+    holds(rt, is_all, "the rows before the listing");
+    let shown = shown(rt, alloc, policy, standing, request_of_row(row));
     let seen = (count_of(&shown, bytes), text(&shown).ends_with(end));
     drop(shown);
-    Ok(seen)
+    seen
 }
 
 fn play(
+    rt: &impl Abort,
     alloc: Global,
     policy: &Policy,
     standing: &mut Standing,
     story: Story,
-) -> Result<(usize, bool), Fail> {
+) -> (usize, bool) {
     match story {
-        Story::Rows(rows) => play_rows(alloc, policy, standing, rows),
-        Story::Asks(asks) => play_asks(alloc, policy, standing, asks),
-        Story::Lists(listing) => list(alloc, policy, standing, listing),
+        Story::Rows(rows) => play_rows(rt, alloc, policy, standing, rows),
+        Story::Asks(asks) => play_asks(rt, alloc, policy, standing, asks),
+        Story::Lists(listing) => list(rt, alloc, policy, standing, listing),
     }
-}
-
-fn played_under(
-    alloc: Global,
-    policy: &Policy,
-    scene: Scene,
-    story: Story,
-) -> Result<(usize, bool), Fail> {
-    let mut standing = Standing::open(state(alloc, policy, scene)?);
-    let seen = play(alloc, policy, &mut standing, story);
-    drop(standing);
-    seen
 }
 
 /// How many rows, one after another, are told as they should be where the state holds this, up to the first that is not, and
 /// whether these are all. Of a listing: how many times the bytes stand in it, and whether it ends as it should.
-pub fn played(alloc: Global, scene: Scene, story: Story) -> Result<(usize, bool), Fail> {
-    let policy = policy(alloc)?;
-    let seen = played_under(alloc, &policy, scene, story);
+pub fn played(rt: &(impl AllocGlobal + Abort), scene: Scene, story: Story) -> (usize, bool) {
+    let alloc = rt.alloc();
+    let policy = policy(rt, alloc);
+    let mut standing = Standing::open(state(rt, alloc, &policy, scene));
+    let seen = play(rt, alloc, &policy, &mut standing, story);
+    drop(standing);
     drop(policy);
     seen
 }
 
 /// Ends the test where one of the rows is not told as it should be.
-pub fn all_told(rt: &impl Abort, alloc: Global, scene: Scene, story: Story) -> Result<(), Fail> {
-    let (told, is_all) = played(alloc, scene, story)?;
+pub fn all_told(rt: &(impl AllocGlobal + Abort), scene: Scene, story: Story) {
+    let (told, is_all) = played(rt, scene, story);
     row_holds(rt, is_all, told);
-    Ok(())
 }

@@ -4,13 +4,12 @@ use super::policy_texts::{BAD_LIMIT, FIRST_USER, NO_USERS, TWO_ROLES};
 use super::role_rows::{READINGS, ROLES};
 use super::user_rows::{SYNCS, USERS_CHANGED};
 use super::users::policy;
-use super::{text, token_of};
-use crate::tests::asserts::{holds, row_holds};
+use super::{shown_of, text, token_of};
+use crate::tests::asserts::{has_memory, holds, row_holds};
 use af_ops::{Call, Endpoint, PolicyOp, Served, Shown, Status, answer_policy};
 use af_policy::{ChangeKind, Versions};
-use std::alloc::Global;
+use std::alloc::{AllocGlobal, Global};
 use std::process::Abort;
-use std::test::Fail;
 
 /// Who asks for what, at which part of the path and with which body; and what is told, with the version of the policy. Each user's
 /// name is the token; the empty name stands for nobody.
@@ -37,36 +36,22 @@ enum Story {
 
 /// What is asked of the policy at this part of the path, with this query and this body.
 fn policy_op(
+    rt: &impl Abort,
     alloc: Global,
     endpoint: Endpoint,
     part: &str,
     query: &[u8],
     body: &[u8],
-) -> Result<PolicyOp, Fail> {
-    match call(alloc, endpoint, part, query, body)? {
-        Some(Call::Policy(op)) => Ok(op),
-        other => {
-            drop(other);
-            Err(Fail::new("nothing is asked of the policy"))
-        }
-    }
-}
-
-/// What is told of it.
-fn answered(
-    alloc: Global,
-    versions: &mut Versions,
-    who: &str,
-    op: &PolicyOp,
-) -> Result<Shown, Fail> {
-    match answer_policy(alloc, versions, token_of(who), op) {
-        Served::Shown(shown) => Ok(shown),
-        _ => Err(Fail::new("nothing is shown")),
+) -> PolicyOp {
+    match call(rt, alloc, endpoint, part, query, body) {
+        Some(Call::Policy(op)) => op,
+        _ => panic!(rt; "nothing is asked of the policy"),
     }
 }
 
 /// What is told of what is asked at this part of the path, with this query and this body.
 fn shown(
+    rt: &impl Abort,
     alloc: Global,
     versions: &mut Versions,
     who: &str,
@@ -74,11 +59,11 @@ fn shown(
     part: &str,
     query: &[u8],
     body: &[u8],
-) -> Result<Shown, Fail> {
-    let op = policy_op(alloc, endpoint, part, query, body)?;
-    let shown = answered(alloc, versions, who, &op);
+) -> Shown {
+    let op = policy_op(rt, alloc, endpoint, part, query, body);
+    let served = answer_policy(alloc, versions, token_of(who), &op);
     drop(op);
-    shown
+    shown_of(rt, served)
 }
 
 /// Whether that is what is told; no number of entries is.
@@ -90,21 +75,26 @@ fn is_told(shown: &Shown, ask: Ask) -> bool {
 }
 
 /// Whether one of them is told as it should be.
-fn goes(alloc: Global, versions: &mut Versions, ask: Ask) -> Result<bool, Fail> {
-    let shown = shown(alloc, versions, ask.0, ask.1, ask.2, b"", ask.3)?;
+fn goes(rt: &impl Abort, alloc: Global, versions: &mut Versions, ask: Ask) -> bool {
+    let shown = shown(rt, alloc, versions, ask.0, ask.1, ask.2, b"", ask.3);
     let is_told = is_told(&shown, ask);
     drop(shown);
-    Ok(is_told)
+    is_told
 }
 
 /// How many of them, one after another, are told as they should be, up to the first that is not, and whether these are all.
-fn play_asks(alloc: Global, versions: &mut Versions, asks: &[Ask]) -> Result<(usize, bool), Fail> {
+fn play_asks(
+    rt: &impl Abort,
+    alloc: Global,
+    versions: &mut Versions,
+    asks: &[Ask],
+) -> (usize, bool) {
     for (place, ask) in asks.iter().enumerate() {
-        if !goes(alloc, versions, *ask)? {
-            return Ok((place, false));
+        if !goes(rt, alloc, versions, *ask) {
+            return (place, false);
         }
     }
-    Ok((asks.len(), true))
+    (asks.len(), true)
 }
 
 /// Of one thing alone, how many are told as they should be, and whether these are all.
@@ -114,85 +104,92 @@ fn one(is_told: bool) -> (usize, bool) {
 
 /// Whether a page of what adam lists has this text.
 fn play_page(
+    rt: &impl Abort,
     alloc: Global,
     versions: &mut Versions,
     endpoint: Endpoint,
     query: &str,
     body: &[u8],
-) -> Result<(usize, bool), Fail> {
-    let shown = shown(alloc, versions, "adam", endpoint, "", query.as_bytes(), b"")?;
+) -> (usize, bool) {
+    let query = query.as_bytes();
+    let shown = shown(rt, alloc, versions, "adam", endpoint, "", query, b"");
     let is_told = text(&shown) == body;
     drop(shown);
-    Ok(one(is_told))
+    one(is_told)
 }
 
-/// The status of what is served, or none where there was no memory.
-fn status_of(served: Served) -> Result<Option<Status>, Fail> {
+/// Whether a user is served this status, or none where that is wanted. Where there was no memory for one that is, the test ends in
+/// words that say so.
+fn is_status(rt: &impl Abort, served: &Served, who: &str, wanted: Option<Status>) -> bool {
     match served {
-        Served::Shown(shown) => Ok(Some(shown.status)),
-        Served::NothingDone => Ok(None),
-        Served::ReplyLost => Err(Fail::new("a reply is lost")),
+        Served::Shown(shown) => wanted == Some(shown.status),
+        Served::NothingDone => {
+            has_memory(rt, wanted.is_none(), who);
+            true
+        }
+        Served::ReplyLost => panic!(rt; "a reply is lost"),
     }
 }
 
 /// Whether a change whose body was not read comes to this status, or to none where there was no memory.
 fn play_unread(
+    rt: &impl Abort,
     alloc: Global,
     versions: &mut Versions,
     who: &str,
     status: Option<Status>,
-) -> Result<(usize, bool), Fail> {
+) -> (usize, bool) {
     let op = PolicyOp::Unread(ChangeKind::AddUser);
     let served = answer_policy(alloc, versions, token_of(who), &op);
     drop(op);
-    Ok(one(status_of(served)? == status))
+    let is_status = is_status(rt, &served, who, status);
+    drop(served);
+    one(is_status)
 }
 
-fn play(alloc: Global, versions: &mut Versions, story: Story) -> Result<(usize, bool), Fail> {
+fn play(rt: &impl Abort, alloc: Global, versions: &mut Versions, story: Story) -> (usize, bool) {
     match story {
-        Story::Asks(asks) => play_asks(alloc, versions, asks),
-        Story::Page(endpoint, query, body) => play_page(alloc, versions, endpoint, query, body),
-        Story::Unread(who, status) => play_unread(alloc, versions, who, status),
+        Story::Asks(asks) => play_asks(rt, alloc, versions, asks),
+        Story::Page(endpoint, query, body) => {
+            play_page(rt, alloc, versions, endpoint, query, body)
+        }
+        Story::Unread(who, status) => play_unread(rt, alloc, versions, who, status),
     }
 }
 
-fn opened(alloc: Global) -> Result<Versions, Fail> {
-    Ok(Versions::open(alloc, policy(alloc)?, 4))
-}
-
 /// How many things that are asked of new versions are told as they should be, and whether these are all.
-fn played(alloc: Global, story: Story) -> Result<(usize, bool), Fail> {
-    let mut versions = opened(alloc)?;
-    let seen = play(alloc, &mut versions, story);
+fn played(rt: &(impl AllocGlobal + Abort), story: Story) -> (usize, bool) {
+    let alloc = rt.alloc();
+    let mut versions = Versions::open(alloc, policy(rt, alloc), 4);
+    let seen = play(rt, alloc, &mut versions, story);
     drop(versions);
     seen
 }
 
 /// Ends the test where one of them is not told as it should be.
-fn all_told(rt: &impl Abort, alloc: Global, asks: &'static [Ask]) -> Result<(), Fail> {
-    let (told, is_all) = played(alloc, Story::Asks(asks))?;
+fn all_told(rt: &(impl AllocGlobal + Abort), asks: &'static [Ask]) {
+    let (told, is_all) = played(rt, Story::Asks(asks));
     row_holds(rt, is_all, told);
-    Ok(())
 }
 
 #[test]
-fn who_reads_the_policy(rt: HostRuntime) -> Result<(), Fail> {
-    all_told(&rt, rt.alloc(), READINGS)
+fn who_reads_the_policy(rt: HostRuntime) {
+    all_told(&rt, READINGS);
 }
 
 #[test]
-fn how_roles_change(rt: HostRuntime) -> Result<(), Fail> {
-    all_told(&rt, rt.alloc(), ROLES)
+fn how_roles_change(rt: HostRuntime) {
+    all_told(&rt, ROLES);
 }
 
 #[test]
-fn how_users_change(rt: HostRuntime) -> Result<(), Fail> {
-    all_told(&rt, rt.alloc(), USERS_CHANGED)
+fn how_users_change(rt: HostRuntime) {
+    all_told(&rt, USERS_CHANGED);
 }
 
 #[test]
-fn how_access_control_is_taken_over(rt: HostRuntime) -> Result<(), Fail> {
-    all_told(&rt, rt.alloc(), SYNCS)
+fn how_access_control_is_taken_over(rt: HostRuntime) {
+    all_told(&rt, SYNCS);
 }
 
 /// A listing, a query, and its text.
@@ -204,12 +201,11 @@ const PAGES: &[(Endpoint, &str, &[u8])] = &[
 ];
 
 #[test]
-fn pages_of_roles_and_users(rt: HostRuntime) -> Result<(), Fail> {
+fn pages_of_roles_and_users(rt: HostRuntime) {
     for (endpoint, query, body) in PAGES {
-        let (_, is_page) = played(rt.alloc(), Story::Page(*endpoint, *query, *body))?;
+        let (_, is_page) = played(&rt, Story::Page(*endpoint, *query, *body));
         holds(&rt, is_page, query);
     }
-    Ok(())
 }
 
 /// Who asks for a change whose body was not read, and its status, or none where there was no memory.
@@ -221,10 +217,9 @@ const UNREAD: &[(&str, Option<Status>)] = &[
 
 /// A refusal that applies whatever the body says is told, memory or not.
 #[test]
-fn a_change_without_its_body(rt: HostRuntime) -> Result<(), Fail> {
+fn a_change_without_its_body(rt: HostRuntime) {
     for (who, status) in UNREAD {
-        let (_, is_told) = played(rt.alloc(), Story::Unread(*who, *status))?;
+        let (_, is_told) = played(&rt, Story::Unread(*who, *status));
         holds(&rt, is_told, who);
     }
-    Ok(())
 }

@@ -7,8 +7,8 @@ use super::tasks::Tasks;
 use super::variable_rows::VARIABLES;
 use crate::tests::asserts::holds;
 use af_ops::{Endpoint, Status};
-use std::alloc::Global;
-use std::test::Fail;
+use std::alloc::AllocGlobal;
+use std::process::Abort;
 
 /// Who asks for what, at which part of the path and with which body; and what is told, with the number of entries. Each user's
 /// name is the token.
@@ -23,29 +23,24 @@ pub type Ask = (
 );
 
 #[test]
-fn what_is_told_of_pools(rt: HostRuntime) -> Result<(), Fail> {
-    all_told(&rt, rt.alloc(), Scene::DagF(Tasks::Two), Story::Asks(POOLS))
+fn what_is_told_of_pools(rt: HostRuntime) {
+    all_told(&rt, Scene::DagF(Tasks::Two), Story::Asks(POOLS));
 }
 
 #[test]
-fn what_is_told_of_variables(rt: HostRuntime) -> Result<(), Fail> {
-    all_told(
-        &rt,
-        rt.alloc(),
-        Scene::DagF(Tasks::Two),
-        Story::Asks(VARIABLES),
-    )
+fn what_is_told_of_variables(rt: HostRuntime) {
+    all_told(&rt, Scene::DagF(Tasks::Two), Story::Asks(VARIABLES));
 }
 
 /// Whether an operation of adam's is permitted where the history is full, or it is told to be full.
 fn where_full(
-    alloc: Global,
+    rt: &(impl AllocGlobal + Abort),
     endpoint: Endpoint,
     part: &'static str,
     body: &'static str,
-) -> Result<Option<bool>, Fail> {
+) -> Option<bool> {
     let request = (1_000_000, "adam", endpoint, part, body.as_bytes());
-    permitted_in(alloc, Scene::Nothing, request)
+    permitted_in(rt, Scene::Nothing, request)
 }
 
 /// An operation, a part of the path, a body, and what comes of it.
@@ -79,10 +74,9 @@ const FULL: &[(Endpoint, &str, &str, Option<bool>)] = &[
 
 /// None is added where the history is full; what changes nothing is told nevertheless.
 #[test]
-fn a_full_history_takes_no_row(rt: HostRuntime) -> Result<(), Fail> {
+fn a_full_history_takes_no_row(rt: HostRuntime) {
     for (endpoint, part, body, permitted) in FULL {
-        let told = where_full(rt.alloc(), *endpoint, *part, *body)?;
+        let told = where_full(&rt, *endpoint, *part, *body);
         holds(&rt, told == *permitted, body);
     }
-    Ok(())
 }

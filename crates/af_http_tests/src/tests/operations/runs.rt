@@ -4,7 +4,6 @@ use super::scenes::Scene;
 use super::told::{CUT, DATE_OF_NONE, DATED, EMPTY, NAMED, NOTHING};
 use super::{Row, told};
 use af_ops::Endpoint;
-use std::test::Fail;
 
 /// Those who trigger runs and look at them.
 const RUN_ROWS: &[Row] = &[
@@ -189,6 +188,6 @@ const RUN_ROWS: &[Row] = &[
 ];
 
 #[test]
-fn what_is_told_of_runs(rt: HostRuntime) -> Result<(), Fail> {
-    all_told(&rt, rt.alloc(), Scene::ThreeDags, Story::Rows(RUN_ROWS))
+fn what_is_told_of_runs(rt: HostRuntime) {
+    all_told(&rt, Scene::ThreeDags, Story::Rows(RUN_ROWS));
 }

@@ -1,5 +1,5 @@
-//! What a state holds before the first request of a test: who owns a state lends it to a function that fills it, and drops it by
-//! `drop`, which is proved once, and not at each way out.
+//! What a state holds before the first request of a test. What should not fail is expected to succeed, with words for it: so no
+//! function has a way out before its end, at which what it owns would be dropped anew.
 use super::decisions::trigger;
 use super::now;
 use super::tasks::{LANE, Tasks, add_dag};
@@ -8,7 +8,7 @@ use af_policy::Policy;
 use af_sched::State;
 use af_vars::{VarText, Variable};
 use std::alloc::Global;
-use std::test::Fail;
+use std::process::Abort;
 
 /// A kind of rows whose names end in a number.
 #[derive(Clone, Copy)]
@@ -39,55 +39,44 @@ pub enum Scene {
 
 const THREE_DAGS: &[(&str, bool)] = &[("b", false), ("c", false), ("a", true)];
 
-fn add_three_dags(alloc: Global, state: &mut State) -> Result<(), Fail> {
+fn add_three_dags(rt: &impl Abort, alloc: Global, state: &mut State) {
     for (id, is_paused) in THREE_DAGS {
-        add_dag(alloc, state, id, Tasks::One, *is_paused)?;
+        add_dag(rt, alloc, state, id, Tasks::One, *is_paused);
     }
-    Ok(())
 }
 
 /// Adds a pool of this name and so many slots.
-fn add_pool(alloc: Global, state: &mut State, name: &str, slots: u64) -> Result<(), Fail> {
-    let name = PoolName::parse(alloc, name)?;
-    Ok(state.add_pool(name, slots)?)
+fn add_pool(rt: &impl Abort, alloc: Global, state: &mut State, name: &str, slots: u64) {
+    let name = PoolName::parse(alloc, name).expect(rt, "the name of a pool");
+    state.add_pool(name, slots).expect(rt, "a pool is added");
 }
 
-fn add_dag_f(alloc: Global, state: &mut State, tasks: Tasks) -> Result<(), Fail> {
-    add_pool(alloc, state, LANE, 4)?;
-    add_dag(alloc, state, "f", tasks, false)
-}
-
-fn tick(alloc: Global, state: &mut State) -> Result<(), Fail> {
-    let _is_changed = state.tick(alloc, now()?)?;
-    Ok(())
-}
-
-fn claim(alloc: Global, state: &mut State) -> Result<(), Fail> {
-    let _claim = state.claim(alloc, now()?)?;
-    Ok(())
+fn add_dag_f(rt: &impl Abort, alloc: Global, state: &mut State, tasks: Tasks) {
+    add_pool(rt, alloc, state, LANE, 4);
+    add_dag(rt, alloc, state, "f", tasks, false);
 }
 
 /// A run of f is triggered, and begins.
-fn begin(alloc: Global, policy: &Policy, state: &mut State) -> Result<(), Fail> {
-    add_dag_f(alloc, state, Tasks::Two)?;
-    trigger(alloc, policy, state)?;
-    tick(alloc, state)
+fn begin(rt: &impl Abort, alloc: Global, policy: &Policy, state: &mut State) {
+    add_dag_f(rt, alloc, state, Tasks::Two);
+    trigger(rt, alloc, policy, state);
+    let _is_changed = state.tick(alloc, now(rt)).expect(rt, "the run begins");
 }
 
-fn begin_and_claim(alloc: Global, policy: &Policy, state: &mut State) -> Result<(), Fail> {
-    begin(alloc, policy, state)?;
-    claim(alloc, state)
+/// A run of f is triggered, and begins, and its first task is claimed.
+fn begin_and_claim(rt: &impl Abort, alloc: Global, policy: &Policy, state: &mut State) {
+    begin(rt, alloc, policy, state);
+    let claim = state.claim(alloc, now(rt)).expect(rt, "a task is claimed");
+    drop(claim);
 }
 
-fn variable(alloc: Global, key: &str) -> Result<Variable, Fail> {
-    let key = VarKey::parse(alloc, key)?;
-    let value = VarText::of(String::from_str(alloc, "v")?);
-    Ok(Variable { key, value })
-}
-
-fn add_variable(alloc: Global, state: &mut State, key: &str) -> Result<(), Fail> {
-    let variable = variable(alloc, key)?;
-    Ok(state.add_variable(variable)?)
+fn add_variable(rt: &impl Abort, alloc: Global, state: &mut State, key: &str) {
+    let key = VarKey::parse(alloc, key).expect(rt, "the key of a variable");
+    let text = String::from_str(alloc, "v").expect(rt, "the value of a variable");
+    let value = VarText::of(text);
+    state
+        .add_variable(Variable { key, value })
+        .expect(rt, "a variable is added");
 }
 
 /// What the names of the rows of a kind begin with.
@@ -99,61 +88,47 @@ fn prefix(kind: Kind) -> &'static str {
     }
 }
 
-fn add_named(alloc: Global, state: &mut State, kind: Kind, name: &str) -> Result<(), Fail> {
-    match kind {
-        Kind::Dag => add_dag(alloc, state, name, Tasks::One, false),
-        Kind::Pool => add_pool(alloc, state, name, 1),
-        Kind::Variable => add_variable(alloc, state, name),
-    }
-}
-
 /// The name of the row of a kind with this number.
-fn name_of(alloc: Global, kind: Kind, n: u32) -> Result<String, Fail> {
+fn name_of(rt: &impl Abort, alloc: Global, kind: Kind, n: u32) -> String {
     let prefix = prefix(kind);
+    let name = match kind {
+        Kind::Dag => format!(in alloc; "{prefix}{n}"),
+        Kind::Pool | Kind::Variable => format!(in alloc; "{prefix}{n:05}"),
+    };
+    name.expect(rt, "the name of a row")
+}
+
+fn add_named(rt: &impl Abort, alloc: Global, state: &mut State, kind: Kind, name: &str) {
     match kind {
-        Kind::Dag => Ok(format!(in alloc; "{prefix}{n}")?),
-        Kind::Pool | Kind::Variable => Ok(format!(in alloc; "{prefix}{n:05}")?),
+        Kind::Dag => add_dag(rt, alloc, state, name, Tasks::One, false),
+        Kind::Pool => add_pool(rt, alloc, state, name, 1),
+        Kind::Variable => add_variable(rt, alloc, state, name),
     }
 }
 
-fn add_numbered(alloc: Global, state: &mut State, kind: Kind, n: u32) -> Result<(), Fail> {
-    let name = name_of(alloc, kind, n)?;
-    add_named(alloc, state, kind, name.as_str())
-}
-
-fn add_rows(
-    alloc: Global,
-    state: &mut State,
-    kind: Kind,
-    first: u32,
-    end: u32,
-) -> Result<(), Fail> {
+fn add_rows(rt: &impl Abort, alloc: Global, state: &mut State, kind: Kind, first: u32, end: u32) {
     for n in first..end {
-        add_numbered(alloc, state, kind, n)?;
+        let name = name_of(rt, alloc, kind, n);
+        add_named(rt, alloc, state, kind, name.as_str());
+        drop(name);
     }
-    Ok(())
 }
 
 /// Adds to a state what a scene holds.
-fn fill(alloc: Global, policy: &Policy, state: &mut State, scene: Scene) -> Result<(), Fail> {
+fn fill(rt: &impl Abort, alloc: Global, policy: &Policy, state: &mut State, scene: Scene) {
     match scene {
-        Scene::Nothing => Ok(()),
-        Scene::ThreeDags => add_three_dags(alloc, state),
-        Scene::DagF(tasks) => add_dag_f(alloc, state, tasks),
-        Scene::Begun => begin(alloc, policy, state),
-        Scene::Claimed => begin_and_claim(alloc, policy, state),
-        Scene::Numbered(kind, first, end) => add_rows(alloc, state, kind, first, end),
+        Scene::Nothing => {}
+        Scene::ThreeDags => add_three_dags(rt, alloc, state),
+        Scene::DagF(tasks) => add_dag_f(rt, alloc, state, tasks),
+        Scene::Begun => begin(rt, alloc, policy, state),
+        Scene::Claimed => begin_and_claim(rt, alloc, policy, state),
+        Scene::Numbered(kind, first, end) => add_rows(rt, alloc, state, kind, first, end),
     }
 }
 
 /// A state that holds what a scene does.
-pub fn state(alloc: Global, policy: &Policy, scene: Scene) -> Result<State, Fail> {
-    let mut state = State::new(alloc)?;
-    match fill(alloc, policy, &mut state, scene) {
-        Ok(()) => Ok(state),
-        Err(fault) => {
-            drop(state);
-            Err(fault)
-        }
-    }
+pub fn state(rt: &impl Abort, alloc: Global, policy: &Policy, scene: Scene) -> State {
+    let mut state = State::new(alloc).expect(rt, "a state");
+    fill(rt, alloc, policy, &mut state, scene);
+    state
 }

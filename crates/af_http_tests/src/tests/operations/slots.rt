@@ -6,7 +6,6 @@ use super::rows::Ask;
 use super::scenes::{Kind, Scene};
 use crate::tests::asserts::holds;
 use af_ops::{Endpoint, OpFault, Status};
-use std::test::Fail;
 
 /// An instance of f is queued in the default pool.
 const QUEUED: &[Ask] = &[(
@@ -31,12 +30,11 @@ const RUNNING: &[Ask] = &[(
 )];
 
 #[test]
-fn queued_and_running_slots_are_told_apart(rt: HostRuntime) -> Result<(), Fail> {
-    let (_, queued) = played(rt.alloc(), Scene::Begun, Story::Asks(QUEUED))?;
+fn queued_and_running_slots_are_told_apart(rt: HostRuntime) {
+    let (_, queued) = played(&rt, Scene::Begun, Story::Asks(QUEUED));
     holds(&rt, queued, "queued");
-    let (_, running) = played(rt.alloc(), Scene::Claimed, Story::Asks(RUNNING))?;
+    let (_, running) = played(&rt, Scene::Claimed, Story::Asks(RUNNING));
     holds(&rt, running, "running");
-    Ok(())
 }
 
 /// A pool p is added, and then a pool q.
@@ -49,13 +47,12 @@ const ADDED: &[Request] = &[
 const ALL_BUT_ONE: Scene = Scene::Numbered(Kind::Pool, 1, 65_535);
 
 #[test]
-fn the_last_pool_is_added_and_none_after_it(rt: HostRuntime) -> Result<(), Fail> {
-    let (added, fault) = refusal_in(rt.alloc(), ALL_BUT_ONE, ADDED)?;
+fn the_last_pool_is_added_and_none_after_it(rt: HostRuntime) {
+    let (added, fault) = refusal_in(&rt, ALL_BUT_ONE, ADDED);
     holds(&rt, added >= 1, "65,535 pools are there");
     holds(
         &rt,
         fault == Some(OpFault::TooMany),
         "65,536 pools are there",
     );
-    Ok(())
 }

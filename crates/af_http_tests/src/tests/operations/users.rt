@@ -4,47 +4,24 @@ use af_policy::{Policy, PolicyDraft, User};
 use af_role::{Action, Pair, Permissions, Resource, ResourceKind, Role};
 use sha2::{Digest, Sha256};
 use std::alloc::Global;
-use std::test::Fail;
+use std::process::Abort;
 
 /// Adds a permission.
-fn add(permissions: &mut Permissions, action: Action, resource: Resource) -> Result<(), Fail> {
-    match Pair::new(action, resource) {
-        Some(pair) => Ok(permissions.add(pair)?),
-        None => Err(Fail::new("no such permission")),
-    }
+fn add(rt: &impl Abort, permissions: &mut Permissions, action: Action, resource: Resource) {
+    let pair = Pair::new(action, resource).expect(rt, "such a permission");
+    permissions.add(pair).expect(rt, "room for a permission");
 }
 
-fn dag_b(alloc: Global) -> Result<Resource, Fail> {
-    Ok(Resource::Dag(DagId::parse(alloc, "b")?))
-}
-
-fn add_all(
-    alloc: Global,
-    permissions: &mut Permissions,
-    action: Action,
-    reads_runs: bool,
-) -> Result<(), Fail> {
-    add(permissions, action, dag_b(alloc)?)?;
-    if reads_runs {
-        add(
-            permissions,
-            Action::Read,
-            Resource::Kind(ResourceKind::DagRuns),
-        )?;
-    }
-    Ok(())
-}
-
-fn permissions(alloc: Global, action: Action, reads_runs: bool) -> Result<Permissions, Fail> {
+/// What may be done to the DAG b alone, and, where it reads runs, the reading of all runs of what is read.
+fn permissions(rt: &impl Abort, alloc: Global, action: Action, reads_runs: bool) -> Permissions {
     let mut permissions = Permissions::new(alloc);
-    add_all(alloc, &mut permissions, action, reads_runs)?;
-    Ok(permissions)
-}
-
-/// A role that may do this to the DAG b alone, or also read all runs of what is read.
-fn role_at_b(alloc: Global, name: &str, action: Action, reads_runs: bool) -> Result<Role, Fail> {
-    let name = RoleName::parse(alloc, name)?;
-    Ok(Role::new(name, permissions(alloc, action, reads_runs)?))
+    let dag = DagId::parse(alloc, "b").expect(rt, "the id of a DAG");
+    add(rt, &mut permissions, action, Resource::Dag(dag));
+    if reads_runs {
+        let runs = Resource::Kind(ResourceKind::DagRuns);
+        add(rt, &mut permissions, Action::Read, runs);
+    }
+    permissions
 }
 
 /// Roles beside the default ones: what each may do to the DAG b, and of which it reads the runs.
@@ -65,77 +42,44 @@ const USERS: &[(&str, &[&str])] = &[
     ("vera", &["Viewer"]),
 ];
 
+/// Adds a role that may do this to the DAG b alone, or also read all runs of what is read.
 fn add_role(
+    rt: &impl Abort,
     alloc: Global,
     draft: &mut PolicyDraft,
     name: &str,
     action: Action,
     reads_runs: bool,
-) -> Result<(), Fail> {
-    let role = role_at_b(alloc, name, action, reads_runs)?;
-    Ok(draft.add_role(role)?)
+) {
+    let name = RoleName::parse(alloc, name).expect(rt, "the name of a role");
+    let role = Role::new(name, permissions(rt, alloc, action, reads_runs));
+    draft.add_role(role).expect(rt, "a role is added");
 }
 
-fn add_roles(alloc: Global, draft: &mut PolicyDraft) -> Result<(), Fail> {
-    for (name, action, reads_runs) in ROLES {
-        add_role(alloc, draft, name, *action, *reads_runs)?;
-    }
-    Ok(())
-}
-
-fn add_name(alloc: Global, names: &mut Vec<RoleName>, text: &str) -> Result<(), Fail> {
-    let name = RoleName::parse(alloc, text)?;
-    Ok(names.push(name)?)
-}
-
-fn role_names(alloc: Global, texts: &[&str]) -> Result<Vec<RoleName>, Fail> {
+fn role_names(rt: &impl Abort, alloc: Global, texts: &[&str]) -> Vec<RoleName> {
     let mut names = Vec::new(alloc);
     for text in texts {
-        add_name(alloc, &mut names, text)?;
+        let name = RoleName::parse(alloc, text).expect(rt, "the name of a role");
+        names.push(name).expect(rt, "room for the name of a role");
     }
-    Ok(names)
+    names
 }
 
-fn user(alloc: Global, name: &str, roles: &[&str]) -> Result<User, Fail> {
+fn add_user(rt: &impl Abort, alloc: Global, draft: &mut PolicyDraft, name: &str, roles: &[&str]) {
     let digest = Sha256::digest(name.as_bytes());
-    let name = UserName::parse(alloc, name)?;
-    Ok(User::new(name, digest, role_names(alloc, roles)?))
+    let name = UserName::parse(alloc, name).expect(rt, "the name of a user");
+    let user = User::new(name, digest, role_names(rt, alloc, roles));
+    draft.add_user(alloc, user).expect(rt, "a user is added");
 }
 
-fn add_user(
-    alloc: Global,
-    draft: &mut PolicyDraft,
-    name: &str,
-    roles: &[&str],
-) -> Result<(), Fail> {
-    let user = user(alloc, name, roles)?;
-    Ok(draft.add_user(alloc, user)?)
-}
-
-fn add_users(alloc: Global, draft: &mut PolicyDraft) -> Result<(), Fail> {
+/// The policy with these roles and users.
+pub fn policy(rt: &impl Abort, alloc: Global) -> Policy {
+    let mut draft = PolicyDraft::new(alloc).expect(rt, "a draft of a policy");
+    for (name, action, reads_runs) in ROLES {
+        add_role(rt, alloc, &mut draft, name, *action, *reads_runs);
+    }
     for (name, roles) in USERS {
-        add_user(alloc, draft, name, roles)?;
+        add_user(rt, alloc, &mut draft, name, roles);
     }
-    Ok(())
-}
-
-fn draft(alloc: Global) -> Result<PolicyDraft, Fail> {
-    let mut draft = PolicyDraft::new(alloc)?;
-    match fill(alloc, &mut draft) {
-        Ok(()) => Ok(draft),
-        Err(fault) => {
-            drop(draft);
-            Err(fault)
-        }
-    }
-}
-
-fn fill(alloc: Global, draft: &mut PolicyDraft) -> Result<(), Fail> {
-    add_roles(alloc, draft)?;
-    add_users(alloc, draft)
-}
-
-pub fn policy(alloc: Global) -> Result<Policy, Fail> {
-    let draft = draft(alloc)?;
-    Ok(draft.finish(alloc)?)
+    draft.finish(alloc).expect(rt, "a policy")
 }
