@@ -6,7 +6,7 @@ pub fn holds(rt: &impl Abort, holds: bool, what: &str) {
     assert!(rt; holds, "{what}");
 }
 
-/// Ends the test where this found no memory, in words that say so.
+/// Ends the test where what is named was refused memory, in words that say so.
 pub fn has_memory(rt: &impl Abort, has_memory: bool, what: &str) {
     assert!(rt; has_memory, "{what}: OutOfMemory");
 }

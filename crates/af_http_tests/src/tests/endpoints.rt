@@ -87,6 +87,7 @@ fn called(rt: &impl Abort, alloc: Global, asked: &str) -> Option<Endpoint> {
 
 #[test]
 fn each_endpoint(rt: HostRuntime) {
+    assert!(rt; TABLE.len() == 37, "each operation");
     for (asked, wanted) in TABLE {
         let is_called = called(&rt, rt.alloc(), asked) == Some(*wanted);
         holds(&rt, is_called, asked);

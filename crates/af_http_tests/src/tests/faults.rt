@@ -14,12 +14,12 @@ const INPUT: &[u8] =
     b"GET /api/v1/version HTTP/1.1\r\nHost: h\r\n\r\nGET /nope HTTP/1.1\r\nHost: h\r\n\r\nGET /api/v1/dags HTTP/1.1\r\nHost: h\r\n";
 
 /// What answers the whole input, to the byte.
-const WHOLE: &[&str] = &[VERSION, NO_PATH, INCOMPLETE];
+const PARTS_OF_WHOLE: &[&str] = &[VERSION, NO_PATH, INCOMPLETE];
 
 /// The same in one text.
 fn whole(rt: &impl Abort, alloc: Global) -> Vec<u8> {
     let mut text = Vec::new(alloc);
-    for part in WHOLE {
+    for part in PARTS_OF_WHOLE {
         text.extend_from_slice(part.as_bytes())
             .expect(rt, "room for an answer");
     }
@@ -129,12 +129,12 @@ fn writers_that_fail(rt: HostRuntime) {
 }
 
 /// How few bytes a writer takes a call.
-const LITTLE: &[usize] = &[1, 2, 3, 7, 40];
+const WRITER_SIZES: &[usize] = &[1, 2, 3, 7, 40];
 
 /// A writer that takes few bytes a call takes all of them.
 #[test]
 fn writers_that_take_little(rt: HostRuntime) {
-    for size in LITTLE {
+    for size in WRITER_SIZES {
         let takes = takes_little(&rt, rt.alloc(), *size);
         number_holds(&rt, takes, "pieces of", *size);
     }
@@ -191,12 +191,12 @@ fn answers_long(rt: &impl Abort, alloc: Global, length: usize) -> bool {
 }
 
 /// Lengths of bodies.
-const LONG: &[usize] = &[65_400, 65_536, 65_537, 200_000];
+const BODY_LENGTHS: &[usize] = &[65_400, 65_536, 65_537, 200_000];
 
 /// An answer that is longer than what is held for the writer is whole.
 #[test]
 fn long_answers(rt: HostRuntime) {
-    for length in LONG {
+    for length in BODY_LENGTHS {
         let answers = answers_long(&rt, rt.alloc(), *length);
         number_holds(&rt, answers, "a body of", *length);
     }

@@ -134,11 +134,11 @@ fn head_goes(
 ) -> bool {
     let head = head_of(rt, alloc, size);
     let input = after_lines(rt, alloc, lines, head.as_slice(), come);
-    let is_long = head.len() == size;
+    let has_size = head.len() == size;
     drop(head);
     let gives = gives_in_pieces(rt, alloc, input.as_slice(), ended, text);
     drop(input);
-    is_long && gives
+    has_size && gives
 }
 
 #[test]

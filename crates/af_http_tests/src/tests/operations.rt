@@ -23,7 +23,6 @@ mod user_rows;
 mod users;
 mod variable_rows;
 
-use crate::tests::asserts::has_memory;
 use af_names::Instant;
 use af_ops::{Endpoint, Served, Shown};
 use std::process::Abort;
@@ -53,12 +52,12 @@ fn token_of(who: &str) -> Option<&[u8]> {
     }
 }
 
-/// What is shown. Where there was no memory for it, the test ends in words that say so.
+/// What is shown. Where there was no memory for it, or its reply was lost, the test ends in words that say so.
 fn shown_of(rt: &impl Abort, served: Served) -> Shown {
-    has_memory(rt, !matches!(&served, Served::NothingDone), "an answer");
     match served {
         Served::Shown(shown) => shown,
-        _ => panic!(rt; "a reply is lost"),
+        Served::NothingDone => panic!(rt; "an answer: OutOfMemory"),
+        Served::ReplyLost => panic!(rt; "a reply is lost"),
     }
 }
 

@@ -110,7 +110,7 @@ const OTHER_PATHS: &[(&str, &str)] = &[
     ("POST /api/v1/own/dags/b/sync", NO_PATH),
 ];
 
-/// What answers this method and path, twice on one connection.
+/// Whether this answers this method and path, twice on one connection.
 fn is_answered(rt: &impl Abort, alloc: Global, asked: &str, wanted: &str) -> bool {
     let input = format!(in alloc;
         "{asked} HTTP/1.1\r\nHost: h\r\n\r\n{asked} HTTP/1.1\r\nHost: h\r\n\r\n"
@@ -125,7 +125,7 @@ fn is_answered(rt: &impl Abort, alloc: Global, asked: &str, wanted: &str) -> boo
 }
 
 /// Ends the test where something else answers a method and a path.
-fn are_answered(rt: &(impl AllocGlobal + Abort), paths: &[(&str, &str)]) {
+fn all_answered(rt: &(impl AllocGlobal + Abort), paths: &[(&str, &str)]) {
     for (asked, wanted) in paths {
         let is_answered = is_answered(rt, rt.alloc(), asked, wanted);
         holds(rt, is_answered, asked);
@@ -134,22 +134,22 @@ fn are_answered(rt: &(impl AllocGlobal + Abort), paths: &[(&str, &str)]) {
 
 #[test]
 fn paths(rt: HostRuntime) {
-    are_answered(&rt, PATHS);
+    all_answered(&rt, PATHS);
 }
 
 #[test]
 fn row_paths(rt: HostRuntime) {
-    are_answered(&rt, ROW_PATHS);
+    all_answered(&rt, ROW_PATHS);
 }
 
 #[test]
 fn account_paths(rt: HostRuntime) {
-    are_answered(&rt, ACCOUNT_PATHS);
+    all_answered(&rt, ACCOUNT_PATHS);
 }
 
 #[test]
 fn other_paths(rt: HostRuntime) {
-    are_answered(&rt, OTHER_PATHS);
+    all_answered(&rt, OTHER_PATHS);
 }
 
 /// Names of so many bytes, plain and with each byte encoded: 250 are the most, of the text and not of its encoding.
@@ -221,7 +221,7 @@ fn is_long_name_answered(
     are_answered
 }
 
-/// The same of a name.
+/// Whether this answers each of these paths with this name.
 fn are_all_answered(
     rt: &impl Abort,
     alloc: Global,

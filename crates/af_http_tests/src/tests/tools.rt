@@ -105,14 +105,14 @@ impl Write for Paper {
     }
 }
 
-/// What a token is answered with.
+/// What the service answers.
 #[derive(Clone, Copy)]
 enum Answer {
     /// A body of many bytes.
     Long,
     /// No body, with the status that says so.
     Empty,
-    /// The body of two bytes.
+    /// The body of two bytes, with this status.
     Short(Status),
     /// The change is done, and its reply is lost.
     Lost,

@@ -21,7 +21,7 @@ fn put_texts(rt: &impl Abort, alloc: Global, out: &mut Text) {
 }
 
 /// Members with a number, the id of a run and that of a task.
-fn put_ids(rt: &impl Abort, alloc: Global, out: &mut Text) {
+fn put_number_and_ids(rt: &impl Abort, alloc: Global, out: &mut Text) {
     out.integer(true, "number", -7)
         .expect(rt, "a member with a number");
     let run_id = RunId::parse(alloc, "r+1").expect(rt, "the id of a run");
@@ -38,7 +38,7 @@ fn put_ids(rt: &impl Abort, alloc: Global, out: &mut Text) {
 fn members(rt: &impl Abort, alloc: Global) -> Vec<u8> {
     let mut out = Text::with_room(alloc, 0).expect(rt, "an empty text");
     put_texts(rt, alloc, &mut out);
-    put_ids(rt, alloc, &mut out);
+    put_number_and_ids(rt, alloc, &mut out);
     out.into_bytes()
 }
 
@@ -75,7 +75,7 @@ const INSTANTS: &[(&str, &[u8])] = &[
 
 /// Whether an instant is told by these bytes.
 fn is_told(rt: &impl Abort, alloc: Global, text: &str, told: &[u8]) -> bool {
-    let at = Instant::read(text).expect(rt, "an instant");
+    let at = Instant::read(text).expect(rt, text);
     let mut out = Text::with_room(alloc, 0).expect(rt, "an empty text");
     out.instant(false, "at", Some(at))
         .expect(rt, "a member with an instant");

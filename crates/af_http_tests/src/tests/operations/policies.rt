@@ -118,8 +118,8 @@ fn play_page(
     one(is_told)
 }
 
-/// Whether a user is served this status, or none where that is wanted. Where there was no memory for one that is, the test ends in
-/// words that say so.
+/// Whether a user is served this status, or none where that is wanted. Where a status is wanted and there was no memory to tell it,
+/// the test ends in words that say so.
 fn is_status(rt: &impl Abort, served: &Served, who: &str, wanted: Option<Status>) -> bool {
     match served {
         Served::Shown(shown) => wanted == Some(shown.status),

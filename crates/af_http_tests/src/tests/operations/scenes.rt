@@ -3,6 +3,7 @@
 use super::decisions::trigger;
 use super::now;
 use super::tasks::{LANE, Tasks, add_dag};
+use crate::tests::asserts::holds;
 use af_names::{PoolName, VarKey};
 use af_policy::Policy;
 use af_sched::State;
@@ -29,9 +30,9 @@ pub enum Scene {
     ThreeDags,
     /// The DAG f of these tasks, and a second pool.
     DagF(Tasks),
-    /// The same of two tasks, with a run of f that has begun: its first task is queued.
+    /// The same of two tasks, with a run of f that has begun: the task that waits for no other is queued.
     Begun,
-    /// The same once its first task is running.
+    /// The same once that task is running.
     Claimed,
     /// Rows of a kind, from the one number to before the other.
     Numbered(Kind, u32, u32),
@@ -60,13 +61,15 @@ fn add_dag_f(rt: &impl Abort, alloc: Global, state: &mut State, tasks: Tasks) {
 fn begin(rt: &impl Abort, alloc: Global, policy: &Policy, state: &mut State) {
     add_dag_f(rt, alloc, state, Tasks::Two);
     trigger(rt, alloc, policy, state);
-    let _is_changed = state.tick(alloc, now(rt)).expect(rt, "the run begins");
+    let is_changed = state.tick(alloc, now(rt)).expect(rt, "a tick");
+    holds(rt, is_changed, "the run begins");
 }
 
-/// A run of f is triggered, and begins, and its first task is claimed.
+/// A run of f is triggered, and begins, and its task that waits for no other is claimed.
 fn begin_and_claim(rt: &impl Abort, alloc: Global, policy: &Policy, state: &mut State) {
     begin(rt, alloc, policy, state);
-    let claim = state.claim(alloc, now(rt)).expect(rt, "a task is claimed");
+    let claim = state.claim(alloc, now(rt)).expect(rt, "a claim");
+    holds(rt, claim.is_some(), "a task is claimed");
     drop(claim);
 }
 

@@ -19,6 +19,7 @@ pub enum Tasks {
     Many,
 }
 
+/// The ids of tasks, in this order.
 fn task_ids(rt: &impl Abort, alloc: Global, texts: &[&str]) -> TaskIds {
     let mut ids = Vec::new(alloc);
     for text in texts {

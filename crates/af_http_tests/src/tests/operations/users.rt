@@ -12,7 +12,7 @@ fn add(rt: &impl Abort, permissions: &mut Permissions, action: Action, resource:
     permissions.add(pair).expect(rt, "room for a permission");
 }
 
-/// What may be done to the DAG b alone, and, where it reads runs, the reading of all runs of what is read.
+/// This action on the DAG b alone; with `reads_runs` the reading of all runs of what is read, too.
 fn permissions(rt: &impl Abort, alloc: Global, action: Action, reads_runs: bool) -> Permissions {
     let mut permissions = Permissions::new(alloc);
     let dag = DagId::parse(alloc, "b").expect(rt, "the id of a DAG");
