@@ -79,13 +79,22 @@ pub fn is_text(shown: &Shown, text: &str) -> bool {
     }
 }
 
-/// Whether what is told is that, with this number of entries.
-fn is_told(gave: &Option<Served>, status: Status, text: &str, count: u32) -> bool {
+/// Whether what is told is that, with this number of entries. Where there was no memory for it, the test ends in words that say so.
+fn is_told(gave: &Option<Served>, status: Status, text: &str, count: u32) -> Result<bool, Fail> {
     match gave {
         Some(Served::Shown(shown)) => {
-            is_text(shown, text) && shown.status == status && shown.seq == Some(count)
+            Ok(is_text(shown, text) && shown.status == status && shown.seq == Some(count))
         }
-        _ => false,
+        Some(Served::NothingDone) => Err(Fail::new("an answer: OutOfMemory")),
+        _ => Ok(false),
+    }
+}
+
+/// Ends the test where there was no memory, in words that say so.
+fn has_memory(fault: Option<AuditFault>) -> Result<(), Fail> {
+    match fault {
+        Some(AuditFault::OutOfMemory) => Err(Fail::from(AuditFault::OutOfMemory)),
+        _ => Ok(()),
     }
 }
 
@@ -121,7 +130,7 @@ fn asked(
     let count = player.plane.ledger().audit().count();
     let is_told = is_told(&gave, told.0, told.1, count);
     drop(gave);
-    Ok(is_told)
+    is_told
 }
 
 /// Claims, and tells which try of it is claimed, if any.
@@ -137,7 +146,10 @@ fn claimed(
             Ok(Ok(Some(tried)))
         }
         Ok(None) => Ok(Ok(None)),
-        Err(fault) => Ok(Err(fault)),
+        Err(fault) => {
+            has_memory(Some(fault))?;
+            Ok(Err(fault))
+        }
     }
 }
 
@@ -153,14 +165,36 @@ fn reported(
     Some(player.plane.report(alloc, claim, outcome, at))
 }
 
+/// Whether a tick tells that.
+fn ticks(
+    alloc: Global,
+    player: &mut Player,
+    wanted: Result<bool, AuditFault>,
+    at: Instant,
+) -> Result<bool, Fail> {
+    let told = player.plane.tick(alloc, at);
+    has_memory(told.err())?;
+    Ok(told == wanted)
+}
+
+/// The fault of the audit that a report tells.
+fn fault_of(told: Option<Result<(), ReportRefusal>>) -> Option<AuditFault> {
+    match told {
+        Some(Err(ReportRefusal::Audit(fault))) => Some(fault),
+        _ => None,
+    }
+}
+
 /// Whether a step goes as it says.
 fn goes(alloc: Global, player: &mut Player, step: Step, at: Instant) -> Result<bool, Fail> {
     match step {
         Step::Ask(what, status, text) => asked(alloc, player, what, (status, text), at),
-        Step::Tick(told) => Ok(player.plane.tick(alloc, at) == told),
+        Step::Tick(told) => ticks(alloc, player, told, at),
         Step::Claim(told) => Ok(claimed(alloc, player, at)? == told),
-        Step::Report(place, outcome, told) => {
-            Ok(reported(alloc, player, place, outcome, at) == Some(told))
+        Step::Report(place, outcome, wanted) => {
+            let told = reported(alloc, player, place, outcome, at);
+            has_memory(fault_of(told))?;
+            Ok(told == Some(wanted))
         }
     }
 }

@@ -135,17 +135,18 @@ fn solo(alloc: Global) -> Result<Solo, Fail> {
     Ok(Solo::open(alloc, policy, 2, state, 3))
 }
 
-/// Whether what is told is what a row says.
-fn is_told(gave: &Served, row: Row) -> bool {
+/// Whether what is told is what a row says. Where there was no memory for it, the test ends in words that say so.
+fn is_told(gave: &Served, row: Row) -> Result<bool, Fail> {
     let (_, status, (version, seq), text) = row;
     match gave {
-        Served::Shown(shown) => {
+        Served::Shown(shown) => Ok(
             shown.status == status
                 && shown.version == version
                 && shown.seq == seq
-                && is_text(shown, text)
-        }
-        _ => false,
+                && is_text(shown, text),
+        ),
+        Served::NothingDone => Err(Fail::new("an answer: OutOfMemory")),
+        Served::ReplyLost => Ok(false),
     }
 }
 
@@ -163,7 +164,7 @@ fn goes(alloc: Global, solo: &mut Solo, row: Row) -> Result<bool, Fail> {
     let gave = answer(alloc, solo, row.0)?;
     let is_told = is_told(&gave, row);
     drop(gave);
-    Ok(is_told)
+    is_told
 }
 
 /// How many calls are answered as their rows say, up to the first that is not.

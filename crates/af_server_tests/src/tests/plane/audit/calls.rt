@@ -59,18 +59,12 @@ fn op(alloc: Global, ask: Ask) -> Result<Op, Fail> {
     }
 }
 
-/// What somebody is shown who asks for an operation.
-fn shown_of(
-    alloc: Global,
-    ledger: &mut Ledger,
-    policy: &Policy,
-    who: &str,
-    op: &Op,
-    at: Instant,
-) -> Option<Shown> {
-    match ledger.answer(alloc, policy, token(who), op, at) {
-        Served::Shown(shown) => Some(shown),
-        _ => None,
+/// What is shown. Where there was no memory for it, or its reply was lost, the test ends in words that say so.
+pub fn shown_in(served: Served) -> Result<Shown, Fail> {
+    match served {
+        Served::Shown(shown) => Ok(shown),
+        Served::NothingDone => Err(Fail::new("an answer: OutOfMemory")),
+        Served::ReplyLost => Err(Fail::new("a reply is lost")),
     }
 }
 
@@ -82,9 +76,9 @@ pub fn shown_to(
     who: &str,
     ask: Ask,
     at: Instant,
-) -> Result<Option<Shown>, Fail> {
+) -> Result<Shown, Fail> {
     let op = op(alloc, ask)?;
-    let shown = shown_of(alloc, ledger, policy, who, &op, at);
+    let served = ledger.answer(alloc, policy, token(who), &op, at);
     drop(op);
-    Ok(shown)
+    shown_in(served)
 }

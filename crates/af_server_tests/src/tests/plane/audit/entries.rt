@@ -166,7 +166,7 @@ pub fn ticks_under(
 ) -> Result<usize, Fail> {
     let at = Instant::read(moment)?;
     look(ledger, version);
-    let _changed = ledger.tick(alloc, at);
+    let _changed = ledger.tick(alloc, at)?;
     let is_under = is_of(ledger.audit().entries().first(), version, at);
     Ok(usize::from(is_under && ledger.version() == version))
 }
@@ -210,21 +210,24 @@ const COUNTED: &[CountRow] = &[
     (None, Err(AuditFault::HistoryFull), 2),
 ];
 
-/// Whether the next entry goes as its row says.
-fn counts(audit: &mut Audit, at: Instant, row: CountRow) -> bool {
+/// Whether the next entry goes as its row says. Where there was no memory for it, the test ends in words that say so.
+fn counts(audit: &mut Audit, at: Instant, row: CountRow) -> Result<bool, Fail> {
     let next = audit.next_seq();
     let told = audit.enter(at, Actor::Scheduler, 0, Act::Tick);
-    next == row.0 && told == row.1 && audit.count() == row.2
+    if told == Err(AuditFault::OutOfMemory) {
+        return Err(Fail::from(AuditFault::OutOfMemory));
+    }
+    Ok(next == row.0 && told == row.1 && audit.count() == row.2)
 }
 
 /// How many entries go as these rows say, up to the first that does not.
-fn counted(audit: &mut Audit, at: Instant, rows: &[CountRow]) -> usize {
+fn counted(audit: &mut Audit, at: Instant, rows: &[CountRow]) -> Result<usize, Fail> {
     for (place, row) in rows.iter().enumerate() {
-        if !counts(audit, at, *row) {
-            return place;
+        if !counts(audit, at, *row)? {
+            return Ok(place);
         }
     }
-    rows.len()
+    Ok(rows.len())
 }
 
 #[test]
@@ -233,7 +236,7 @@ fn an_audit_counts_from_one(rt: HostRuntime) -> Result<(), Fail> {
     let mut audit = Audit::new(rt.alloc(), 2);
     let told = counted(&mut audit, at, COUNTED);
     drop(audit);
-    part_holds(&rt, "an audit", "entries", (told, COUNTED.len()));
+    part_holds(&rt, "an audit", "entries", (told?, COUNTED.len()));
     Ok(())
 }
 

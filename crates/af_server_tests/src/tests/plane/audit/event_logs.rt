@@ -1,4 +1,5 @@
 //! Requests for event logs: who is told which entries.
+use crate::tests::plane::audit::calls::shown_in;
 use crate::tests::plane::audit::opening::Dags;
 use crate::tests::plane::audit::requests::Request;
 use crate::tests::plane::audit::rows::{MIXED, PAUSED};
@@ -6,7 +7,7 @@ use crate::tests::plane::audit::stories::{Part, Story, all_go};
 use crate::tests::plane::audit::users::token;
 use af_audit::Ledger;
 use af_listing::Window;
-use af_ops::{Endpoint, Served, Shown, Status};
+use af_ops::{Endpoint, Shown, Status};
 use af_policy::Policy;
 use std::alloc::Global;
 use std::test::Fail;
@@ -72,26 +73,27 @@ fn is_told(shown: &Shown, status: Status, body: &[u8], count: u32) -> bool {
 }
 
 /// Whether a request for event logs is told what its row says.
-fn is_served(alloc: Global, ledger: &Ledger, policy: &Policy, row: Reading) -> bool {
+fn is_served(alloc: Global, ledger: &Ledger, policy: &Policy, row: Reading) -> Result<bool, Fail> {
     let asked = Window::read(row.1);
-    match ledger.entries(alloc, policy, token(row.0), &asked) {
-        Served::Shown(shown) => {
-            let is_told = is_told(&shown, row.2, row.3, ledger.audit().count());
-            drop(shown);
-            is_told
-        }
-        _ => false,
-    }
+    let shown = shown_in(ledger.entries(alloc, policy, token(row.0), &asked))?;
+    let is_told = is_told(&shown, row.2, row.3, ledger.audit().count());
+    drop(shown);
+    Ok(is_told)
 }
 
 /// How many requests are told what their rows say, up to the first that is not.
-pub fn readings(alloc: Global, ledger: &Ledger, policy: &Policy, rows: &[Reading]) -> usize {
+pub fn readings(
+    alloc: Global,
+    ledger: &Ledger,
+    policy: &Policy,
+    rows: &[Reading],
+) -> Result<usize, Fail> {
     for (place, row) in rows.iter().enumerate() {
-        if !is_served(alloc, ledger, policy, *row) {
-            return place;
+        if !is_served(alloc, ledger, policy, *row)? {
+            return Ok(place);
         }
     }
-    rows.len()
+    Ok(rows.len())
 }
 
 const THREE_ENTRIES: &[Story] = &[Story {

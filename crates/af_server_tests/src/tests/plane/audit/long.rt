@@ -92,10 +92,7 @@ fn is_done(status: Status) -> bool {
 }
 
 /// What is told of a request. The number of entries stands in the answer.
-fn told_of(shown: Option<&Shown>, count: u32) -> Result<Told, Fail> {
-    let Some(shown) = shown else {
-        return Err(Fail::new("no answer"));
-    };
+fn told_of(shown: &Shown, count: u32) -> Result<Told, Fail> {
     if shown.seq != Some(count) {
         return Err(Fail::new("another number of entries"));
     }
@@ -116,7 +113,7 @@ fn ask(
     let user = who(&mut course.seed);
     let asked = what(&mut course.seed)?;
     let shown = shown_to(alloc, ledger, policy, user, asked, course.at)?;
-    let told = told_of(shown.as_ref(), ledger.audit().count());
+    let told = told_of(&shown, ledger.audit().count());
     drop(shown);
     told
 }
@@ -125,7 +122,7 @@ fn tick(alloc: Global, ledger: &mut Ledger, at: Instant) -> Result<Told, Fail> {
     match ledger.tick(alloc, at) {
         Ok(true) => Ok(Told::Changed),
         Ok(false) => Ok(Told::Same),
-        Err(_) => Err(Fail::new("no tick")),
+        Err(fault) => Err(Fail::from(fault)),
     }
 }
 

@@ -44,16 +44,9 @@ fn asked(
     at: Instant,
 ) -> Result<Told, Fail> {
     let shown = shown_to(alloc, ledger, policy, "adam", ask, at)?;
-    let told = told_of(shown.as_ref());
+    let told = shown_as(&shown);
     drop(shown);
     Ok(told)
-}
-
-fn told_of(shown: Option<&Shown>) -> Told {
-    match shown {
-        Some(shown) => shown_as(shown),
-        None => Told::Other,
-    }
 }
 
 fn shown_as(shown: &Shown) -> Told {
@@ -86,28 +79,34 @@ fn begins(shown: &Shown, front: &[u8]) -> bool {
     }
 }
 
-fn audit_fault(fault: AuditFault) -> Told {
+/// What a fault comes to. Where there was no memory, the test ends in words that say so.
+fn audit_fault(fault: AuditFault) -> Result<Told, Fail> {
     match fault {
-        AuditFault::HistoryFull => Told::Full,
-        AuditFault::OutOfMemory => Told::Other,
+        AuditFault::HistoryFull => Ok(Told::Full),
+        AuditFault::OutOfMemory => Err(Fail::from(AuditFault::OutOfMemory)),
     }
 }
 
-fn ticked(alloc: Global, ledger: &mut Ledger, at: Instant) -> Told {
+fn ticked(alloc: Global, ledger: &mut Ledger, at: Instant) -> Result<Told, Fail> {
     match ledger.tick(alloc, at) {
-        Ok(true) => Told::Done,
-        Ok(false) => Told::Nothing,
+        Ok(true) => Ok(Told::Done),
+        Ok(false) => Ok(Told::Nothing),
         Err(fault) => audit_fault(fault),
     }
 }
 
-fn claimed(alloc: Global, ledger: &mut Ledger, last: &mut Option<Claim>, at: Instant) -> Told {
+fn claimed(
+    alloc: Global,
+    ledger: &mut Ledger,
+    last: &mut Option<Claim>,
+    at: Instant,
+) -> Result<Told, Fail> {
     match ledger.claim(alloc, at) {
         Ok(Some(claim)) => {
             drop(last.replace(claim));
-            Told::Done
+            Ok(Told::Done)
         }
-        Ok(None) => Told::Nothing,
+        Ok(None) => Ok(Told::Nothing),
         Err(fault) => audit_fault(fault),
     }
 }
@@ -118,14 +117,14 @@ fn reported(
     last: &Option<Claim>,
     outcome: Outcome,
     at: Instant,
-) -> Told {
+) -> Result<Told, Fail> {
     let Some(claim) = last else {
-        return Told::Other;
+        return Ok(Told::Other);
     };
     match ledger.report(alloc, claim, outcome, at) {
-        Ok(()) => Told::Done,
-        Err(ReportRefusal::Fault(ReportFault::NotRunning)) => Told::NotRunning,
-        Err(ReportRefusal::Fault(_)) => Told::Other,
+        Ok(()) => Ok(Told::Done),
+        Err(ReportRefusal::Fault(ReportFault::NotRunning)) => Ok(Told::NotRunning),
+        Err(ReportRefusal::Fault(_)) => Ok(Told::Other),
         Err(ReportRefusal::Audit(fault)) => audit_fault(fault),
     }
 }
@@ -144,9 +143,9 @@ fn taken(
         Step::AskOfRun(endpoint, body) => {
             asked(alloc, ledger, policy, (endpoint, RUN_OF_B, body), at)
         }
-        Step::Tick => Ok(ticked(alloc, ledger, at)),
-        Step::Claim => Ok(claimed(alloc, ledger, last, at)),
-        Step::Report(outcome) => Ok(reported(alloc, ledger, last, outcome, at)),
+        Step::Tick => ticked(alloc, ledger, at),
+        Step::Claim => claimed(alloc, ledger, last, at),
+        Step::Report(outcome) => reported(alloc, ledger, last, outcome, at),
     }
 }
 

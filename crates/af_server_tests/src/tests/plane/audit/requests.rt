@@ -6,7 +6,7 @@ use crate::tests::plane::audit::steps::{Row, Step, Told};
 use crate::tests::plane::audit::stories::{Part, REPLAY, Story, all_go};
 use af_audit::{Actor, Entry, Ledger};
 use af_names::Instant;
-use af_ops::{Endpoint, Shown, Status};
+use af_ops::{Endpoint, Status};
 use af_policy::Policy;
 use std::alloc::Global;
 use std::test::Fail;
@@ -91,16 +91,9 @@ fn is_served(
 ) -> Result<bool, Fail> {
     let now = Instant::read(JANUARY)?;
     let shown = shown_to(alloc, ledger, policy, row.0, (row.1, B, row.2), now)?;
-    let is_shown = is_shown(shown.as_ref(), row);
+    let is_shown = shown.status == row.3 && shown.seq == row.4;
     drop(shown);
     Ok(is_shown)
-}
-
-fn is_shown(shown: Option<&Shown>, row: Request) -> bool {
-    match shown {
-        Some(shown) => shown.status == row.3 && shown.seq == row.4,
-        None => false,
-    }
 }
 
 /// How many rows are served as they should be, up to the first that is not.

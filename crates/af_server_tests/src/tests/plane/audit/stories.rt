@@ -68,7 +68,7 @@ fn told(alloc: Global, ledger: &mut Ledger, policy: &Policy, part: Part) -> Resu
     match part {
         Part::Steps(rows) => played(alloc, ledger, policy, rows),
         Part::Requests(rows) => served(alloc, ledger, policy, rows),
-        Part::Readings(rows) => Ok(readings(alloc, ledger, policy, rows)),
+        Part::Readings(rows) => readings(alloc, ledger, policy, rows),
         Part::Acts(acts) => connected(alloc, ledger, policy, acts),
         Part::Version(version, moment) => ticks_under(alloc, ledger, version, moment),
         _ => made(alloc, ledger, part),
