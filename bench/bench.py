@@ -30,12 +30,14 @@ import tempfile
 import termios
 import time
 
-import oracle
 from bench_loads import loads
-from oracle_names import instant_of
-from oracle_table import having
 
 HERE = os.path.dirname(os.path.realpath(__file__))
+sys.path.append(os.path.join(HERE, "..", "model"))
+import oracle  # noqa: E402
+from oracle_names import instant_of  # noqa: E402
+from oracle_table import having  # noqa: E402
+
 PROGRAM = os.path.join(HERE, "..", "crates", "afplane", "out", "afplane")
 BASELINE = os.path.join(HERE, "out", "baseline")
 NOW = "2024-01-01T00:00:00Z"

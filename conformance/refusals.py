@@ -1,0 +1,182 @@
+#!/usr/bin/env python3
+"""Refuses each allocation of afplane in turn, and looks at what it does then.
+
+  python3 conformance/refusals.py                           the examples, each kind of change, event logs, readings of the policy, faults
+  python3 conformance/refusals.py --program 'PATH/PROGRAM'
+  python3 conformance/refusals.py --has dags,variables      the changes of these kinds alone
+  python3 conformance/refusals.py --tests                   each test that `rt test` has built, but those that compare whole answers
+
+A run is refused its first allocation, the next its second, and so on, until a run meets none to refuse. Each is to end in
+one of three ways: as the run with all its memory does, which is as the oracle says; with some of its answers, whole and in
+order, and then the fixed 503, status 1; or with the configuration refused for lack of memory, status 3, and nothing on standard output. A change is made once
+its reply stands, so no reply of one is lost: nowhere is there a 500. Where each request names a path or a
+method that is not there, the 503 comes at the opening alone. A test is to pass, or to end in the fault that says out of memory and in no other. The last line is `N runs as they must be, M not`, and the
+status 0 only where M is 0. It wants a C compiler (`cc`).
+"""
+import argparse
+import glob
+import os
+import re
+import shlex
+import subprocess
+import sys
+
+import with_model  # noqa: F401
+import oracle
+from oracle_table import GROUPS, having
+from refusal_cases import EXAMPLES, OUT, ROOT, inputs
+
+PROGRAM = os.path.join(ROOT, "crates", "afplane", "out", "afplane")
+NOW = "2024-01-01T00:00:00Z"
+BODY = b'{"detail":"out of memory","status":503,"title":"Service Unavailable","type":"about:blank"}'
+NO_MEMORY = (
+    b"HTTP/1.1 503 Service Unavailable\r\nContent-Type: application/problem+json\r\nContent-Length: 90\r\nConnection: close\r\n\r\n" + BODY
+)
+REFUSED = b"afplane: configuration refused: memory\n"
+MOST = 100_000
+
+
+def build():
+    """The library that refuses, compiled into conformance/out/."""
+    os.makedirs(OUT, exist_ok=True)
+    library = os.path.join(OUT, "refuse.so")
+    subprocess.run(["cc", "-O1", "-shared", "-fPIC", "-o", library, os.path.join(ROOT, "conformance", "refuse.c"), "-ldl"], check=True)
+    return library
+
+
+def answers_in(text):
+    """Where each answer of an output ends, in order, the beginning counted too. A 204 has no length, and no body."""
+    ends, at = [0], 0
+    while at < len(text):
+        head = text.index(b"\r\n\r\n", at) + 4
+        lengths = [line for line in text[at:head].split(b"\r\n") if line.lower().startswith(b"content-length:")]
+        at = head + (int(lengths[0].split(b":")[1]) if lengths else 0)
+        ends.append(at)
+    return ends
+
+
+def run(program, words, data, library=None, number=0):
+    """Exit status, standard output, standard error, and whether the allocation of that number was asked for."""
+    if library is None:
+        it = subprocess.run([*program, *words], input=data, capture_output=True, timeout=30)
+        return it.returncode, it.stdout, it.stderr, False
+    reader, writer = os.pipe()
+    env = {"LD_PRELOAD": library, "REFUSE": str(number), "REFUSE_FD": str(writer)}
+    try:
+        it = subprocess.run([*program, *words], input=data, capture_output=True, timeout=30, env=env, pass_fds=[writer])
+    finally:
+        os.close(writer)
+    with os.fdopen(reader, "rb") as pipe:
+        met = pipe.read() != b""
+    return it.returncode, it.stdout, it.stderr, met
+
+
+def run_test(program, name, library, number):
+    """Exit status and output of a test, and whether the allocation of that number was asked for."""
+    status, out, err, met = run([program], [name], b"", library, number)
+    return status, out + err, met
+
+
+# Crates of tests that compare whole answers, where the fixed 503 is no fault of a test: the program itself is refused its memory.
+WHOLE = {"af_http_tests_tests", "af_server_tests_tests"}
+# The tests of these crates that compare none.
+IN_PARTS = ("tests::operations::", "tests::plane::")
+# What a test that is refused memory ends with: the fault after `Error`, or after the words for what should not fail; or the left of two that are compared.
+OUT_OF_MEMORY = re.compile(rb"(: (\w+\()*(OutOfMemory|AllocError|AllocFailed|Memory)\b|left: \S*(OutOfMemory|Memory|AllocError))")
+
+
+def refuse_each_of_test(program, name, library):
+    """How many runs of a test ended as they must, and how many did not."""
+    right = wrong = 0
+    for number in range(1, MOST):
+        status, text, met = run_test(program, name, library, number)
+        if not met:
+            break
+        if (status == 0 and b"test result: ok" in text) or (status in (101, -6) and OUT_OF_MEMORY.search(text)):
+            right += 1
+        else:
+            wrong += 1
+            print(f"{name}, allocation {number} refused: status {status}, {text[-300:]!r}")
+    return right, wrong
+
+
+def refuse_tests(library):
+    """The same of all tests that are built."""
+    right = wrong = 0
+    for program in sorted(glob.glob(os.path.join(ROOT, "crates", "*", "out", "*_tests"))):
+        listed = subprocess.run([program, "--list"], capture_output=True, timeout=30, text=True).stdout
+        names = [line[: -len(": test")] for line in listed.splitlines() if line.endswith(": test")]
+        if os.path.basename(program) in WHOLE:
+            names = [name for name in names if name.startswith(IN_PARTS)]
+            if not names:
+                sys.exit(f"refusals: {os.path.basename(program)} has no tests under {', '.join(IN_PARTS)}")
+        counts = [refuse_each_of_test(program, name, library) for name in names]
+        one, other = sum(count[0] for count in counts), sum(count[1] for count in counts)
+        print(f"{os.path.basename(program)}: {len(names)} tests, {one} runs as they must be, {other} not", flush=True)
+        right, wrong = right + one, wrong + other
+    return right, wrong
+
+
+def refuse_program(program, library, has):
+    """The same of the program, on the examples and the changes."""
+    if not os.path.exists(program[0]):
+        sys.exit(f"refusals: there is no program {program[0]}; ./afplane once builds it")
+    right = wrong = 0
+    for name, config, data in inputs(has):
+        one, other = refuse_each(program, library, has, name, config, data)
+        right, wrong = right + one, wrong + other
+    return right, wrong
+
+
+def fronts_of(text):
+    """Fronts of the output that end with an answer."""
+    return [text[:end] for end in answers_in(text)]
+
+
+def is_right(whole, fronts, status, out, err):
+    if (status, out, err) == whole or (status, out, err) == (3, b"", REFUSED):
+        return True
+    return status == 1 and err == b"" and out.endswith(NO_MEMORY) and out[: -len(NO_MEMORY)] in fronts
+
+
+def refuse_each(program, library, has, name, config, data):
+    """How many runs ended as they must, and how many did not."""
+    words = ["once", os.path.join(EXAMPLES, config), NOW]
+    *whole, _ = run(program, words, data)
+    whole = tuple(whole)
+    if whole != oracle.run(words, data, has):
+        sys.exit(f"refusals: {name}, with all its memory, is not answered as the oracle says: status {whole[0]}, {whole[1][:600]!r}, {whole[2]!r}")
+    fronts = fronts_of(whole[1])
+    if name == "nowhere":
+        fronts = fronts[:1]
+    right, wrong, kinds = 0, 0, {}
+    for number in range(1, MOST):
+        status, out, err, met = run(program, words, data, library, number)
+        if not met:
+            break
+        if is_right(whole, fronts, status, out, err):
+            right += 1
+            kind = "503" if out.endswith(NO_MEMORY) else f"status {status}"
+            kinds[kind] = kinds.get(kind, 0) + 1
+        else:
+            wrong += 1
+            print(f"{name}, allocation {number} refused: status {status}, {out[-200:]!r}, {err!r}")
+    told = ", ".join(f"{count} with {kind}" for kind, count in sorted(kinds.items()))
+    print(f"{name}: {right} runs as they must be ({told}), {wrong} not", flush=True)
+    return right, wrong
+
+
+def main():
+    parser = argparse.ArgumentParser(description=__doc__.split("\n")[0])
+    parser.add_argument("--program", default=PROGRAM, help="the program and its first words, as a shell would read them")
+    parser.add_argument("--has", type=having, default=having("landed"), metavar="NAMES", help=f"what the program has: {', '.join(GROUPS)}, or single names")
+    parser.add_argument("--tests", action="store_true", help="the tests of the crates in place of the program")
+    asked = parser.parse_args()
+    library = build()
+    right, wrong = refuse_tests(library) if asked.tests else refuse_program(shlex.split(asked.program), library, asked.has)
+    print(f"{right} runs as they must be, {wrong} not")
+    sys.exit(1 if wrong or not right else 0)
+
+
+if __name__ == "__main__":
+    main()
