@@ -113,13 +113,13 @@ class Documents(unittest.TestCase):
                     self.assertRegex(text, rf"(?m)^\s*(?:[a-z]+ )*{re.escape(name)}(?!\w)")
 
     def test_rules_of_questions_stand_where_it_is_said(self):
-        rows = [it.split(" | ") for it in re.findall(r"(?m)^\| (.*\?.*) \|$", text_of(TOP / "docs/QUESTIONS.md"))]
-        self.assertGreater(len(rows), 10)
-        for row in rows:
-            with self.subTest(question=row[0]):
-                self.assertEqual(len(row), 3)
-                found = re.findall(r"((?:`\w+`(?:, )?)+) in (af_\w+/specs/\w+\.antt)", row[2])
-                self.assertEqual(len(found), row[2].count("; ") + 1)
+        sections = re.findall(r"(?ms)^### (.*?)\n(.*?)(?=^##|\Z)", text_of(TOP / "docs/QUESTIONS.md"))
+        self.assertGreater(len(sections), 20)
+        for question, answer in sections:
+            with self.subTest(question=question):
+                (rules,) = re.findall(r"(?m)^Decided by (.*)\.$", answer)
+                found = re.findall(r"((?:`\w+`(?:, )?)+) in (af_\w+/specs/\w+\.antt)", rules)
+                self.assertEqual("; ".join(f"{names} in {path}" for names, path in found), rules)
                 for names, path in found:
                     for name in re.findall(r"\w+", names):
                         self.assertRegex(text_of(CRATES / path), rf"(?m)^\s*(?:[a-z]+ )*{name}(?!\w)")
