@@ -143,20 +143,6 @@ class Documents(unittest.TestCase):
     def test_length_of_the_first_page(self):
         self.assertLessEqual(text_of(TOP / "README.md").count("\n"), MOST_LINES)
 
-    def test_no_line_is_too_long(self):
-        for page in PAGES:
-            with self.subTest(page=str(page.relative_to(TOP))):
-                lines = enumerate(lines_of(text_of(page)), 1)
-                self.assertEqual([number for number, (line, is_code) in lines if len(line) > MOST_COLUMNS and not (is_code and is_json(line))], [])
-
-    def test_no_sentence_is_too_long(self):
-        for page in PAGES:
-            if RESULTS in page.parents:
-                continue
-            with self.subTest(page=str(page.relative_to(TOP))):
-                sentences = [it for piece in pieces_of(text_of(page)) for it in sentences_of(piece)]
-                self.assertEqual([" ".join(it) for it in sentences if len(it) > MOST_WORDS], [])
-
     def test_the_promise_has_one_wording(self):
         explained = quotations(text_of(TOP / "docs/GUARANTEES.md"))
         promised = quotations(text_of(TOP / "README.md"))
@@ -228,6 +214,20 @@ class Documents(unittest.TestCase):
         for page in PAGES:
             for block in re.findall(r"(?ms)^```json\n(.*?)^```", text_of(page)):
                 json.loads(block)
+
+    def test_no_line_is_too_long(self):
+        for page in PAGES:
+            with self.subTest(page=str(page.relative_to(TOP))):
+                lines = enumerate(lines_of(text_of(page)), 1)
+                self.assertEqual([number for number, (line, is_code) in lines if len(line) > MOST_COLUMNS and not (is_code and is_json(line))], [])
+
+    def test_no_sentence_is_too_long(self):
+        for page in PAGES:
+            if RESULTS in page.parents:
+                continue
+            with self.subTest(page=str(page.relative_to(TOP))):
+                sentences = [it for piece in pieces_of(text_of(page)) for it in sentences_of(piece)]
+                self.assertEqual([" ".join(it) for it in sentences if len(it) > MOST_WORDS], [])
 
 
 def is_json(line):
