@@ -1,5 +1,6 @@
 #!/usr/bin/env python3
-"""Tests of the documents: links and paths lead somewhere, definitions and laws stand where it is said, and what is said twice has the same words.
+"""Tests of the documents: links lead somewhere, definitions and clauses are where it is said, what is said twice has the same words, and
+no line and no sentence is too long.
 
     python3 tools/dev/test_documents.py
 """
@@ -19,6 +20,13 @@ FOLDERS = ("model", "conformance", "bench", "examples")
 DOCUMENTS = [TOP / "README.md", *sorted((TOP / "docs").glob("*.md")), *sorted(page for it in FOLDERS for page in (TOP / it).rglob("*.md"))]
 MOST_LINES = 150
 HEAD = "| Plain name | Where | Carried by |"
+
+# All pages: those above, and those at the top but the first page. The tables of results are measured, not written.
+PAGES = [*DOCUMENTS, *sorted(it for it in TOP.glob("*.md") if it.name != "README.md")]
+RESULTS = TOP / "bench/results"
+MOST_COLUMNS, MOST_WORDS = 160, 40
+ITEM = re.compile(r"(?:[-*]|\d+\.) ")
+NOT_AN_END = {"e.g.", "i.e.", "etc.", "cf.", "vs.", "no."}
 
 
 def text_of(path):
@@ -43,24 +51,22 @@ def anchors_in(path):
     return {anchor_of(it) for it in re.findall(r"(?m)^#+ (.*)$", text_of(path))}
 
 
-def definition_rows():
-    """Of each row of docs/DEFINITIONS.md the three cells."""
-    rows, within = [], False
-    for line in text_of(TOP / "docs/DEFINITIONS.md").split("\n"):
-        within = line == HEAD or within and line.startswith("|")
-        if within and line != HEAD and not line.startswith("|---"):
-            rows.append([it.strip() for it in line.strip("| ").split(" | ")])
+def rows_below(page, head):
+    """Of each row of the tables with this head the crate of the heading above it, and the cells."""
+    rows, crate, within = [], None, False
+    for line in text_of(TOP / page).split("\n"):
+        heading = re.match(r"## (af_\w+)", line)
+        crate = heading[1] if heading else crate
+        within = line == head or within and line.startswith("|")
+        if within and line != head and not line.startswith("|---"):
+            rows.append((crate, [it.strip() for it in line[1:].rstrip("| ").split("|")]))
     return rows
 
 
-def files_of(cell):
-    """The files that a cell names: one without a folder stands beside the one before it."""
-    found, folder = [], None
+def files_of(crate, cell):
+    """The files that a cell names: below specs/ of a crate, or below its src/, or below another crate."""
     for it in cell.split(", "):
-        path = CRATES / it if "/" in it else folder / it
-        folder = path.parent
-        found.append(path)
-    return found
+        yield CRATES / it if it.startswith("af_") else CRATES / crate / it if it.startswith("src/") else CRATES / crate / "specs" / it
 
 
 def names_in(cell):
@@ -68,28 +74,92 @@ def names_in(cell):
     return [name for bracket in re.findall(r"\((`[^()]*`)\)", cell) for name in re.findall(r"`([^`]+)`", bracket)]
 
 
+def clauses_in(cell):
+    """The functions that a cell names, each with the clauses that follow it in brackets."""
+    return [(name, re.findall(r"\w+", clauses)) for name, clauses in re.findall(r"`([\w:]+)`(?: \((`[^()]*`)\))?", cell)]
+
+
+def contracts_of(crate):
+    """Of each function of a crate the names of the clauses that it ensures; and the crate's types and traits."""
+    clauses, types = {}, set()
+    for path in sorted((CRATES / crate / "src").rglob("*.rt")):
+        text = text_of(path)
+        types.update(re.findall(r"\b(?:struct|enum|trait|type) (\w+)", text))
+        name = None
+        for line in text.split("\n"):
+            begins = re.match(r" *(?:pub(?:\(\w+\))? )?(?:const )?fn (\w+)", line)
+            name = begins[1] if begins else name
+            ensured = re.match(r" *ensures (\w*) ?\{", line)
+            if begins:
+                clauses.setdefault(name, set())
+            elif ensured:
+                clauses[name].add(ensured[1])
+    return clauses, types
+
+
+def lines_of(text):
+    """Each line of a page, and whether it is code: between fences, or indented where no list is open."""
+    found, fenced, listed = [], False, False
+    for line in text.split("\n"):
+        fence = line.lstrip().startswith("```")
+        fenced = fenced != fence
+        if not fence and not fenced and line.strip():
+            listed = bool(ITEM.match(line.lstrip())) or listed and line.startswith(" ")
+        found.append((line, fence or fenced or line.startswith("    ") and not listed))
+    return found
+
+
+def pieces_of(text):
+    """The paragraphs, items, headings and cells of a page, each on one line, without its code and its block quotes."""
+    found, paragraph = [], []
+    for line, is_code in lines_of(text):
+        line = line.strip()
+        if is_code or not line or line[0] in "#|>" or ITEM.match(line):
+            found.append(" ".join(paragraph))
+            paragraph = []
+        if is_code or line.startswith(">"):
+            continue
+        if line.startswith(("|", "#")):
+            found += re.split(r"(?<!\\)\|", line.lstrip("#"))
+        else:
+            paragraph.append(ITEM.sub("", line, count=1) if ITEM.match(line) else line)
+    return [it.strip() for it in [*found, " ".join(paragraph)] if it.strip()]
+
+
+def sentences_of(piece):
+    """The words of each sentence; a link is its text, code is one word, and two dots leave something out."""
+    text = re.sub(r"!?\[([^\]]*)\]\([^)]*\)", r"\1", piece)
+    text = re.sub(r"\.\.+", "", re.sub(r"`[^`]*`", "code", text))
+    found = [[]]
+    for word in text.split():
+        if re.search(r"\w", word):
+            found[-1].append(word)
+        if re.search(r"[.!?][\"')*_]*$", word) and word.strip("(\"'*_").lower() not in NOT_AN_END:
+            found.append([])
+    return [it for it in found if it]
+
+
 class Documents(unittest.TestCase):
     def test_length_of_the_first_page(self):
         self.assertLessEqual(text_of(TOP / "README.md").count("\n"), MOST_LINES)
 
     def test_the_promise_has_one_wording(self):
-        definitions = words_of(text_of(TOP / "docs/DEFINITIONS.md"))
+        explained = quotations(text_of(TOP / "docs/GUARANTEES.md"))
         promised = quotations(text_of(TOP / "README.md"))
-        self.assertEqual(len(promised), 2)
+        self.assertEqual(len(explained), 2)
+        self.assertIn(explained[0], promised)
         for it in promised:
-            self.assertEqual(definitions.count(it), 1, it)
+            self.assertIn(it, explained)
 
     def test_each_crate_has_a_row(self):
         crates = [it.name for it in sorted(CRATES.iterdir()) if (it / "src").is_dir() and not it.name.endswith(("_tests", "_bench")) and it.name != "afplane"]
-        rows = re.findall(r"(?m)^\| (af_\w+) \|", text_of(TOP / "README.md"))
-        self.assertEqual(sorted(rows), crates)
-        rows = re.findall(r"(?m)^\| `(af\w+)` \|", text_of(TOP / "docs/ARCHITECTURE.md"))
+        rows = [cells[0].strip("`") for _, cells in rows_below("docs/ARCHITECTURE.md", "| Crate | What it is for | What contracts see |")]
         self.assertEqual(sorted(rows), sorted([*crates, "afplane"]))
         rows = re.findall(r"(?m)^## (af_\w+)$", text_of(TOP / "docs/PROOFS.md"))
         self.assertEqual(sorted(rows), crates)
 
     def test_links_lead_somewhere(self):
-        for page in DOCUMENTS:
+        for page in PAGES:
             for target in re.findall(r"\]\(([^)\s]+)\)", text_of(page)):
                 path, _, anchor = target.partition("#")
                 if "://" in path:
@@ -100,17 +170,33 @@ class Documents(unittest.TestCase):
                     self.assertIn(anchor, anchors_in(there), f"{page.name}: {target}")
 
     def test_definitions_stand_where_it_is_said(self):
-        rows = definition_rows()
-        self.assertGreater(len(rows), 100)
-        for row in rows:
+        rows = rows_below("docs/DEFINITIONS.md", HEAD)
+        self.assertGreater(len(rows), 200)
+        for crate, row in rows:
             self.assertEqual(len(row), 3, row)
             plain, where, _ = row
             if where == "std":
                 continue
             with self.subTest(row=plain):
-                text = "\n".join(map(text_of, files_of(where)))
+                text = "\n".join(map(text_of, files_of(crate, where)))
                 for name in names_in(plain):
                     self.assertRegex(text, rf"(?m)^\s*(?:[a-z]+ )*{re.escape(name)}(?!\w)")
+
+    def test_claims_name_clauses_that_are_there(self):
+        rows = rows_below("docs/PROOFS.md", "| Claim | Clause | Limit |")
+        self.assertGreater(len(rows), 200)
+        contracts = {crate: contracts_of(crate) for crate in {crate for crate, _ in rows}}
+        for crate, row in rows:
+            with self.subTest(crate=crate, claim=row[0]):
+                self.assertIn(len(row), (2, 3))
+                named = clauses_in(row[1])
+                self.assertTrue(named)
+                functions, types = contracts[crate]
+                for name, clauses in named:
+                    *of_type, function = name.split("::")
+                    self.assertLessEqual(set(of_type), types)
+                    self.assertIn(function, functions)
+                    self.assertLessEqual(set(clauses), functions[function], name)
 
     def test_rules_of_questions_stand_where_it_is_said(self):
         sections = re.findall(r"(?ms)^### (.*?)\n(.*?)(?=^##|\Z)", text_of(TOP / "docs/QUESTIONS.md"))
@@ -125,9 +211,72 @@ class Documents(unittest.TestCase):
                         self.assertRegex(text_of(CRATES / path), rf"(?m)^\s*(?:[a-z]+ )*{name}(?!\w)")
 
     def test_code_blocks_of_json_are_json(self):
-        for page in DOCUMENTS:
+        for page in PAGES:
             for block in re.findall(r"(?ms)^```json\n(.*?)^```", text_of(page)):
                 json.loads(block)
+
+    def test_no_line_is_too_long(self):
+        for page in PAGES:
+            with self.subTest(page=str(page.relative_to(TOP))):
+                lines = enumerate(lines_of(text_of(page)), 1)
+                self.assertEqual([number for number, (line, is_code) in lines if len(line) > MOST_COLUMNS and not (is_code and is_json(line))], [])
+
+    def test_no_sentence_is_too_long(self):
+        for page in PAGES:
+            if RESULTS in page.parents:
+                continue
+            with self.subTest(page=str(page.relative_to(TOP))):
+                sentences = [it for piece in pieces_of(text_of(page)) for it in sentences_of(piece)]
+                self.assertEqual([" ".join(it) for it in sentences if len(it) > MOST_WORDS], [])
+
+
+def is_json(line):
+    """Whether a line is a text of JSON, as the program writes it."""
+    try:
+        json.loads(line)
+    except ValueError:
+        return False
+    return True
+
+
+class Splitting(unittest.TestCase):
+    """What is taken for a line of code, a piece and a sentence."""
+
+    PAGE = """# A head. Line
+
+One two three. Four, e.g. five `six. seven` .. [eight nine](ten.md)!
+Eleven
+
+    code that is indented. And more
+
+> Quoted. Words
+
+- an item
+  that goes on
+
+  1. one below
+
+    still the item below
+| a cell | another. cell |
+
+```text
+fenced. code
+```
+"""
+
+    def test_code(self):
+        code = [line.strip() for line, is_code in lines_of(self.PAGE) if is_code]
+        self.assertEqual(code, ["code that is indented. And more", "```text", "fenced. code", "```"])
+
+    def test_pieces(self):
+        pieces = pieces_of(self.PAGE)
+        self.assertEqual(pieces[0], "A head. Line")
+        self.assertEqual(pieces[1][:14], "One two three.")
+        self.assertEqual(pieces[2:], ["an item that goes on", "one below", "still the item below", "a cell", "another. cell"])
+
+    def test_sentences(self):
+        counts = [len(it) for it in sentences_of(pieces_of(self.PAGE)[1])]
+        self.assertEqual(counts, [3, 6, 1])
 
 
 class Configuration(unittest.TestCase):
@@ -172,7 +321,8 @@ class Calls(unittest.TestCase):
         cls.words = set(re.findall(r"\w+", " ".join(sources))) | {it.stem for it in CRATES.glob("*/proofs/**/*.antt")}
 
     def test_names_are_there(self):
-        for page in (TOP / "README.md", *(TOP / "docs" / f"{it}.md" for it in ("ARCHITECTURE", "DECISIONS", "DEFINITIONS", "PROOFS"))):
+        pages = ("ARCHITECTURE", "DECISIONS", "DEFINITIONS", "GUARANTEES", "PROOFS", "TOOLCHAIN")
+        for page in (TOP / "README.md", *(TOP / "docs" / f"{it}.md" for it in pages)):
             text = re.sub(r"(?ms)^```.*?^```", "", text_of(page))
             for name in re.findall(r"`([A-Za-z_][\w:]*)`", text):
                 for part in name.split("::"):
@@ -219,8 +369,8 @@ class Requirements(unittest.TestCase):
         self.assertEqual(sorted(told), self.routes)
 
 
-# What documents name that is in no source: the end of the names of test crates, what was looked at and not taken, a state of Airflow.
-FOREIGN = {"_tests", "Tape", "restarting"}
+# What documents name that is in no source: the ends of the names of crates of tests and of worked examples, and what was not taken.
+FOREIGN = {"_tests", "_by_the_rule", "Tape"}
 
 
 if __name__ == "__main__":
