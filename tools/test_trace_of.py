@@ -28,7 +28,6 @@ NOBODY = '{"detail":"authentication required","status":401,"title":"Unauthorized
 GONE = '{"detail":"no such path","status":404,"title":"Not Found","type":"about:blank"}'
 BAD_HEAD = '{"detail":"bad request head","status":400,"title":"Bad Request","type":"about:blank"}'
 NO_MEMORY = '{"detail":"out of memory","status":503,"title":"Service Unavailable","type":"about:blank"}'
-LOST = '{"detail":"done, reply lost","status":500,"title":"Internal Server Error","type":"about:blank"}'
 VERSION = '{"git_version":null,"version":"afplane 1"}'
 TASKS = '{"tasks":[],"total_entries":0}'
 
@@ -216,8 +215,6 @@ class Ends(Case):
         rest = asked("PATCH /api/v1/dags/b", "a", "{}") + begun
         said = "request 2 found no memory: nothing was done, and the connection ended"
         self.gives([self.ME], begun + rest, ok + told(503, NO_MEMORY, more=CLOSE), said)
-        said = "request 2 found no memory: what it changed is not in the trace, and the connection ended"
-        self.gives([self.ME], begun + rest, ok + told(500, LOST, more=CLOSE), said)
 
     def test_fewer_answers(self):
         said = "there is no answer to request 2, and to what stands behind it"

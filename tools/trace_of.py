@@ -64,7 +64,7 @@ POLICY = {
     "/own/me": "GET",
     "/own/dags/{dag_id}/sync": "POST",
 }
-OUT_OF_MEMORY, REPLY_LOST = "out of memory", "done, reply lost"
+OUT_OF_MEMORY = "out of memory"
 
 
 class Unusable(Exception):
@@ -192,9 +192,8 @@ def trace_of(now, requests, answers, tell):
             raise Unusable(f"there are more answers than requests: no request stands for that at byte {read}")
         answer = Answer(answers, read, request.method == b"HEAD")
         at, read = request.end, answer.end
-        if answer.says(OUT_OF_MEMORY) or answer.says(REPLY_LOST):
-            what = "nothing was done" if answer.says(OUT_OF_MEMORY) else "what it changed is not in the trace"
-            tell(f"request {number} found no memory: {what}, and the connection ended")
+        if answer.says(OUT_OF_MEMORY):
+            tell(f"request {number} found no memory: nothing was done, and the connection ended")
             break
         if answer.closes and answer.version is None and answer.status in (400, 413, 431, 501):
             # A head that was not read whole has no method, so what looks like a HEAD is answered with a body then.
