@@ -50,7 +50,6 @@ pub told_refused : (asked : PolicyOp) (versions : VersionRows) (token : Option (
 told_refused asked versions token why (served.Shown shown) is told =
     shown_so (policy_verdict versions token asked) (refusal_problem asked why) versions shown (refused_so asked versions token why is) told
 told_refused asked versions token why served.NothingDone is told = refl
-told_refused asked versions token why served.ReplyLost is told = absurd told
 
 -- what was made is what the definition says
 pub made_ok : {X E : Type 0} (told : Result X E) (x : X) → told ≡ Ok x → IsOk told
