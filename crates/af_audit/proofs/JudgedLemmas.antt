@@ -38,7 +38,6 @@ none_some same = cc
 without_memory : (asked : Op) (it : Verdict) (old : StandingRows) (gave : Served) (new : StandingRows) → IsServed asked (Refuses OutOfMemory) old gave new → IsServed asked it old gave new
 without_memory asked it old (served.Shown shown) new is = absurd (none_some is.0)
 without_memory asked it old served.NothingDone new is = is
-without_memory asked it old served.ReplyLost new is = absurd is.0
 
 -- what is served of a fault is served of its verdict
 pub served_fault : (asked : Op) (it : Verdict) (old : StandingRows) (fault : CallFault) (gave : Served) → (it ≡ fault_verdict fault) ⊎ (IsDoing asked it × (fault ≡ why.Op OutOfMemory)) → IsServed asked (fault_verdict fault) old gave old → IsServed asked it old gave old

@@ -30,7 +30,6 @@ kept_by (Changes reply next) standing none = absurd (none tt)
 pub served_none : (asked : Op) (it : Verdict) (old new : StandingRows) (gave : Served) → IsServed asked it old gave new → (IsChange it → ⊥) → new ≡ old
 served_none asked it old new (served.Shown shown) is none = is.1 ∙ kept_by it old none
 served_none asked it old new served.NothingDone is none = is
-served_none asked it old new served.ReplyLost is none = absurd (none is.0)
 
 -- ---- one entry is one more
 

@@ -190,9 +190,7 @@ module _ {S : Type 0} (answers : S → Option (List ℕ) → Call → Served →
       let both = one old a.token that.wanted x.0 y.0 s t m k (subst P same this.read) that.read x.2 y.2 in
       (ap (λ t. reply.Served (served.Shown t)) both.0, both.1)
   makes_one old a (reply.Served (served.Shown s)) (reply.Served served.NothingDone) m k wx wy x y = cc
-  makes_one old a (reply.Served (served.Shown s)) (reply.Served served.ReplyLost) m k wx wy x y = cc
   makes_one old a (reply.Served served.NothingDone) (reply.Served t) m k wx wy x y = cc
-  makes_one old a (reply.Served served.ReplyLost) (reply.Served t) m k wx wy x y = cc
 
   -- a run that ends for its text wanted no memory
   next_fine : (n : ℕ) (x : Exchange) (xs : List Exchange) (rest closing : List ℕ) (e : Ended) → IsByText e → Next n x xs rest closing e → wants_memory x.reply ≡ false

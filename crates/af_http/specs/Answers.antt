@@ -99,12 +99,9 @@ problem_body s detail = compact_text (fault_data s detail)
 abbrev pub problem : Status → Option Methods → List ℕ → Told
 problem s allow detail = record { status = s; allow = allow; version = None; seq = None; body = Some (problem_body s detail) }
 
--- out of memory, with nothing done, and with the change done and no memory for its reply: fixed texts, after which the connection closes
+-- out of memory, with nothing done: a fixed text, after which the connection closes
 unfoldable pub memory_text : List ℕ
 memory_text = answer_text (problem status.Unavailable None (codes "out of memory")) false true
-
-unfoldable pub lost_text : List ℕ
-lost_text = answer_text (problem status.InternalError None (codes "done, reply lost")) false true
 
 -- the same answer, where its body lies in memory
 abbrev pub told : Answer → Told

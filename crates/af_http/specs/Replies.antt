@@ -4,7 +4,7 @@ use Rattle.af_ops.specs.declared.served.Served.TheVariants as served
 use Rattle.af_ops.specs.declared.shown_answer.Shown.{Shown}
 use Rattle.af_ops.specs.declared.status.Status.{Status}
 use Rattle.af_ops.specs.declared.status.Status.TheVariants as status
-use Rattle.af_http.specs.Answers.{Told, problem, answer_text, memory_text, lost_text}
+use Rattle.af_http.specs.Answers.{Told, problem, answer_text, memory_text}
 use Rattle.af_http.specs.declared.route_fault.RouteFault.TheVariants as fault
 use Rattle.af_http.specs.declared.reply.Reply.{Reply}
 use Rattle.af_http.specs.declared.reply.Reply.TheVariants as reply
@@ -28,7 +28,6 @@ reply_text (reply.Fault (fault.BadMethod allow)) head_only closes =
 reply_text (reply.Fault fault.OutOfMemory) head_only closes = memory_text
 reply_text (reply.Served (served.Shown shown)) head_only closes = answer_text (told_by shown) head_only closes
 reply_text (reply.Served served.NothingDone) head_only closes = memory_text
-reply_text (reply.Served served.ReplyLost) head_only closes = lost_text
 
 -- it tells out of memory
 abbrev pub wants_memory : Reply → Bool
@@ -37,4 +36,3 @@ wants_memory (reply.Fault (fault.BadMethod allow)) = false
 wants_memory (reply.Fault fault.OutOfMemory) = true
 wants_memory (reply.Served (served.Shown shown)) = false
 wants_memory (reply.Served served.NothingDone) = true
-wants_memory (reply.Served served.ReplyLost) = true

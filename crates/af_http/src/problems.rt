@@ -1,6 +1,6 @@
 ghost use Rattle.std.specs.Prelude.{◌≡◌, ◌<◌, codes, Some, length};
 ghost use Rattle.af_ops.specs.declared.status.Status.TheVariants as status;
-ghost use Rattle.af_http.specs.Answers.{problem_body, memory_text, lost_text};
+ghost use Rattle.af_http.specs.Answers.{problem_body, memory_text};
 ghost use Rattle.af_http.specs.Reading.{status_of, detail_of, leaves_out};
 
 use crate::refusal::Refusal;
@@ -65,18 +65,10 @@ pub fn bad_method_body() -> &'static [u8]
     b"{\"detail\":\"method not allowed\",\"status\":405,\"title\":\"Method Not Allowed\",\"type\":\"about:blank\"}"
 }
 
-/// The whole text for lack of memory, with nothing done.
+/// The whole text of an answer for which there was no memory; nothing was done.
 pub fn memory_text() -> &'static [u8]
     ensures text { result.now ≡ memory_text }
     ensures some { 0 < length result.now }
 {
     b"HTTP/1.1 503 Service Unavailable\r\nContent-Type: application/problem+json\r\nContent-Length: 90\r\nConnection: close\r\n\r\n{\"detail\":\"out of memory\",\"status\":503,\"title\":\"Service Unavailable\",\"type\":\"about:blank\"}"
-}
-
-/// The whole text for lack of memory, with the change done and its reply lost.
-pub fn lost_text() -> &'static [u8]
-    ensures text { result.now ≡ lost_text }
-    ensures some { 0 < length result.now }
-{
-    b"HTTP/1.1 500 Internal Server Error\r\nContent-Type: application/problem+json\r\nContent-Length: 95\r\nConnection: close\r\n\r\n{\"detail\":\"done, reply lost\",\"status\":500,\"title\":\"Internal Server Error\",\"type\":\"about:blank\"}"
 }

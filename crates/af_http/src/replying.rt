@@ -11,7 +11,7 @@ use crate::answer::Answer;
 use crate::answering::put_answer;
 use crate::ended::Ended;
 use crate::outgoing::Outgoing;
-use crate::problems::{bad_method_body, lost_text, memory_text, no_path_body};
+use crate::problems::{bad_method_body, memory_text, no_path_body};
 use crate::refusal::Refusal;
 use crate::reply::Reply;
 use crate::route_fault::RouteFault;
@@ -100,7 +100,6 @@ fn put_served<W: Sink>(
             put_answer(writer, outgoing, &told_by(shown), head_only, closes);
         }
         Served::NothingDone => outgoing.begin(writer, memory_text()),
-        Served::ReplyLost => outgoing.begin(writer, lost_text()),
     }
 }
 

@@ -15,7 +15,7 @@ mod PlainLemmas
 mod PolicyLawLemmas
 mod PolicyRefusalLemmas
 mod PoolLemmas
-mod ReadingLemmas
+pub mod ReadingLemmas
 mod RowLawLemmas
 mod RunLemmas
 mod SeenTakingLemmas

@@ -50,10 +50,8 @@ pub told_refused : (asked : PolicyOp) (versions : VersionRows) (token : Option (
 told_refused asked versions token why (served.Shown shown) is told =
     shown_so (policy_verdict versions token asked) (refusal_problem asked why) versions shown (refused_so asked versions token why is) told
 told_refused asked versions token why served.NothingDone is told = refl
-told_refused asked versions token why served.ReplyLost is told = absurd told
 
 -- what was made is what the definition says
-pub made_ok : {X E : Type 0} (told : Result X E) (x : X) (fault : E) → (Ok x ≡ told) ⊎ (Ok x ≡ Err fault) → IsOk told
-made_ok (Ok y) x fault is = refl
-made_ok (Err why) x fault (inl is) = cc
-made_ok (Err why) x fault (inr is) = cc
+pub made_ok : {X E : Type 0} (told : Result X E) (x : X) → told ≡ Ok x → IsOk told
+made_ok (Ok y) x is = refl
+made_ok (Err why) x is = cc

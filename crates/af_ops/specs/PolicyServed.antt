@@ -34,11 +34,10 @@ versions_after (Refuses problem) versions = versions
 versions_after (Tells reply) versions = versions
 versions_after (Publishes reply policy) versions = with_version versions policy
 
--- A verdict was served: told, and the version that it makes is made; or there was no memory, and nothing is done. No reply is lost.
+-- A verdict was served: told, and the version that it makes is made; or there was no memory, and nothing is done.
 abbrev pub IsVerdictServed : PolicyVerdict → VersionRows → Served → VersionRows → Type 0
 IsVerdictServed it old (served.Shown shown) new = (told_of (current old) it ≡ Some shown) × (new ≡ versions_after it old)
 IsVerdictServed it old served.NothingDone new = new ≡ old
-IsVerdictServed it old served.ReplyLost new = ⊥
 
 -- what the bearer of a token asks of the policy was served
 abbrev pub IsPolicyServed : PolicyOp → VersionRows → Option (List ℕ) → Served → VersionRows → Type 0

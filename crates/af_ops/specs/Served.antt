@@ -66,9 +66,7 @@ IsChange (Refuses fault) = ⊥
 IsChange (Tells reply) = ⊥
 IsChange (Changes reply next) = ⊤
 
--- The verdict was served: told, and all that it changes is done; or there was no memory, and nothing is done; or a change is
--- done, and there was no memory for its reply.
+-- The verdict was served: told, and all that it changes is done; or there was no memory, and nothing is done.
 abbrev pub IsServed : Op → Verdict → StandingRows → Served → StandingRows → Type 0
 IsServed asked it old (served.Shown shown) new = (answer_of asked old.under it ≡ Some shown) × (new ≡ left_by it old)
 IsServed asked it old served.NothingDone new = new ≡ old
-IsServed asked it old served.ReplyLost new = IsChange it × (new ≡ left_by it old)

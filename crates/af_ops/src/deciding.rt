@@ -1,13 +1,11 @@
 ghost use Rattle.std.specs.Prelude.{◌≡◌, ◌<◌, ◌≤◌, ◌↔◌, ℕ, List, Bool, false, true, Err, IfErr, IfOk, Ok, if◌then◌else◌};
-ghost use Rattle.std.specs.Option.{option_copied};
-ghost use Rattle.af_policy.specs.Identity.{bearer_of};
 ghost use Rattle.af_policy.specs.Views.{held};
 ghost use Rattle.af_ops.specs.declared.answer.CallFault.{CallFault};
 ghost use Rattle.af_ops.specs.declared.answer.OpFault.TheVariants.{HistoryFull, OutOfMemory};
 ghost use Rattle.af_ops.specs.Decisions.{ChangesWhereDone, IsDecided, chooses};
 ghost use Rattle.af_ops.specs.Edits.{is_edit};
 ghost use Rattle.af_ops.specs.Prepared.{CanDo, IsExact, MemoryLast};
-ghost use Rattle.af_ops.specs.Verdicts.{done, granted_verdict, judged};
+ghost use Rattle.af_ops.specs.Verdicts.{done, granted_verdict};
 ghost use Rattle.af_ops.specs.Effects.{effect_of, paused_dag, run_marked};
 
 use crate::answer::{CallFault, OpFault, Under};
@@ -19,40 +17,14 @@ use crate::prepared::Prepared;
 use crate::preparing::prepare;
 use crate::table::needs_for;
 use af_names::{DagId, Instant, RunId};
-use af_policy::{Policy, PolicyView, Reader};
+use af_policy::{PolicyView, Reader};
 use af_runs::Mark;
 use af_sched::State;
 use std::alloc::Global;
 
-/// Decides an operation that is not open, under a policy, and works out what it does, with all the memory for that. It changes
-/// nothing but that spare room may grow. A change is refused where there are as many entries as the limit. Out of memory is
-/// told only of an operation that is permitted and not refused.
-pub fn decide(
-    alloc: Global,
-    policy: &Policy,
-    state: &mut State,
-    under: Under,
-    limit: u32,
-    token: Option<&[u8]>,
-    op: &Op,
-    now: Instant,
-) -> Result<Prepared, CallFault>
-    ensures verdict { IsDecided op.now state.old.rows (judged limit policy.now (record { under = under; state = state.old.rows }) op.now now (bearer_of policy.now (option_copied token.entry))) result }
-    ensures room { IfOk result (λ prepared. CanDo state.new prepared.edit) }
-    ensures exact { IfOk result (λ prepared. IsExact state.old.rows prepared.edit) }
-    ensures entries { IfOk result (λ prepared. is_edit prepared.edit ≡ true → under.seq < limit) }
-    ensures rows { state.new.rows ≡ state.old.rows }
-{
-    match policy.bearer(token) {
-        Some(user) => {
-            let view = policy.view(user);
-            decide_for(alloc, &view, state, under, limit, op, now)
-        }
-        None => Err(CallFault::Unauthenticated),
-    }
-}
-
-/// Decides what a user asks whom a policy grants this, as `decide` does.
+/// Decides what a user asks whom a policy grants this, an operation that is not open, and works out what it does, with all the memory for
+/// that. It changes nothing but that spare room may grow. A change is refused where there are as many entries as the limit. Out of memory
+/// is told only of an operation that is permitted and not refused.
 pub fn decide_for(
     alloc: Global,
     view: &PolicyView<'_>,

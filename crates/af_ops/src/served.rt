@@ -7,6 +7,4 @@ pub enum Served {
     Shown(Shown),
     /// There was no memory, and nothing was done.
     NothingDone,
-    /// The change is done, and there was no memory for its reply.
-    ReplyLost,
 }

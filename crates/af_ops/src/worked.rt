@@ -110,7 +110,6 @@ pub fn routes_by_the_rule()
 
 /// Bodies of faults, and the numbers of the statuses.
 pub fn faults_by_the_rule()
-    ensures lost { compact_text (fault_data status.InternalError (codes "done, reply lost")) ≡ codes "{\"detail\":\"done, reply lost\",\"status\":500,\"title\":\"Internal Server Error\",\"type\":\"about:blank\"}" }
     ensures memory { compact_text (fault_data status.Unavailable (codes "out of memory")) ≡ codes "{\"detail\":\"out of memory\",\"status\":503,\"title\":\"Service Unavailable\",\"type\":\"about:blank\"}" }
     ensures cut_off { compact_text (fault_data status.BadRequest (codes "incomplete request")) ≡ codes "{\"detail\":\"incomplete request\",\"status\":400,\"title\":\"Bad Request\",\"type\":\"about:blank\"}" }
     ensures numbers { map code_of (status.Ok ∷ status.NoContent ∷ status.BadRequest ∷ status.Unauthorized ∷ status.Forbidden ∷ status.NotFound ∷ status.MethodNotAllowed ∷ status.Conflict ∷ status.ContentTooLarge ∷ status.HeadTooLarge ∷ status.InternalError ∷ status.NotImplemented ∷ status.Unavailable ∷ status.InsufficientStorage ∷ []) ≡ 200 ∷ 204 ∷ 400 ∷ 401 ∷ 403 ∷ 404 ∷ 405 ∷ 409 ∷ 413 ∷ 431 ∷ 500 ∷ 501 ∷ 503 ∷ 507 ∷ [] }

@@ -1,5 +1,5 @@
 -- What the plane makes of a call is an act of the world.
-use Rattle.std.proofs.Common.{◌≡◌, ◌≢◌, ◌∙◌, refl, sym, ap, subst, ℕ, List, Bool, true, false, not, ◌&&◌}
+use Rattle.std.proofs.Common.{◌≡◌, ◌∙◌, refl, sym, ap, subst, ℕ, List, Bool, true, false, not, ◌&&◌}
 use Rattle.std.specs.Prelude.{Option, Some, None, Result, Ok, Err, slice_get, if◌then◌else◌}
 use Rattle.af_listing.specs.Windows.{Cut}
 use Rattle.af_policy.specs.declared.bad_input.Parameter.{Parameter}
@@ -39,11 +39,10 @@ open_left policy ledger token asked t opens =
     ap (λ (b : Bool). ledger_left (bearer_of policy token) asked t ledger (if b then opened (effect_of (λ dag. false) ledger.state asked t) else judged ledger.audit.limit policy (standing_of ledger) asked t (bearer_of policy token))) opens
     ∙ opened_left (bearer_of policy token) asked t ledger (effect_of (λ dag. false) ledger.state asked t)
 
-pub open_stays : (policy : PolicyRows) (old new : LedgerRows) (token : Option (List ℕ)) (asked : Op) (t : ℕ) (gave : Served) → is_open (endpoint_of asked) ≡ true → gave ≢ served.ReplyLost → IsServed asked (verdict_on policy old token asked t) (standing_of old) gave (standing_of new) → MayEnter (bearer_of policy token) asked t old new → new ≡ old
-open_stays policy old new token asked t (served.Shown shown) opens kept is entry =
+pub open_stays : (policy : PolicyRows) (old new : LedgerRows) (token : Option (List ℕ)) (asked : Op) (t : ℕ) (gave : Served) → is_open (endpoint_of asked) ≡ true → IsServed asked (verdict_on policy old token asked t) (standing_of old) gave (standing_of new) → MayEnter (bearer_of policy token) asked t old new → new ≡ old
+open_stays policy old new token asked t (served.Shown shown) opens is entry =
     leave_one policy token asked t old new shown is entry ∙ open_left policy old token asked t opens
-open_stays policy old new token asked t served.NothingDone opens kept is entry = nothing_done policy token asked t old new is entry
-open_stays policy old new token asked t served.ReplyLost opens kept is entry = absurd (kept refl)
+open_stays policy old new token asked t served.NothingDone opens is entry = nothing_done policy token asked t old new is entry
 
 -- ---- what is an act
 
@@ -64,25 +63,22 @@ module _ (versions : VersionRows) (old : LedgerRows) (token : Option (List ℕ))
       ∙ ap (listed w session token window) known
       ∙ ap (λ (answer : Option Shown). move_of answer (sees_entries (over versions old None sessions) session)) told)
 
-  pub serves_op : (new : LedgerRows) (asked : Op) (gave : Served) → is_open (endpoint_of asked) ≡ false → gave ≢ served.ReplyLost → IsServed asked (verdict_on policy old token asked t) (standing_of old) gave (standing_of new) → MayEnter (bearer_of policy token) asked t old new → ServesAct versions old token (call.State asked) t gave new
-  serves_op new asked (served.Shown shown) closed kept is entry =
+  pub serves_op : (new : LedgerRows) (asked : Op) (gave : Served) → is_open (endpoint_of asked) ≡ false → IsServed asked (verdict_on policy old token asked t) (standing_of old) gave (standing_of new) → MayEnter (bearer_of policy token) asked t old new → ServesAct versions old token (call.State asked) t gave new
+  serves_op new asked (served.Shown shown) closed is entry =
       told_op new asked shown closed is.0 (leave_one policy token asked t old new shown is entry)
-  serves_op new asked served.NothingDone closed kept is entry = nothing_done policy token asked t old new is entry
-  serves_op new asked served.ReplyLost closed kept is entry = absurd (kept refl)
+  serves_op new asked served.NothingDone closed is entry = nothing_done policy token asked t old new is entry
 
-  pub serves_logs : (new : LedgerRows) (window : Result Cut Parameter) (gave : Served) → gave ≢ served.ReplyLost → IsServed nameless (entries_verdict policy old token window) (standing_of old) gave (standing_of old) → new ≡ old → ServesAct versions old token (call.Entries window) t gave new
-  serves_logs new window (served.Shown shown) kept is same =
+  pub serves_logs : (new : LedgerRows) (window : Result Cut Parameter) (gave : Served) → IsServed nameless (entries_verdict policy old token window) (standing_of old) gave (standing_of old) → new ≡ old → ServesAct versions old token (call.Entries window) t gave new
+  serves_logs new window (served.Shown shown) is same =
       subst (ActIn versions old token (call.Entries window) t shown) (sym same) (told_logs window shown is.0)
-  serves_logs new window served.NothingDone kept is same = same
-  serves_logs new window served.ReplyLost kept is same = absurd (kept refl)
+  serves_logs new window served.NothingDone is same = same
 
-  pub apply_is : (new : LedgerRows) (asked : Call) (gave : Option Served) → gave ≢ Some served.ReplyLost → Applies policy old token asked t gave new → ApplyIs versions old token asked t gave new
-  apply_is new (call.State asked) (Some gave) kept is =
-      let here : gave ≢ served.ReplyLost = λ e. kept (ap (λ (g : Served). Some g) e) in
-      (λ closed. serves_op new asked gave closed here is.0 is.1, λ opens. open_stays policy old new token asked t gave opens here is.0 is.1)
-  apply_is new (call.Entries window) (Some gave) kept is =
-      serves_logs new window gave (λ e. kept (ap (λ (g : Served). Some g) e)) is.0 is.1
-  apply_is new (call.Policy asked) (Some gave) kept is = absurd is
-  apply_is new (call.State asked) None kept is = absurd is
-  apply_is new (call.Entries window) None kept is = absurd is
-  apply_is new (call.Policy asked) None kept is = is
+  pub apply_is : (new : LedgerRows) (asked : Call) (gave : Option Served) → Applies policy old token asked t gave new → ApplyIs versions old token asked t gave new
+  apply_is new (call.State asked) (Some gave) is =
+      (λ closed. serves_op new asked gave closed is.0 is.1, λ opens. open_stays policy old new token asked t gave opens is.0 is.1)
+  apply_is new (call.Entries window) (Some gave) is =
+      serves_logs new window gave is.0 is.1
+  apply_is new (call.Policy asked) (Some gave) is = absurd is
+  apply_is new (call.State asked) None is = absurd is
+  apply_is new (call.Entries window) None is = absurd is
+  apply_is new (call.Policy asked) None is = is

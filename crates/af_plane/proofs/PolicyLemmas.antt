@@ -123,4 +123,3 @@ module _ (old new : SoloRows) (token : Option (List ℕ)) (state : IsState new.l
   pub administers : (asked : PolicyOp) (gave : Served) → IsPolicyServed asked old.versions token gave new.versions → Administers old token asked gave new
   administers asked (served.Shown shown) is = told_policy asked shown is.0 is.1
   administers asked served.NothingDone is = same_but_versions old new old.versions is same
-  administers asked served.ReplyLost is = absurd is

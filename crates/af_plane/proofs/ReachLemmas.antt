@@ -47,12 +47,10 @@ module _ (opening : OpeningRows) (old new : SoloRows) (reached : IsReached openi
   reach_act : (token : Option (List ℕ)) (asked : Call) (t : ℕ) (gave : Served) → LooksAndActs old token asked t gave new → IsReached opening new
   reach_act token asked t (served.Shown shown) runs = reach_runs (step.Look 0 ∷ step.Act 0 token asked t ∷ []) (None ∷ Some shown ∷ []) runs
   reach_act token asked t served.NothingDone runs = reach_runs (step.Look 0 ∷ []) (None ∷ []) runs
-  reach_act token asked t served.ReplyLost none = absurd none
 
   reach_policy : (token : Option (List ℕ)) (asked : PolicyOp) (gave : Served) → Administers old token asked gave new → IsReached opening new
   reach_policy token asked (served.Shown shown) runs = reach_runs (policy_step old token asked ∷ []) (Some shown ∷ []) runs
   reach_policy token asked served.NothingDone same = reach_same same
-  reach_policy token asked served.ReplyLost none = absurd none
 
   by_open : (token : Option (List ℕ)) (asked : Op) (t : ℕ) (gave : Served) (b : Bool) → is_open (endpoint_of asked) ≡ b → AreSteps old token (call.State asked) t gave new → IsReached opening new
   by_open token asked t gave true is steps = reach_same (steps.1 is)

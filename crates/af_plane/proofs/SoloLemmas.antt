@@ -1,5 +1,5 @@
 -- What a server for one thread answers is a run of its world.
-use Rattle.std.proofs.Common.{◌≡◌, ◌≢◌, ◌∙◌, refl, sym, ap, subst, ℕ, List, [], ◌∷◌, Bool, true, false, length, arith}
+use Rattle.std.proofs.Common.{◌≡◌, ◌∙◌, refl, sym, ap, subst, ℕ, List, [], ◌∷◌, Bool, true, false, length, arith}
 use Rattle.std.specs.Prelude.{Option, Some, None, max, slice_get, if◌then◌else◌}
 use Rattle.af_policy.specs.Identity.{bearer_of}
 use Rattle.af_policy.specs.Versions.{VersionRows, all_versions}
@@ -64,7 +64,6 @@ module _ (old : SoloRows) (token : Option (List ℕ)) (asked : Call) (t : ℕ) (
           ap (λ (l : LedgerRows). world_of (record old { ledger = l }) (Some 0)) same,
         ),
       )
-  run_of new served.ReplyLost left none = none
 
   pub looks_and_acts : (new : SoloRows) (gave : Served) → new.versions ≡ old.versions → IsState new.ledger.state → ServesAct old.versions (looked old) token asked t gave new.ledger → LooksAndActs old token asked t gave new
   looks_and_acts new gave same left acts =
@@ -72,7 +71,7 @@ module _ (old : SoloRows) (token : Option (List ℕ)) (asked : Call) (t : ℕ) (
 
 -- ---- by the kind of the call
 
-module _ (old new : SoloRows) (token : Option (List ℕ)) (t : ℕ) (gave : Served) (kept : gave ≢ served.ReplyLost) (state : IsState old.ledger.state) (left : IsState new.ledger.state) where
+module _ (old new : SoloRows) (token : Option (List ℕ)) (t : ℕ) (gave : Served) (state : IsState old.ledger.state) (left : IsState new.ledger.state) where
   -- what is decided on this ledger
   abbrev DecidedOn : Op → LedgerRows → Type 0
   DecidedOn asked ledger =
@@ -86,18 +85,18 @@ module _ (old new : SoloRows) (token : Option (List ℕ)) (t : ℕ) (gave : Serv
   state_steps asked decided = (
     λ closed. let on = on_ledger asked false closed decided in
         looks_and_acts old token (call.State asked) t state new gave decided.2 left
-        (serves_op old.versions (looked old) token t old.versions.latest (latest_is old) new.ledger asked gave closed kept on.0 on.1),
+        (serves_op old.versions (looked old) token t old.versions.latest (latest_is old) new.ledger asked gave closed on.0 on.1),
     λ opens. let on = on_ledger asked true opens decided in
         ap (λ (v : VersionRows). record { versions = v; ledger = new.ledger }) decided.2
-        ∙ ap (λ (l : LedgerRows). record { versions = old.versions; ledger = l }) (open_stays old.versions.latest old.ledger new.ledger token asked t gave opens kept on.0 on.1),
+        ∙ ap (λ (l : LedgerRows). record { versions = old.versions; ledger = l }) (open_stays old.versions.latest old.ledger new.ledger token asked t gave opens on.0 on.1),
   )
 
   are_steps : (asked : Call) → IsDecided old token asked t gave new → AreSteps old token asked t gave new
   are_steps (call.State asked) decided = state_steps asked decided
   are_steps (call.Entries window) decided =
       looks_and_acts old token (call.Entries window) t state new gave decided.2 left
-      (serves_logs old.versions (looked old) token t old.versions.latest (latest_is old) new.ledger window gave kept decided.0 decided.1)
+      (serves_logs old.versions (looked old) token t old.versions.latest (latest_is old) new.ledger window gave decided.0 decided.1)
   are_steps (call.Policy asked) decided = administers old new token left decided.1 asked gave decided.0
 
   pub is_answered : (asked : Call) → IsDecided old token asked t gave new → IsAnswered old token asked t gave new
-  is_answered asked decided = record { decided = decided; steps = are_steps asked decided; kept = kept }
+  is_answered asked decided = record { decided = decided; steps = are_steps asked decided }

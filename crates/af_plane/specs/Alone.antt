@@ -1,6 +1,6 @@
 -- A server for one thread is a world of one session, which has seen all: what it answers to a call is a run of that world (this
 -- product's own rule).
-use Rattle.std.specs.Prelude.{◌≡◌, ◌≢◌, ℕ, List, [], ◌∷◌, true, false, Option, Some, None, length}
+use Rattle.std.specs.Prelude.{◌≡◌, ℕ, List, [], ◌∷◌, true, false, Option, Some, None, length}
 use Rattle.af_policy.specs.declared.ask.Ask.TheVariants.{Bad}
 use Rattle.af_policy.specs.declared.bad_input.BadInput.TheVariants as input
 use Rattle.af_ops.specs.declared.call.Call.{Call}
@@ -38,7 +38,6 @@ abbrev pub LooksAndActs : SoloRows → Option (List ℕ) → Call → ℕ → Se
 LooksAndActs old token asked t (served.Shown shown) new =
     Runs old (step.Look 0 ∷ step.Act 0 token asked t ∷ []) (None ∷ Some shown ∷ []) new
 LooksAndActs old token asked t served.NothingDone new = Runs old (step.Look 0 ∷ []) (None ∷ []) new
-LooksAndActs old token asked t served.ReplyLost new = ⊥
 
 -- The step of an operation on the policy: a change is handed in under the latest version. One whose body was not read, for want of
 -- memory, is answered only where it would be refused whatever its body is, so as one whose body is none.
@@ -52,7 +51,6 @@ policy_step solo token (asks.Unread kind) = step.Publish 0 (current solo.version
 abbrev pub Administers : SoloRows → Option (List ℕ) → PolicyOp → Served → SoloRows → Type 0
 Administers old token asked (served.Shown shown) new = Runs old (policy_step old token asked ∷ []) (Some shown ∷ []) new
 Administers old token asked served.NothingDone new = new ≡ old
-Administers old token asked served.ReplyLost new = ⊥
 
 -- by the kind of the call: an open operation is no step, and leaves all
 abbrev pub AreSteps : SoloRows → Option (List ℕ) → Call → ℕ → Served → SoloRows → Type 0
@@ -67,5 +65,3 @@ pub record IsAnswered (old : SoloRows) (token : Option (List ℕ)) (asked : Call
   pub decided : IsDecided old token asked t gave new
   -- that is a run of the world
   pub steps : AreSteps old token asked t gave new
-  -- no reply of a change is lost
-  pub kept : gave ≢ served.ReplyLost

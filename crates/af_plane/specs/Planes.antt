@@ -68,7 +68,6 @@ ActIn versions old token asked t shown new =
 abbrev pub ServesAct : VersionRows → LedgerRows → Option (List ℕ) → Call → ℕ → Served → LedgerRows → Type 0
 ServesAct versions old token asked t (served.Shown shown) new = ActIn versions old token asked t shown new
 ServesAct versions old token asked t served.NothingDone new = new ≡ old
-ServesAct versions old token asked t served.ReplyLost new = ⊥
 
 -- what an apply of a call came to; an open operation is decided under no policy, which is no step, and leaves the ledger
 abbrev pub ApplyIs : VersionRows → LedgerRows → Option (List ℕ) → Call → ℕ → Option Served → LedgerRows → Type 0

@@ -1,9 +1,8 @@
-ghost use Rattle.std.specs.Prelude.{◌≡◌, ◌≢◌, ◌≤◌, Some, length, slice_get};
+ghost use Rattle.std.specs.Prelude.{◌≡◌, ◌≤◌, Some, length, slice_get};
 ghost use Rattle.std.specs.Option.{option_copied};
 ghost use Rattle.af_policy.specs.Identity.{bearer_of};
 ghost use Rattle.af_policy.specs.Rows.{PolicyRows};
 ghost use Rattle.af_policy.specs.Versions.{all_versions};
-ghost use Rattle.af_ops.specs.declared.served.Served.TheVariants.{ReplyLost};
 ghost use Rattle.af_ops.specs.Served.{IsServed};
 ghost use Rattle.af_audit.specs.Acts.{IsState};
 ghost use Rattle.af_audit.specs.Answered.{MayEnter, standing_of, verdict_on};
@@ -80,7 +79,7 @@ impl Plane {
 
     /// Answers an operation on the state, or a request for event logs, of who holds the token, at a moment, under the policy of the version
     /// that was looked at; none where the call is an operation on the policy, which is not the plane's. Where the state changes there is one
-    /// entry, of that user. A full history is told before out of memory, and no reply is lost.
+    /// entry, of that user.
     pub fn apply(
         &mut self,
         alloc: Global,
@@ -94,7 +93,6 @@ impl Plane {
         requires known { version ≤ length versions.now.earlier }
         ensures applied { (policy : PolicyRows) → slice_get (all_versions versions.now) version ≡ Some policy → Applies policy self.old (option_copied token.entry) call.now now result self.new }
         ensures step { ApplyIs versions.now self.old (option_copied token.entry) call.now now result self.new }
-        ensures kept { result ≢ Some ReplyLost }
     {
         match versions.policy(version) {
             Some(policy) => self.decide(alloc, policy, token, call, now),
@@ -112,7 +110,6 @@ impl Plane {
         now: Instant,
     ) -> Option<Served>
         ensures applied { Applies policy.now self.old (option_copied token.entry) call.now now result self.new }
-        ensures kept { result ≢ Some ReplyLost }
     {
         match call {
             Call::State(op) => Some(self.answer(alloc, policy, token, op, now)),
@@ -132,7 +129,6 @@ impl Plane {
     ) -> Served
         ensures served { IsServed op.now (verdict_on policy.now self.old (option_copied token.entry) op.now now) (standing_of self.old) result (standing_of self.new) }
         ensures entry { MayEnter (bearer_of policy.now (option_copied token.entry)) op.now now self.old self.new }
-        ensures kept { result ≢ ReplyLost }
     {
         self.ledger.answer(alloc, policy, token, op, now)
     }
@@ -146,7 +142,6 @@ impl Plane {
         asked: &Result<Window, Parameter>,
     ) -> Served
         ensures served { IsServed nameless (entries_verdict policy.now self.now (option_copied token.entry) asked.now) (standing_of self.now) result (standing_of self.now) }
-        ensures kept { result ≢ ReplyLost }
     {
         self.ledger.entries(alloc, policy, token, asked)
     }

@@ -1,6 +1,5 @@
-ghost use Rattle.std.specs.Prelude.{◌≡◌, ◌≢◌};
+ghost use Rattle.std.specs.Prelude.{◌≡◌};
 ghost use Rattle.std.specs.Option.{option_copied};
-ghost use Rattle.af_ops.specs.declared.served.Served.TheVariants.{ReplyLost};
 ghost use Rattle.af_plane.specs.Alone.{IsAnswered};
 ghost use Rattle.af_plane.specs.Solos.{IsDecided, IsSolo, OnEntries, OnPolicy, OnState, alone, looked, opened};
 
@@ -94,7 +93,6 @@ impl Solo {
     /// Decides a call, by its kind.
     fn decide(&mut self, alloc: Global, token: Option<&[u8]>, call: &Call, now: Instant) -> Served
         ensures decided { IsDecided self.old (option_copied token.entry) call.now now result self.new }
-        ensures kept { result ≢ ReplyLost }
     {
         match call {
             Call::State(op) => self.operate(alloc, token, op, now),
@@ -113,7 +111,6 @@ impl Solo {
     /// Answers an operation on the state. One that is open looks at no version.
     fn operate(&mut self, alloc: Global, token: Option<&[u8]>, op: &Op, now: Instant) -> Served
         ensures decided { OnState self.old (option_copied token.entry) op.now now result self.new }
-        ensures kept { result ≢ ReplyLost }
     {
         if !route_of(op.endpoint()).is_open {
             self.look();
@@ -130,7 +127,6 @@ impl Solo {
         asked: &Result<Window, Parameter>,
     ) -> Served
         ensures decided { OnEntries self.old (option_copied token.entry) asked.now result self.new }
-        ensures kept { result ≢ ReplyLost }
     {
         self.look();
         self.plane
@@ -140,7 +136,6 @@ impl Solo {
     /// Answers an operation on the policy.
     fn administer(&mut self, alloc: Global, token: Option<&[u8]>, asked: &PolicyOp) -> Served
         ensures decided { OnPolicy self.old (option_copied token.entry) asked.now result self.new }
-        ensures kept { result ≢ ReplyLost }
     {
         answer_policy(alloc, &mut self.versions, token, asked)
     }

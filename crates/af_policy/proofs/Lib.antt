@@ -14,6 +14,7 @@ pub mod SyncLemmas
 pub mod RoleLemmas
 pub mod PlaceLemmas
 pub mod GrantLemmas
+pub mod Threads
 pub mod VersionLemmas
 pub mod ShownLemmas
 pub mod LawLemmas

@@ -10,9 +10,10 @@ use Rattle.af_policy.specs.declared.change_kind.ChangeKind.{ChangeKind}
 use Rattle.af_policy.specs.declared.change_fault.ChangeFault.{ChangeFault}
 use Rattle.af_policy.specs.declared.change_fault.ChangeFault.TheVariants as change
 use Rattle.af_policy.specs.declared.ask.Ask.{Ask}
+use Rattle.af_policy.specs.declared.decision.Decision.{Decision}
 use Rattle.af_policy.specs.declared.ask.Ask.TheVariants.{Made, Bad}
 use Rattle.af_policy.specs.declared.submit_fault.SubmitFault.{SubmitFault}
-use Rattle.af_policy.specs.declared.submit_fault.SubmitFault.TheVariants.{Unauthenticated, Denied, BadBody, Refused, Full, OutOfMemory}
+use Rattle.af_policy.specs.declared.submit_fault.SubmitFault.TheVariants.{NotFound, Unauthenticated, Denied, BadBody, Refused, Full, OutOfMemory, Moved}
 
 abbrev pub asked_kind : Ask → ChangeKind
 asked_kind (Made change) = kind_of change
@@ -69,6 +70,26 @@ asked_wants policy ask (Some user) = unlacked_wants policy ask (missing policy u
 
 abbrev pub decided_wants : PolicyRows → Option (List ℕ) → Ask → Bool
 decided_wants policy token ask = asked_wants policy ask (bearer_of policy token)
+
+-- what a change that is asked for comes to where it is made: whose token it is; the change; that its author lacks nothing; and
+-- the policy that it makes
+pub record Decides (policy : PolicyRows) (token : Option (List ℕ)) (ask : Ask) (d : Decision) : Type 0 where
+  pub author : bearer_of policy token ≡ Some d.author
+  pub asked : ask ≡ Made d.change
+  pub lacks_nothing : missing policy d.author (needs_of (kind_of d.change)) None [] ≡ None
+  pub made : changed policy d.change ≡ Ok d.policy
+  pub decided : decided policy token ask ≡ Ok d.policy
+
+-- a fault of deciding: one that is told whatever other versions there are
+abbrev pub IsDecided : SubmitFault → Type 0
+IsDecided NotFound = ⊥
+IsDecided Unauthenticated = Unit {0}
+IsDecided (Denied need) = Unit {0}
+IsDecided (BadBody input) = Unit {0}
+IsDecided (Refused fault) = Unit {0}
+IsDecided Full = ⊥
+IsDecided OutOfMemory = Unit {0}
+IsDecided (Moved version) = ⊥
 
 -- a later policy follows one: some author, who lacks nothing under it for a change, makes that change
 pub record Follows (policy later : PolicyRows) : Type 0 where

@@ -6,7 +6,9 @@ ghost use Rattle.af_policy.specs.Changes.{changed};
 ghost use Rattle.af_policy.specs.declared.change.Change.{Change};
 ghost use Rattle.af_policy.specs.declared.ask.Ask.TheVariants.{Made};
 
-use crate::{Ask, Me, MeFault, Policy, PolicyRead, PolicyReply, ReadFault, SubmitFault, Told};
+use crate::{
+    Ask, Decision, Me, MeFault, Policy, PolicyRead, PolicyReply, ReadFault, SubmitFault, Told,
+};
 use af_names::{DagId, UserName};
 use std::alloc::{AllocError, Global};
 use std::marker::Model;
@@ -82,7 +84,7 @@ impl Versions {
         ensures ok { IfOk result (λ version. (self.new ≡ with_version self.old self.new.latest) × (version ≡ length self.new.earlier)) }
         ensures err { OnErr result (self.new ≡ self.old) }
     {
-        let policy = self.latest.decide(alloc, token, ask)?;
+        let Decision { policy, .. } = self.latest.decide(alloc, token, ask)?;
         if self.is_full() {
             return Err(SubmitFault::Full);
         }
@@ -158,55 +160,4 @@ fn push_copy(policies: &mut Vec<Policy>, policy: &Policy) -> Result<(), AllocErr
     let copy = policy.copy()?;
     policies.push(copy)?;
     Ok(())
-}
-
-impl Policy {
-    /// What a change that is asked for under this policy comes to: the next policy, or the first fault of `SubmitFault`.
-    pub fn decide(
-        &self,
-        alloc: Global,
-        token: Option<&[u8]>,
-        ask: &Ask,
-    ) -> Result<Policy, SubmitFault>
-        ensures told { (result ≡ decided self.now (option_copied token.entry) ask.now) ⊎ (result ≡ Err SubmitFault.OutOfMemory) }
-        ensures memory { result ≡ Err SubmitFault.OutOfMemory → decided_wants self.now (option_copied token.entry) ask.now ≡ true }
-        ensures follows { IfOk result (λ later. Follows self.now later) }
-    {
-        match self.bearer(token) {
-            Some(user) => self.decide_for(alloc, user, ask),
-            None => Err(SubmitFault::Unauthenticated),
-        }
-    }
-
-    /// What a change that a user asks for comes to.
-    fn decide_for(&self, alloc: Global, user: &UserName, ask: &Ask) -> Result<Policy, SubmitFault>
-        ensures told { (result ≡ asked_by self.now ask.now (Some user.now)) ⊎ (result ≡ Err SubmitFault.OutOfMemory) }
-        ensures memory { result ≡ Err SubmitFault.OutOfMemory → asked_wants self.now ask.now (Some user.now) ≡ true }
-        ensures follows { IfOk result (λ later. Follows self.now later) }
-    {
-        let dags: &[DagId] = &[];
-        match self.missing(user, ask.kind().needs(), None, dags) {
-            Some(need) => Err(SubmitFault::Denied(need)),
-            None => {
-                let later = self.permit(alloc, ask)?;
-                Ok(later)
-            }
-        }
-    }
-
-    /// What a change that is permitted comes to.
-    #[tactic(auto, using(crate::proofs::VersionLemmas::refused_memory))]
-    fn permit(&self, alloc: Global, ask: &Ask) -> Result<Policy, SubmitFault>
-        ensures told { (result ≡ permitted self.now ask.now) ⊎ (result ≡ Err SubmitFault.OutOfMemory) }
-        ensures memory { result ≡ Err SubmitFault.OutOfMemory → permitted_wants self.now ask.now ≡ true }
-        ensures makes { IfOk result (λ later. (change : Change) × (ask.now ≡ Made change) × (changed self.now change ≡ Ok later)) }
-    {
-        match ask {
-            Ask::Made(change) => {
-                let later = self.changed(alloc, change)?;
-                Ok(later)
-            }
-            Ask::Bad(_, input) => Err(SubmitFault::BadBody(*input)),
-        }
-    }
 }

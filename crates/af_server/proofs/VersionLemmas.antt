@@ -42,4 +42,3 @@ after (Publishes reply policy) old new is = subst (λ (v : VersionRows). IsOfVer
 pub policy_served : (asked : PolicyOp) (old : VersionRows) (token : Option (List ℕ)) (gave : Served) (new : VersionRows) → IsPolicyServed asked old token gave new → IsOfVersions old new
 policy_served asked old token (served.Shown shown) new is = after (policy_verdict old token asked) old new is.1
 policy_served asked old token served.NothingDone new is = same_versions old new is
-policy_served asked old token served.ReplyLost new is = absurd is

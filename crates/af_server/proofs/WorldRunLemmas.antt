@@ -42,12 +42,10 @@ module _ (old new : SoloRows) (token : Option (List ℕ)) (t : ℕ) where
   on_plane : (asked : Call) (gave : Served) → LooksAndActs old token asked t gave new → Leads old (turns_on_plane token asked t gave) new
   on_plane asked (served.Shown shown) runs = runs
   on_plane asked served.NothingDone runs = runs
-  on_plane asked served.ReplyLost none = absurd none
 
   on_policy : (asked : PolicyOp) (gave : Served) → Administers old token asked gave new → Leads old (turns_on_policy old token asked gave) new
   on_policy asked (served.Shown shown) runs = runs
   on_policy asked served.NothingDone same = no_turn same
-  on_policy asked served.ReplyLost none = absurd none
 
   by_open : (asked : Op) (gave : Served) (b : Bool) → is_open (endpoint_of asked) ≡ b → AreSteps old token (call.State asked) t gave new → Leads old (if b then [] else turns_on_plane token (call.State asked) t gave) new
   by_open asked gave true is steps = no_turn (steps.1 is)

@@ -24,8 +24,7 @@ opened configuration now = record { solo = solos.opened (opening_of configuratio
 abbrev pub first_policy : VersionRows → PolicyRows
 first_policy versions = first_of versions.earlier versions.latest
 
--- The call is decided where its data live, which is a run of the world of one session; no reply of a change is lost, and the
--- moment stays.
+-- The call is decided where its data live, which is a run of the world of one session; and the moment stays.
 abbrev pub Decides : DeskRows → Option (List ℕ) → Call → Served → DeskRows → Type 0
 Decides old token asked gave new = IsAnswered old.solo token asked old.now gave new.solo × (new.now ≡ old.now)
 

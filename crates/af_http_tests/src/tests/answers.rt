@@ -63,8 +63,5 @@ pub const BODY_TOO_LARGE_OF_HEAD: &str =
 pub const MEMORY: &str =
     "HTTP/1.1 503 Service Unavailable\r\nContent-Type: application/problem+json\r\nContent-Length: 90\r\nConnection: close\r\n\r\n{\"detail\":\"out of memory\",\"status\":503,\"title\":\"Service Unavailable\",\"type\":\"about:blank\"}";
 
-pub const LOST: &str =
-    "HTTP/1.1 500 Internal Server Error\r\nContent-Type: application/problem+json\r\nContent-Length: 95\r\nConnection: close\r\n\r\n{\"detail\":\"done, reply lost\",\"status\":500,\"title\":\"Internal Server Error\",\"type\":\"about:blank\"}";
-
 /// An answer that has no content has no length either (RFC 9110, sections 8.6 and 15.3.5).
 pub const EMPTY: &str = "HTTP/1.1 204 No Content\r\nX-Policy-Version: 3\r\nX-Plane-Seq: 70\r\n\r\n";

@@ -52,12 +52,11 @@ fn token_of(who: &str) -> Option<&[u8]> {
     }
 }
 
-/// What is shown. Where there was no memory for it, or its reply was lost, the test ends in words that say so.
+/// What is shown. Where there was no memory for it, the test ends in words that say so.
 fn shown_of(rt: &impl Abort, served: Served) -> Shown {
     match served {
         Served::Shown(shown) => shown,
         Served::NothingDone => panic!(rt; "an answer: OutOfMemory"),
-        Served::ReplyLost => panic!(rt; "a reply is lost"),
     }
 }
 

@@ -1,4 +1,4 @@
-use crate::tests::answers::{EMPTY, LOST, MEMORY, VERSION};
+use crate::tests::answers::{EMPTY, MEMORY, VERSION};
 use crate::tests::asserts::{holds, row_holds};
 use crate::tests::cases::is_joined;
 use crate::tests::tools::{Pieces, broken_paper, new_paper, run, run_long};
@@ -7,13 +7,12 @@ use std::alloc::Global;
 use std::process::Abort;
 
 /// Tokens whose service replies so, with what is put before the answer to the next request, how the connection ends, and how
-/// often the service is called. What has no content has no body and no length, even where the service says one. Want of
-/// memory closes the connection, with nothing done or with the change done.
+/// often the service is called. What has no content has no body and no length, even where the service says one. Out of
+/// memory closes the connection, with nothing done.
 const REPLIES: &[(&str, &str, &str, Ended, usize)] = &[
     ("empty", EMPTY, VERSION, Ended::Closed, 2),
     ("full", EMPTY, VERSION, Ended::Closed, 2),
     ("memory", MEMORY, "", Ended::NoMemory, 1),
-    ("lost", LOST, "", Ended::NoMemory, 1),
 ];
 
 /// A request under this token, and one for the version.

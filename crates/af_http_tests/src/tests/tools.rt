@@ -114,8 +114,6 @@ enum Answer {
     Empty,
     /// The body of two bytes, with this status.
     Short(Status),
-    /// The change is done, and its reply is lost.
-    Lost,
     /// There was no memory, and nothing was done.
     NoMemory,
 }
@@ -125,7 +123,6 @@ const ANSWERS: &[(&[u8], Answer)] = &[
     (b"test", Answer::Long),
     (b"empty", Answer::Empty),
     (b"full", Answer::Short(Status::NoContent)),
-    (b"lost", Answer::Lost),
     (b"memory", Answer::NoMemory),
 ];
 
@@ -190,7 +187,6 @@ impl Fixed {
             Answer::Long => self.long(),
             Answer::Empty => Ok(Fixed::told(Status::NoContent, None)),
             Answer::Short(status) => self.short(status),
-            Answer::Lost => Ok(Served::ReplyLost),
             Answer::NoMemory => Ok(Served::NothingDone),
         }
     }

@@ -4,7 +4,7 @@ use super::now;
 use super::scenes::{Scene, state};
 use super::users::policy;
 use crate::tests::asserts::{has_memory, holds};
-use af_ops::{CallFault, Endpoint, Op, OpFault, Under, commit, decide};
+use af_ops::{CallFault, Endpoint, Op, OpFault, Under, commit, decide_for};
 use af_policy::Policy;
 use af_sched::State;
 use std::alloc::{AllocGlobal, Global};
@@ -45,17 +45,11 @@ fn decided(
         version: 0,
         seq: entries,
     };
-    let token = Some(who.as_bytes());
-    match decide(
-        alloc,
-        policy,
-        state,
-        under,
-        MOST_ENTRIES,
-        token,
-        op,
-        now(rt),
-    ) {
+    let Some(user) = policy.bearer(Some(who.as_bytes())) else {
+        panic!(rt; "the token of a user");
+    };
+    let view = policy.view(user);
+    match decide_for(alloc, &view, state, under, MOST_ENTRIES, op, now(rt)) {
         Ok(prepared) => {
             drop(commit(state, prepared));
             None

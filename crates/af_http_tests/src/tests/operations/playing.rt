@@ -1,15 +1,19 @@
-//! Requests that a server answers, one after another: who owns the policy, and where the server stands, lends them to the function
-//! that plays them, and drops them by `drop`, which is proved once.
+//! Requests that a ledger answers, one after another: who owns the policy and the ledger lends them to the function that plays them, and
+//! drops them by `drop`, which is proved once.
 use super::calls::named;
 use super::rows::Ask;
 use super::scenes::{Scene, state};
 use super::users::policy;
 use super::{Row, now, shown_of, text, token_of};
 use crate::tests::asserts::{holds, row_holds};
-use af_ops::{Endpoint, Shown, Standing, Status};
+use af_audit::Ledger;
+use af_ops::{Endpoint, Shown, Status};
 use af_policy::Policy;
 use std::alloc::{AllocGlobal, Global};
 use std::process::Abort;
+
+/// The most entries that there are.
+const MOST_ENTRIES: u32 = 1_000_000;
 
 /// Who asks for what, at which parts of the path and with which body.
 type Request = (&'static str, Endpoint, &'static str, &'static [u8]);
@@ -36,12 +40,12 @@ fn shown(
     rt: &impl Abort,
     alloc: Global,
     policy: &Policy,
-    standing: &mut Standing,
+    ledger: &mut Ledger,
     request: Request,
 ) -> Shown {
     let (who, endpoint, path, body) = request;
     let op = named(rt, alloc, endpoint, path, body);
-    let served = standing.answer(alloc, policy, token_of(who), &op, now(rt));
+    let served = ledger.answer(alloc, policy, token_of(who), &op, now(rt));
     drop(op);
     shown_of(rt, served)
 }
@@ -60,11 +64,11 @@ fn goes(
     rt: &impl Abort,
     alloc: Global,
     policy: &Policy,
-    standing: &mut Standing,
+    ledger: &mut Ledger,
     request: Request,
     answer: Answer,
 ) -> bool {
-    let shown = shown(rt, alloc, policy, standing, request);
+    let shown = shown(rt, alloc, policy, ledger, request);
     let is_told = is_told(&shown, answer);
     drop(shown);
     is_told
@@ -92,12 +96,12 @@ fn play_rows(
     rt: &impl Abort,
     alloc: Global,
     policy: &Policy,
-    standing: &mut Standing,
+    ledger: &mut Ledger,
     rows: &[Row],
 ) -> (usize, bool) {
     for (place, row) in rows.iter().enumerate() {
         let request = request_of_row(*row);
-        if !goes(rt, alloc, policy, standing, request, answer_of_row(*row)) {
+        if !goes(rt, alloc, policy, ledger, request, answer_of_row(*row)) {
             return (place, false);
         }
     }
@@ -109,12 +113,12 @@ fn play_asks(
     rt: &impl Abort,
     alloc: Global,
     policy: &Policy,
-    standing: &mut Standing,
+    ledger: &mut Ledger,
     asks: &[Ask],
 ) -> (usize, bool) {
     for (place, ask) in asks.iter().enumerate() {
         let request = request_of_ask(*ask);
-        if !goes(rt, alloc, policy, standing, request, answer_of_ask(*ask)) {
+        if !goes(rt, alloc, policy, ledger, request, answer_of_ask(*ask)) {
             return (place, false);
         }
     }
@@ -141,13 +145,13 @@ fn list(
     rt: &impl Abort,
     alloc: Global,
     policy: &Policy,
-    standing: &mut Standing,
+    ledger: &mut Ledger,
     listing: &Listing,
 ) -> (usize, bool) {
     let (before, row, bytes, end) = *listing;
-    let (_, is_all) = play_rows(rt, alloc, policy, standing, before);
+    let (_, is_all) = play_rows(rt, alloc, policy, ledger, before);
     holds(rt, is_all, "the rows before the listing");
-    let shown = shown(rt, alloc, policy, standing, request_of_row(row));
+    let shown = shown(rt, alloc, policy, ledger, request_of_row(row));
     let seen = (count_of(&shown, bytes), text(&shown).ends_with(end));
     drop(shown);
     seen
@@ -157,13 +161,13 @@ fn play(
     rt: &impl Abort,
     alloc: Global,
     policy: &Policy,
-    standing: &mut Standing,
+    ledger: &mut Ledger,
     story: Story,
 ) -> (usize, bool) {
     match story {
-        Story::Rows(rows) => play_rows(rt, alloc, policy, standing, rows),
-        Story::Asks(asks) => play_asks(rt, alloc, policy, standing, asks),
-        Story::Lists(listing) => list(rt, alloc, policy, standing, listing),
+        Story::Rows(rows) => play_rows(rt, alloc, policy, ledger, rows),
+        Story::Asks(asks) => play_asks(rt, alloc, policy, ledger, asks),
+        Story::Lists(listing) => list(rt, alloc, policy, ledger, listing),
     }
 }
 
@@ -172,9 +176,9 @@ fn play(
 pub fn played(rt: &(impl AllocGlobal + Abort), scene: Scene, story: Story) -> (usize, bool) {
     let alloc = rt.alloc();
     let policy = policy(rt, alloc);
-    let mut standing = Standing::open(state(rt, alloc, &policy, scene));
-    let seen = play(rt, alloc, &policy, &mut standing, story);
-    drop(standing);
+    let mut ledger = Ledger::open(alloc, state(rt, alloc, &policy, scene), MOST_ENTRIES);
+    let seen = play(rt, alloc, &policy, &mut ledger, story);
+    drop(ledger);
     drop(policy);
     seen
 }

@@ -127,7 +127,6 @@ fn is_status(rt: &impl Abort, served: &Served, who: &str, wanted: Option<Status>
             has_memory(rt, wanted.is_none(), who);
             true
         }
-        Served::ReplyLost => panic!(rt; "a reply is lost"),
     }
 }
 

@@ -146,7 +146,6 @@ fn is_told(gave: &Served, row: Row) -> Result<bool, Fail> {
                 && is_text(shown, text),
         ),
         Served::NothingDone => Err(Fail::new("an answer: OutOfMemory")),
-        Served::ReplyLost => Ok(false),
     }
 }
 

@@ -11,4 +11,4 @@ returns-clause-step c =
     subst (λ (v : ℕ). slice_get (all_versions c.args.versions.now) v ≡ Some c.in-Some.policy.now) c.requires.looked
     (sym c.policy.ensures ∙ ap option_copied c.in-Some.is) in
     apply_is c.args.versions.now c.args.self.now (option_copied c.args.token) c.args.now c.in-Some.policy.now known
-    c.decide.new.self c.args.call.now c.decide.result c.decide.ensures.kept c.decide.ensures.applied
+    c.decide.new.self c.args.call.now c.decide.result c.decide.ensures.applied

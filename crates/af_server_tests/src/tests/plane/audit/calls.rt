@@ -59,12 +59,11 @@ fn op(alloc: Global, ask: Ask) -> Result<Op, Fail> {
     }
 }
 
-/// What is shown. Where there was no memory for it, or its reply was lost, the test ends in words that say so.
+/// What is shown. Where there was no memory for it, the test ends in words that say so.
 pub fn shown_in(served: Served) -> Result<Shown, Fail> {
     match served {
         Served::Shown(shown) => Ok(shown),
         Served::NothingDone => Err(Fail::new("an answer: OutOfMemory")),
-        Served::ReplyLost => Err(Fail::new("a reply is lost")),
     }
 }
 
