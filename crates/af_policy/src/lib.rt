@@ -76,4 +76,4 @@ pub use told::Told;
 pub use user::User;
 pub use user_shown::UserShown;
 pub use versions::Versions;
-pub use view::{View, View as PolicyView};
+pub use view::View;
