@@ -1,5 +1,5 @@
-"""Connections over examples/base.json whose answers were worked out by hand: each requirement of each operation on a DAG, by a user who lacks just that
-permission. Their form is that of worked_cases.py.
+"""Connections over examples/base.json whose answers were worked out by hand: each requirement of each operation on a DAG, by a user to whom just that
+permission is missing. Their form is that of worked_cases.py.
 
 A requirement on DAGs is at the DAG of the path, so a denial names that DAG, whether it is there or not, and whatever the body or the rest of the path is.
 bob and ron read the DAG b alone, edna edits b alone, vera reads all and edits none, pat may do nothing; uma may do all of it.
@@ -21,7 +21,7 @@ READINGS = [
     ("/dagRuns/r2/taskInstances", "DAG Runs,Task Instances", listed("task_instances", 1, instance_row())),
     ("/dagRuns/r2/taskInstances/t", "DAG Runs,Task Instances", instance_row()),
 ]
-# Those that change: how they are asked for at a DAG, a good body, and the permission behind that at the DAG which edna lacks.
+# Those that change: how they are asked for at a DAG, a good body, and the permission behind that at the DAG which edna is missing.
 CHANGES = [
     ("PATCH /dags/%s", '{"is_paused":true}', None),
     ("POST /dags/%s/dagRuns", "{}", "DAG Runs.can_create"),
@@ -41,7 +41,7 @@ def denied(user, asked, permission, body="", seq=1):
 
 
 def denied_readings():
-    """Who reads no DAG, or another one, is denied at the DAG; who reads it and lacks the next permission is denied that."""
+    """Who reads no DAG, or another one, is denied at the DAG; who reads it and is missing the next permission is denied that."""
     for rest, behind, answer in READINGS:
         yield denied("pat", f"GET /dags/b{rest}", "DAG:b.can_read")
         yield denied("bob", f"GET /dags/a{rest}", "DAG:a.can_read")
@@ -59,7 +59,7 @@ def denied_readings():
 
 
 def denied_changes():
-    """Who edits no DAG, or another one, is denied at the DAG; who edits it and lacks the next permission is denied that."""
+    """Who edits no DAG, or another one, is denied at the DAG; who edits it and is missing the next permission is denied that."""
     for form, good, behind in CHANGES:
         for body in (good, "{"):
             yield denied("vera", form % "b", "DAG:b.can_edit", body)
