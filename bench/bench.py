@@ -214,7 +214,7 @@ def program_of(args):
         fail("this system doesn't tell a process's time in /proc/PID/schedstat")
     program = os.path.realpath(args.program)
     if not os.access(program, os.X_OK):
-        fail(f"{program} is not there or can't be run: build afplane first, by ./afplane once")
+        fail(f"{program} is not there or can't be run: build afplane first, by ./afplane build")
     build_baseline()
     return program
 

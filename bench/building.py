@@ -22,7 +22,7 @@ def build(folder, libraries):
     try:
         os.makedirs(os.path.join(crate, "src"))
         for it in os.listdir(os.path.join(HERE, folder)):
-            shutil.copy(os.path.join(HERE, folder, it), os.path.join(crate, "src", it.removesuffix(".txt")))
+            shutil.copy(os.path.join(HERE, folder, it), os.path.join(crate, "src", it[: -len(".txt")] if it.endswith(".txt") else it))
         with open(listed, "a") as file:
             file.write(f"{name}: {libraries}\n")
         # called with no words it ends with status 2, once it is built

@@ -34,7 +34,7 @@ def check_examples(it):
     """The examples, against the files that stand beside them."""
     folder = os.path.join(ROOT, "examples")
     for name in sorted(os.listdir(os.path.join(folder, "expected"))):
-        stem = name.removesuffix(".out")
+        stem, _ = os.path.splitext(name)
         with open(os.path.join(folder, stem + ".http"), "rb") as file:
             data = file.read()
         with open(os.path.join(folder, "expected", name), "rb") as file:

@@ -250,7 +250,7 @@ def program_of(args):
         answer_as_baseline()
         return [bench.BASELINE]
     if not args.program and not os.path.exists(PROGRAM):
-        sys.exit("differential.py: the program isn't built: run ./afplane once, or name one by --program")
+        sys.exit("differential.py: the program isn't built: run ./afplane build, or name one by --program")
     return shlex.split(args.program) if args.program else [PROGRAM]
 
 

@@ -120,7 +120,7 @@ def refuse_tests(library):
 def refuse_program(program, library, has):
     """The same of the program, on the examples and the changes."""
     if not os.path.exists(program[0]):
-        sys.exit(f"refusals: there is no program {program[0]}; ./afplane once builds it")
+        sys.exit(f"refusals: there is no program {program[0]}; ./afplane build makes it")
     right = wrong = 0
     for name, config, data in inputs(has):
         one, other = refuse_each(program, library, has, name, config, data)

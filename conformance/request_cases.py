@@ -140,7 +140,7 @@ def fixed_lengths(listing):
     yield PLAIN + PLAIN
     yield from (listing * n + b"rest" for n in (999, 1000, 1001))
     yield from (sized(n, ends) + PLAIN for n in range(16383, 16389) for ends in (b"\r\n", b"\n"))
-    yield from (sized(n, b"\n").removesuffix(b"\n") + ends for n in range(16384, 16389) for ends in (b"\r", b"\r\n", b""))
+    yield from (sized(n, b"\n")[:-1] + ends for n in range(16384, 16389) for ends in (b"\r", b"\r\n", b""))
     yield from (b"\r\n" * 9000 + sized(n) for n in (16385, 16386))
     yield from (b"x" * n for n in (16383, 16384, 16385, 40000))
     for n in range(62, 67):

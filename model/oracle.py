@@ -157,7 +157,7 @@ def file_of(path):
         with open(path, "rb") as file:
             return file.read(MOST_BYTES + 1)
     except (OSError, ValueError) as why:
-        raise Refused("unreadable") from why
+        raise Refused("unreadable", "", f"one that can be read ({getattr(why, 'strerror', None) or why})") from why
 
 
 def main():

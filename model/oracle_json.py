@@ -15,7 +15,7 @@ def whole_number(text):
 def real_number(text):
     value = float(text)
     if value in (float("inf"), float("-inf")):
-        raise ValueError("past the floats")
+        raise ValueError("a number past the floats")
     return value
 
 
@@ -46,7 +46,7 @@ def read_json(data):
         depth += {"[": 1, "{": 1, "]": -1, "}": -1}.get(it, 0)
         deepest = max(deepest, depth)
     if deepest > DEEPEST:
-        raise ValueError("too deep")
+        raise ValueError(f"lists and objects nested deeper than {DEEPEST}")
     value = json.loads(
         text,
         object_pairs_hook=read_object,
@@ -56,6 +56,11 @@ def read_json(data):
     )
     check_texts(value)
     return value
+
+
+def json_fault(why):
+    """What is wrong with bytes that write no value, on one line."""
+    return f"{why.msg} at line {why.lineno}, column {why.colno}" if isinstance(why, json.JSONDecodeError) else str(why)
 
 
 def compact(value):

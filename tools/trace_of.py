@@ -79,7 +79,7 @@ def head_of(data, at):
     end = re.compile(rb"\n\r?\n").search(data, at)
     if end is None:
         return None, len(data)
-    return [it.removesuffix(b"\r") for it in data[at : end.end()].split(b"\n")[:-2]], end.end()
+    return re.split(rb"\r?\n", data[at : end.end()])[:-2], end.end()
 
 
 def fields_of(lines):

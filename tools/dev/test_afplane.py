@@ -1,0 +1,255 @@
+#!/usr/bin/env python3
+"""Tests of the script ./afplane, without the toolchain: a fake `rt` notes how it is called.
+
+    python3 tools/dev/test_afplane.py
+"""
+import os
+import pathlib
+import re
+import shutil
+import subprocess
+import sys
+import tempfile
+import unittest
+
+TOP = pathlib.Path(__file__).resolve().parents[2]
+EXAMPLES = TOP / "examples"
+NOW = "2024-01-01T00:00:00Z"
+COMMANDS = "sh awk basename cat chmod date dirname env find grep mkdir mktemp mv python3 readlink rm sed tail touch wc"
+ENDED = "\nchecked: ended status={0}\nraces: not looked for\nrun=ended status={0} runners=1 races=unchecked proved=no\n"
+
+# Notes its folder and its arguments, a line for each call. `try` also keeps its input and the file of --data; `run` makes the program.
+RT = r"""#!/bin/sh
+echo "$(basename "$PWD") $*" >>"$ROOM/calls"
+case $1 in
+try)
+    cat >"$ROOM/input"
+    cat "${3#given=}" >"$ROOM/data"
+    cat "$ROOM/out"
+    cat "$ROOM/said" >&2
+    exit "$(cat "$ROOM/status")"
+    ;;
+lib) [ "$(basename "$PWD")" != "$(cat "$ROOM/fails" 2>/dev/null)" ] || { echo "goal 7 is open" && exit 1; } ;;
+run)
+    mkdir -p out
+    printf '#!/bin/sh\necho "built $*"\ncat\nexit 1\n' >out/afplane
+    chmod +x out/afplane
+    ;;
+esac
+"""
+
+
+class Case(unittest.TestCase):
+    def setUp(self):
+        kept = tempfile.TemporaryDirectory(prefix="a b-")
+        self.addCleanup(kept.cleanup)
+        self.room = pathlib.Path(kept.name)
+        self.top, self.bin = self.room / "top", self.room / "bin"
+        self.bin.mkdir()
+        for it in COMMANDS.split():
+            (self.bin / it).symlink_to(shutil.which(it))
+        self.top.mkdir()
+        for it in ("model", "examples"):
+            (self.top / it).symlink_to(TOP / it)
+        for it in ("afplane", "crates.txt"):
+            shutil.copy(TOP / it, self.top / it)
+        for it in self.crates():
+            (self.top / "crates" / it / "src").mkdir(parents=True)
+            (self.top / "crates" / it / "src/lib.rt").touch()
+
+    def crates(self):
+        """The program's crates, the lowest first."""
+        rows = re.findall(r"(?m)^(\w+)[^:#\n]*:(.*)$", (TOP / "crates.txt").read_text(encoding="utf-8"))
+        wanted = {"afplane"}
+        for name, below in reversed(rows):
+            wanted.update(below.split() if name in wanted else [])
+        return [name for name, _ in rows if name in wanted]
+
+    def with_rt(self, status=0, out="", said=None):
+        (self.bin / "rt").write_text(RT)
+        (self.bin / "rt").chmod(0o755)
+        for name, text in (("status", status), ("out", out), ("said", ENDED.format(status) if said is None else said)):
+            (self.room / name).write_text(str(text))
+
+    def call(self, *words, data=b"", script=None):
+        """Exit status, standard output and standard error."""
+        env = {"PATH": str(self.bin), "ROOM": str(self.room), "TMPDIR": str(self.room)}
+        words = [str(script or self.top / "afplane"), *map(str, words)]
+        ran = subprocess.run(words, input=data, stdout=subprocess.PIPE, stderr=subprocess.PIPE, cwd=self.room, env=env, timeout=60)
+        self.assertEqual([it.name for it in self.room.glob("tmp.*")], [], "a temporary folder is left")
+        return ran.returncode, ran.stdout.decode(), ran.stderr.decode()
+
+    def calls(self):
+        path = self.room / "calls"
+        return path.read_text().splitlines() if path.exists() else []
+
+
+class Words(Case):
+    def test_help_and_version(self):
+        status, out, err = self.call("--help")
+        self.assertEqual((status, err), (0, ""))
+        for it in ("once CONFIG NOW", "verify TRACE", "check CONFIG", "model once CONFIG NOW", "build", "serve is not implemented yet", f"cd {self.top}"):
+            self.assertIn(it, out)
+        self.assertEqual(self.call("--version"), (0, "afplane 1\n", ""))
+
+    def test_usage(self):
+        for words in ((), ("once",), ("once", "c"), ("once", "c", NOW, "x"), ("verify",), ("build", "x"), ("check",), ("model",), ("model", "serve", "c", "1"), ("help",)):
+            with self.subTest(words):
+                status, out, err = self.call(*words)
+                self.assertEqual((status, out), (2, ""))
+                self.assertTrue(err.startswith("usage: afplane once CONFIG NOW | "), err)
+        status, out, err = self.call("serve", "c", "8080", "4")
+        self.assertEqual((status, out), (2, ""))
+        self.assertTrue(err.startswith("afplane: serve is not implemented yet\nusage: "), err)
+
+
+class Model(Case):
+    def test_check(self):
+        self.assertEqual(self.call("check", EXAMPLES / "base.json"), (0, "accepted\n", ""))
+        bad = self.room / "bad.json"
+        bad.write_text('{"users": [], "roles": [{"name": "r", "actions": []}, {"name": "", "actions": []}]}')
+        line = 'afplane: configuration refused: name: roles[1].name (role ""): expected 1 to 64 printable ASCII characters, found ""\n'
+        self.assertEqual(self.call("check", "bad.json"), (3, "", line))
+        status, out, err = self.call("check", "none.json")
+        self.assertEqual((status, out), (3, ""))
+        self.assertTrue(err.startswith("afplane: configuration refused: unreadable: "), err)
+
+    def test_model(self):
+        said = "afplane: answered by the reference model, not by the proved program\n"
+        data = (EXAMPLES / "viewer.http").read_bytes()
+        expected = (EXAMPLES / "expected/viewer.out").read_bytes().decode()
+        self.assertEqual(self.call("model", "once", EXAMPLES / "base.json", NOW, data=data), (0, expected, said))
+        self.assertEqual(self.call("model", "verify", EXAMPLES / "base.json"), (3, "", said + "afplane: configuration refused: trace\n"))
+        self.assertEqual(self.call("model", "once", EXAMPLES / "base.json", "now")[0], 2)
+
+    def test_no_python(self):
+        (self.bin / "python3").unlink()
+        status, out, err = self.call("check", EXAMPLES / "base.json")
+        self.assertEqual((status, out), (70, ""))
+        self.assertIn("python3", err)
+
+
+class Unproved(Case):
+    def once(self, *words, data=b"GET / HTTP/1.1\r\n\r\n"):
+        return self.call("once", *(words or (EXAMPLES / "base.json", NOW)), data=data)
+
+    def test_what_rt_try_gets(self):
+        self.with_rt(out="HTTP/1.1 200 OK\n")
+        (self.room / "my config=1.json").write_text("{}")
+        status, out, err = self.once("my config=1.json", NOW)
+        self.assertEqual((status, out), (0, "HTTP/1.1 200 OK\n"))
+        self.assertEqual(err, "afplane: compiled from source with run-time checks, not proved (a minute or two); './afplane build' proves it\n")
+        (call,) = self.calls()
+        self.assertRegex(call, rf"\Aafplane try --data given=\S.*/given -- once given {NOW}\Z")
+        self.assertEqual((self.room / "data").read_text(), "{}")
+        self.assertEqual((self.room / "input").read_bytes(), b"GET / HTTP/1.1\r\n\r\n")
+
+    def test_verify(self):
+        self.with_rt(out="agrees\n")
+        (self.room / "t.json").write_text("[]")
+        self.assertEqual(self.call("verify", "t.json", data=b"not read")[:2], (0, "agrees\n"))
+        self.assertRegex(self.calls()[0], r"\Aafplane try --data given=\S.*/given -- verify given\Z")
+        self.assertEqual((self.room / "input").read_bytes(), b"")
+
+    def test_statuses(self):
+        for status in (0, 1, 2, 3):
+            own = "afplane: configuration refused: shape\n" * (status == 3)
+            self.with_rt(status, "out", own + "interpreter: no-answer: x\n" + ENDED.format(status))
+            found, out, err = self.once()
+            self.assertEqual((found, out), (status, "out"))
+            self.assertEqual(err.splitlines(keepends=True)[1:], [own] * (status == 3))
+
+    def test_no_answer(self):
+        self.with_rt(1, "", "src/main.rt:3: error: no such name\nrun=none proved=no\n")
+        status, out, err = self.once()
+        self.assertEqual((status, out), (70, ""))
+        self.assertIn("no such name", err)
+
+    def test_unreadable(self):
+        self.with_rt()
+        for it in ("none.json", "", self.room):
+            self.assertEqual(self.once(it, NOW), (3, "", "afplane: configuration refused: unreadable\n"))
+        self.assertEqual(self.calls(), [])
+
+    def test_no_rt(self):
+        for words in (("once", EXAMPLES / "base.json", NOW), ("verify", "t"), ("build",)):
+            status, out, err = self.call(*words)
+            self.assertEqual((status, out), (70, ""))
+            self.assertIn("release", err)
+            self.assertIn("afplane model once CONFIG NOW", err)
+
+    def test_by_a_link(self):
+        self.with_rt(out="x")
+        (self.room / "link").symlink_to(self.top / "afplane")
+        self.assertEqual(self.call("once", EXAMPLES / "base.json", NOW, script=self.room / "link")[:2], (0, "x"))
+
+
+class Build(Case):
+    def steps(self, err):
+        return [(int(n), int(of), crate, int(to_go)) for n, of, crate, to_go in re.findall(r"afplane: (\d+) of (\d+): (\w+) \(\d+ min so far, about (\d+) min to go\)", err)]
+
+    def test_build(self):
+        self.with_rt()
+        status, out, err = self.call("build")
+        self.assertEqual((status, out), (0, ""), err)
+        crates = self.crates()
+        wanted = [f"{it} lib" for it in crates[:-1]] + [f"afplane run -- once {self.top}/examples/base.json {NOW}"]
+        self.assertEqual(self.calls(), wanted)
+        steps = self.steps(err)
+        self.assertEqual([it[:3] for it in steps], [(n + 1, len(crates), it) for n, it in enumerate(crates)])
+        to_go = [it[3] for it in steps]
+        self.assertEqual(to_go, sorted(to_go, reverse=True))
+        self.assertGreater(to_go[0], 60)
+        self.assertGreater(to_go[-1], 0)
+        # from now on the program answers, and rt is not called
+        self.assertEqual(self.call("once", "c", NOW, data=b"in"), (1, f"built once c {NOW}\nin", ""))
+        self.assertEqual(self.call("build")[0], 0)
+        self.assertEqual(self.calls(), wanted)
+
+    def test_a_stale_build_answers_unproved(self):
+        self.with_rt(out="tried")
+        self.assertEqual(self.call("build")[0], 0)
+        for path in ("crates/af_names/src/lib.rt", "crates.txt"):
+            made = (self.top / "out/afplane-built").stat().st_mtime
+            os.utime(self.top / path, (made + 5, made + 5))
+            count = len(self.calls())
+            self.assertEqual(self.call("once", EXAMPLES / "base.json", NOW)[:2], (0, "tried"))
+            self.assertEqual([it.split()[1] for it in self.calls()[count:]], ["try"])
+            os.utime(self.top / path, (made - 5, made - 5))
+
+    def test_a_change_of_tests_is_none(self):
+        self.with_rt()
+        self.assertEqual(self.call("build")[0], 0)
+        made = (self.top / "out/afplane-built").stat().st_mtime
+        for path in ("crates/af_names_tests/src/lib.rt", "crates/af_names/must-fail/x.edit", "crates/af_names/out/x"):
+            (self.top / path).parent.mkdir(parents=True)
+            (self.top / path).touch()
+            os.utime(self.top / path, (made + 5, made + 5))
+        self.assertEqual(self.call("once", "c", NOW)[0], 1)
+
+    def test_a_build_that_fails_goes_on(self):
+        self.with_rt()
+        (self.room / "fails").write_text("af_role")
+        status, out, err = self.call("build")
+        self.assertEqual((status, out), (70, ""))
+        self.assertIn("goal 7 is open", err)
+        self.assertIn("af_role is not proved or not built", err)
+        self.assertEqual(self.calls(), ["af_names lib", "af_base lib", "af_role lib"])
+        self.assertEqual(list((self.top / "out").glob("afplane-built*")), [])
+        (self.room / "fails").unlink()
+        self.assertEqual(self.call("build")[0], 0)
+        self.assertEqual(self.call("once", "c", NOW)[0], 1)
+
+    def test_a_crate_that_is_not_in_the_table(self):
+        self.with_rt()
+        before = self.steps(self.call("build")[2])[0][3]
+        path = self.top / "crates.txt"
+        path.write_text(path.read_text().replace("afplane:", "af_new:\nafplane: af_new"))
+        (self.top / "crates/af_new/src").mkdir(parents=True)
+        (number, of, crate, to_go) = self.steps(self.call("build")[2])[0]
+        self.assertEqual((number, of), (1, len(self.crates()) + 1))
+        self.assertIn(to_go - before, (1, 2))
+
+
+if __name__ == "__main__":
+    sys.exit(unittest.main())
