@@ -17,7 +17,7 @@ use crate::prepared::Prepared;
 use crate::preparing::prepare;
 use crate::table::needs_for;
 use af_names::{DagId, Instant, RunId};
-use af_policy::{PolicyView, Reader};
+use af_policy::{Reader, View};
 use af_runs::Mark;
 use af_sched::State;
 use std::alloc::Global;
@@ -27,7 +27,7 @@ use std::alloc::Global;
 /// is told only of an operation that is permitted and not refused.
 pub fn decide_for(
     alloc: Global,
-    view: &PolicyView<'_>,
+    view: &View<'_>,
     state: &mut State,
     under: Under,
     limit: u32,

@@ -13,7 +13,7 @@ use af_names::{Instant, UserName};
 use af_ops::{
     CallFault, Op, Served, Shown, Under, commit, decide_for, openly, refused, route_of, shown_reply,
 };
-use af_policy::{Policy, PolicyView};
+use af_policy::{Policy, View};
 use std::alloc::Global;
 
 impl Ledger {
@@ -78,7 +78,7 @@ impl Ledger {
     fn judged(
         &mut self,
         alloc: Global,
-        view: &PolicyView<'_>,
+        view: &View<'_>,
         user: &UserName,
         op: &Op,
         now: Instant,

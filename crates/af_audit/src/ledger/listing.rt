@@ -9,7 +9,7 @@ use crate::event_logs::entries_text;
 use crate::ledger::Ledger;
 use af_listing::Window;
 use af_ops::{Body, CallFault, Endpoint, Op, OpFault, Served, Shown, needs, refused, shown_reply};
-use af_policy::{Parameter, Policy, PolicyView};
+use af_policy::{Parameter, Policy, View};
 use std::alloc::Global;
 
 impl Ledger {
@@ -55,7 +55,7 @@ impl Ledger {
     fn entries_for(
         &self,
         alloc: Global,
-        view: &PolicyView<'_>,
+        view: &View<'_>,
         asked: &Result<Window, Parameter>,
     ) -> Result<Shown, CallFault>
         ensures { IsPerformed nameless (entries_granted (held view.now) self.now asked.now) (standing_of self.now) result (standing_of self.now) }

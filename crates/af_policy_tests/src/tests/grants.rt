@@ -9,7 +9,7 @@ use crate::tests::words::{
 };
 use Granted::{Has, Lacks, Reads, ReadsAll, ReadsPools};
 use af_names::{DagId, UserName};
-use af_policy::{Policy, PolicyView, Reader, RowFault};
+use af_policy::{Policy, Reader, RowFault, View};
 use af_role::{Action, Need, ResourceKind};
 use std::alloc::Global;
 use std::process::Abort;
@@ -154,7 +154,7 @@ fn is_granted_to(
 }
 
 /// Whether a user has an action on a DAG, or on all DAGs.
-fn has(view: &PolicyView<'_>, dag: &DagId, action: Action) -> bool {
+fn has(view: &View<'_>, dag: &DagId, action: Action) -> bool {
     view.holds_on_dag(action, dag) || view.holds_on_kind(action, ResourceKind::Dags)
 }
 

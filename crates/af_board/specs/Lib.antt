@@ -1,0 +1,5 @@
+pub mod Marks
+pub mod Drafted
+pub mod Drafts
+pub mod Faults
+pub mod Pushes

@@ -1,0 +1,30 @@
+ghost use Rattle.std.specs.Prelude.{◌≡◌};
+
+use crate::published::Published;
+use boxcar::Pushed;
+use std::marker::Model;
+
+/// A version of a board: its number, and the table's token of its policy. Version 0 has no token, since the opening policy is not in the
+/// table. `Board::policy` lends the policy that a mark names, without a look-up that could fail.
+#[derive(Drop)]
+pub struct Mark {
+    pub(crate) version: u32,
+    pub(crate) token: Option<Pushed<Published>>,
+}
+
+impl Model for Mark {
+    ghost use Rattle.af_board.specs.Marks.{Marked};
+
+    ghost Value = { Marked };
+
+    ghost view = { λ m. record { version = m.version; token = m.token } };
+}
+
+impl Mark {
+    /// The number of the version.
+    pub fn version(&self) -> u32
+        ensures { result ≡ self.now.version }
+    {
+        self.version
+    }
+}

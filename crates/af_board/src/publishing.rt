@@ -1,0 +1,87 @@
+ghost use Rattle.std.specs.Prelude.{◌≡◌, ◌+◌, ◌≤◌, ◌++◌, ◌∷◌, [], length, Some, IfOk, IfErr};
+ghost use Rattle.std.specs.Option.{option_copied};
+ghost use mathlib.Core.List.{IsPrefix};
+ghost use Rattle.af_policy.specs.Identity.{bearer_of};
+ghost use Rattle.af_policy.specs.Versions.{Follows};
+ghost use Rattle.af_policy.specs.declared.ask.Ask.TheVariants.{Made};
+ghost use Rattle.af_word.specs.Places.{Within};
+ghost use Rattle.af_board.specs.Marks.{HasSeen, IsLast, policy_of};
+ghost use Rattle.af_board.specs.Drafts.{IsDraft, IsReceipt, Publishes};
+ghost use Rattle.af_board.specs.Faults.{MovedOr, MovedPast, steps_of};
+
+use crate::{Board, Draft, Mark, Receipt, SubmitFault};
+use af_policy::Ask;
+use af_word::{Pass, PublishFault};
+use std::alloc::Global;
+use std::sync::Wait;
+
+impl Board {
+    /// Publishes a draft as the version after its base, which the pass has seen. `Moved` if another version was published after the
+    /// base; the draft is then dropped, and its place in the table stays used up. It takes no memory and does not wait. Atomic step:
+    /// one publish, which wins or loses; or one look, if the pass had seen a later version than the base already.
+    pub fn publish(&self, pass: &mut Pass, draft: Draft) -> Result<Receipt, SubmitFault>
+        requires word { pass.old.word ≡ self.now.word }
+        requires draft { IsDraft self.now draft }
+        requires seen { HasSeen pass.old draft.base }
+        ensures word { pass.new.word ≡ self.now.word }
+        ensures longer { IsPrefix pass.old.places pass.new.places }
+        ensures within { Within self.now.word.first self.now.word.last pass.new.places }
+        ensures step { pass.new.steps ≡ pass.old.steps + 1 }
+        ensures receipt { IfOk result (λ r. Publishes self.now draft r) }
+        ensures last { IfOk result (λ r. IsLast self.now pass.new r.mark) }
+        ensures was { IfOk result (λ r. length pass.old.places ≡ draft.base.version + 1) }
+        ensures places { IfOk result (λ r. pass.new.places ≡ pass.old.places ++ draft.place ∷ []) }
+        ensures err { IfErr result (λ f. MovedPast draft pass.new f) }
+    {
+        let Draft {
+            author,
+            change,
+            base,
+            place,
+            pushed,
+        } = draft;
+        match self.word.publish(pass, base.version(), place) {
+            Ok(version) => Ok(Receipt {
+                author,
+                change,
+                base,
+                mark: Mark {
+                    version,
+                    token: Some(pushed),
+                },
+            }),
+            Err(PublishFault::Moved { version, index: _ }) => Err(SubmitFault::Moved { version }),
+            Err(PublishFault::Last) => unreachable!(),
+        }
+    }
+
+    /// Decides a change for the token's owner under the last version, and publishes it as the next: `draft`, then `publish`. It may wait
+    /// for another thread that grows the table. Atomic steps: those of `draft`, then those of `publish`.
+    #[tactic(auto, using(af_prefixes::proofs::PrefixLemmas::prefix_get, af_prefixes::proofs::PrefixLemmas::prefix_length))]
+    pub fn submit<R: Wait>(
+        &self,
+        rt: &R,
+        alloc: Global,
+        pass: &mut Pass,
+        token: Option<&[u8]>,
+        ask: &Ask,
+    ) -> Result<Receipt, SubmitFault>
+        requires { pass.old.word ≡ self.now.word }
+        ensures word { pass.new.word ≡ self.now.word }
+        ensures longer { IsPrefix pass.old.places pass.new.places }
+        ensures within { Within self.now.word.first self.now.word.last pass.new.places }
+        ensures receipt { IfOk result (λ r. IsReceipt self.now r) }
+        ensures follows { IfOk result (λ r. Follows (policy_of self.now r.base) (policy_of self.now r.mark)) }
+        ensures last { IfOk result (λ r. IsLast self.now pass.new r.mark) }
+        ensures author { IfOk result (λ r. bearer_of (policy_of self.now r.base) (option_copied token.entry) ≡ Some r.author) }
+        ensures change { IfOk result (λ r. ask.now ≡ Made r.change) }
+        ensures base { IfOk result (λ r. HasSeen pass.new r.base) }
+        ensures new { IfOk result (λ r. length pass.old.places ≤ r.base.version + 1) }
+        ensures steps { IfOk result (λ _. pass.new.steps ≡ pass.old.steps + 2) }
+        ensures err { IfErr result (λ f. MovedOr self.now (option_copied token.entry) ask.now pass.old pass.new f) }
+        ensures err_steps { IfErr result (λ f. pass.new.steps ≡ pass.old.steps + steps_of f) }
+    {
+        let draft = self.draft(rt, alloc, pass, token, ask)?;
+        Ok(self.publish(pass, draft)?)
+    }
+}
