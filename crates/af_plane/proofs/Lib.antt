@@ -1,5 +1,6 @@
 pub mod PlaneLemmas
 pub mod ActLemmas
 pub mod PolicyLemmas
+mod BlindLemmas
 pub mod SoloLemmas
 pub mod ReachLemmas

@@ -22,6 +22,7 @@ use Rattle.af_plane.specs.Alone.{AreSteps, IsAnswered, LooksAndActs, all_seen, w
 use Rattle.af_plane.specs.Planes.{ServesAct, over}
 use Rattle.af_plane.specs.Solos.{IsDecided, OnState, SoloRows, looked}
 use Rattle.af_plane.proofs.ActLemmas.{open_stays, serves_logs, serves_op}
+use Rattle.af_plane.proofs.BlindLemmas.{serves_what_is_read}
 use Rattle.af_plane.proofs.PolicyLemmas.{administers, latest_got}
 
 -- ---- the look
@@ -99,4 +100,4 @@ module _ (old new : SoloRows) (token : Option (List ℕ)) (t : ℕ) (gave : Serv
   are_steps (call.Policy asked) decided = administers old new token left decided.1 asked gave decided.0
 
   pub is_answered : (asked : Call) → IsDecided old token asked t gave new → IsAnswered old token asked t gave new
-  is_answered asked decided = record { decided = decided; steps = are_steps asked decided }
+  is_answered asked decided = record { decided = decided; steps = are_steps asked decided; blind = serves_what_is_read old new token asked t gave decided }

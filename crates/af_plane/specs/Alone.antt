@@ -18,6 +18,7 @@ use Rattle.af_world.specs.declared.step.Step.{Step}
 use Rattle.af_world.specs.declared.step.Step.TheVariants as step
 use Rattle.af_world.specs.Runs.{IsRun}
 use Rattle.af_world.specs.Worlds.{World}
+use Rattle.af_plane.specs.Blind.{TellsWhatIsRead}
 use Rattle.af_plane.specs.Planes.{over}
 use Rattle.af_plane.specs.Solos.{IsDecided, SoloRows}
 
@@ -65,3 +66,5 @@ pub record IsAnswered (old : SoloRows) (token : Option (List ℕ)) (asked : Call
   pub decided : IsDecided old token asked t gave new
   -- that is a run of the world
   pub steps : AreSteps old token asked t gave new
+  -- what is read of DAGs, tasks, runs and instances shows nothing of a DAG that the token's user may not read
+  pub blind : TellsWhatIsRead old.versions.latest old.ledger token asked t (Some gave)

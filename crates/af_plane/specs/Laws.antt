@@ -35,7 +35,7 @@ abbrev pub AreAnswered : SoloRows → List Exchange → SoloRows → Type 0
 AreAnswered old [] new = new ≡ old
 AreAnswered old (x ∷ xs) new = (mid : SoloRows) × IsAnswered old x.token x.call x.moment x.served mid × AreAnswered mid xs new
 
--- one that opens is reached by no step
+-- one that opens is reached by the run of no steps
 abbrev pub OpensARun : Type 0
 OpensARun =
     (policy : PolicyRows) (version_limit : ℕ) (state : StateRows) (history_limit : ℕ) → IsState state
@@ -47,7 +47,7 @@ CallsGoOn =
     (opening : OpeningRows) (old : SoloRows) (token : Option (List ℕ)) (asked : Call) (t : ℕ) (gave : Served) (new : SoloRows)
     → IsReached opening old → IsAnswered old token asked t gave new → IsReached opening new
 
--- all calls from an opening on are one run of the world
+-- whatever calls are answered from an opening on, a run of the world leads from there to what is left
 abbrev pub CallsAreOneRun : Type 0
 CallsAreOneRun =
     (policy : PolicyRows) (version_limit : ℕ) (state : StateRows) (history_limit : ℕ) (exchanges : List Exchange) (left : SoloRows) → IsState state

@@ -2,3 +2,4 @@ pub mod Planes
 pub mod Solos
 pub mod Alone
 pub mod Laws
+pub mod Blind

@@ -2,7 +2,7 @@ ghost use Rattle.af_plane.specs.Laws.{CallsAreOneRun, CallsGoOn, EntriesAreGrant
 
 use af_world::laws;
 
-/// A server that opens is reached by no step of the world.
+/// A server that opens is reached by the run of no steps.
 pub fn opens_a_run()
     ensures { OpensARun }
 {}
@@ -12,7 +12,8 @@ pub fn calls_go_on()
     ensures { CallsGoOn }
 {}
 
-/// All calls from an opening on are one run of the world.
+/// Whatever calls are answered from an opening on, a run of the world leads from there to what is left. That its answers are those of the
+/// calls is said of each call alone (`Solo::answer`).
 pub fn calls_are_one_run()
     ensures { CallsAreOneRun }
 {}

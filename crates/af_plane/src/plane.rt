@@ -11,6 +11,7 @@ ghost use Rattle.af_audit.specs.EventLogs.{entries_verdict, nameless};
 ghost use Rattle.af_audit.specs.Ledgers.{IsLedger, opened};
 ghost use Rattle.af_audit.specs.Reported.{IsReported};
 ghost use Rattle.af_audit.specs.Ticked.{IsTicked};
+ghost use Rattle.af_plane.specs.Blind.{TellsWhatIsRead};
 ghost use Rattle.af_plane.specs.Planes.{Applies, ApplyIs, ClaimIs, LookIn, ReportIs, TickIs};
 
 use af_audit::{AuditFault, Ledger, ReportRefusal};
@@ -79,7 +80,9 @@ impl Plane {
 
     /// Answers an operation on the state, or a request for event logs, of who holds the token, at a moment, under the policy of the version
     /// that was looked at; none where the call is an operation on the policy, which is not the plane's. Where the state changes there is one
-    /// entry, of that user.
+    /// entry, of that user. After `NothingDone`, out of memory, the plane is as before; no clause says when memory runs
+    /// out. What is read of DAGs, tasks, runs and instances shows nothing of a DAG that the user may not read: status and body are those on
+    /// every state that the user can't tell from this one (`blind`).
     pub fn apply(
         &mut self,
         alloc: Global,
@@ -92,6 +95,7 @@ impl Plane {
         requires looked { version ≡ self.old.version }
         requires known { version ≤ length versions.now.earlier }
         ensures applied { (policy : PolicyRows) → slice_get (all_versions versions.now) version ≡ Some policy → Applies policy self.old (option_copied token.entry) call.now now result self.new }
+        ensures blind { (policy : PolicyRows) → slice_get (all_versions versions.now) version ≡ Some policy → TellsWhatIsRead policy self.old (option_copied token.entry) call.now now result }
         ensures step { ApplyIs versions.now self.old (option_copied token.entry) call.now now result self.new }
     {
         match versions.policy(version) {

@@ -73,8 +73,8 @@ impl Solo {
     }
 
     /// Answers a call of who holds the token, at a moment. It is decided where its data live, under the latest version of the policy, and
-    /// that is a run of the world of one session: a look and an act, or one step on the policy. Out of memory comes last, then nothing is
-    /// done but that look; no reply of a change is lost.
+    /// that is a run of the world of one session: a look and an act, or one step on the policy. After `NothingDone`, out of memory, nothing
+    /// is done but that look; no clause says when memory runs out.
     pub fn answer(
         &mut self,
         alloc: Global,

@@ -8,6 +8,7 @@ mod connections;
 mod consoles;
 mod dags;
 mod denials;
+mod hidden;
 mod histories;
 mod instances;
 mod listings;

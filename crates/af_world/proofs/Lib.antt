@@ -22,3 +22,4 @@ pub mod ListingLemmas
 pub mod OneLemmas
 pub mod TraceLemmas
 pub mod LawLemmas
+mod BlindLemmas

@@ -9,3 +9,4 @@ pub mod Runs
 pub mod Granted
 pub mod Asked
 pub mod Laws
+pub mod Blind

@@ -1,8 +1,9 @@
+ghost use Rattle.af_world.specs.Blind.{ActsAreBlind, HiddenActsAsAbsent};
 ghost use Rattle.af_world.specs.Laws.{ActsCountTheEntries, AnsweredAsSeen, AnsweredVersionsClimb, AnswersAreGranted, DenialsNameTheFirst, EntriesAreGranted, EntryVersionsClimb, ListingsOfADagAreRead, ListingsTellWhatIsRead, PublishesAreGranted, RefusalsChangeNothing, RunsAreOne, SightsNeverFall, StateIsTheReplay, StrangersHaveNoUser, VersionsFollow};
 
 use af_sched::laws::{a_claim_is_one, a_tick_is_one};
 
-/// The same steps have one list of answers, and lead to one world.
+/// The same steps have one list of answers at most, and lead to one world at most.
 pub fn runs_are_one()
     ensures { RunsAreOne }
 {
@@ -48,7 +49,8 @@ pub fn versions_follow()
     ensures { VersionsFollow }
 {}
 
-/// In every world, what is answered, but for 401 and 403, was granted under the version that the answer names.
+/// In every world, an answer other than 401 and 403 was granted under the version that it names, unless it is to a change of the policy
+/// that is handed in; of those see `publishes_are_granted`.
 pub fn answers_are_granted()
     ensures { AnswersAreGranted }
 {}
@@ -79,7 +81,8 @@ pub fn publishes_are_granted()
     ensures { PublishesAreGranted }
 {}
 
-/// In every world, a listing tells exactly the page of what the user's roles let the user read, and how much that is.
+/// In every world, a listing of the DAGs, of the runs of all DAGs or of the event logs tells exactly the page of what the user's roles let
+/// the user read, and how much that is.
 pub fn listings_tell_what_is_read()
     ensures { ListingsTellWhatIsRead }
 {}
@@ -88,4 +91,15 @@ pub fn listings_tell_what_is_read()
 /// roles let the user read that DAG.
 pub fn listings_of_a_dag_are_read()
     ensures { ListingsOfADagAreRead }
+{}
+
+/// In any two worlds whose states have the same rows of all that the user's roles let the user read, an act that reads DAGs, tasks, runs or
+/// instances is answered with the same status and the same body.
+pub fn acts_are_blind()
+    ensures { ActsAreBlind }
+{}
+
+/// In every world, such an act of a user whose roles don't let the user read a DAG is answered as in the world without that DAG and its runs.
+pub fn hidden_acts_as_absent()
+    ensures { HiddenActsAsAbsent }
 {}

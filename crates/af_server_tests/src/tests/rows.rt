@@ -37,6 +37,8 @@ pub enum Story {
     Rows(&'static [Row]),
     /// Requests under policies of any version.
     Steps(&'static [Step]),
+    /// The same, the first ones and then the others.
+    After(&'static [Step], &'static [Step]),
 }
 
 /// The step that a row is.
@@ -146,6 +148,10 @@ fn add_story(input: &mut String, told: &mut String, story: Story) -> Result<(), 
         Story::Exchanges(exchanges) => add_exchanges(input, told, exchanges),
         Story::Rows(rows) => add_rows(input, told, rows),
         Story::Steps(steps) => add_steps(input, told, steps),
+        Story::After(first, then) => {
+            add_steps(input, told, first)?;
+            add_steps(input, told, then)
+        }
     }
 }
 

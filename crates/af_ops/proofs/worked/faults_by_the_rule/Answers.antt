@@ -3,10 +3,6 @@ use Rattle.std.specs.Fmt.{digits}
 use Rattle.json.specs.Print.{escape_byte}
 use Rattle.af_ops.proofs.worked.faults_by_the_rule.Goals as goal
 
-pub returns-clause-lost : goal.returns-clause-lost
-unfolding digits escape_byte
-returns-clause-lost c = refl
-
 pub returns-clause-memory : goal.returns-clause-memory
 unfolding digits escape_byte
 returns-clause-memory c = refl

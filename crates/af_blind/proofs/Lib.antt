@@ -1,0 +1,4 @@
+mod KeptLemmas
+mod SightLemmas
+pub mod VerdictLemmas
+pub mod HiddenLemmas
