@@ -2,6 +2,7 @@ ghost use Rattle.std.specs.Prelude.{◌≡◌};
 ghost use Rattle.std.specs.Arc.{arc_value};
 ghost use Rattle.af_policy.specs.Rows.{PermissionsAscend};
 
+use crate::masked_role::MaskedRole;
 use crate::shared::{Row, front};
 use af_role::{Permissions, Role};
 use std::alloc::AllocError;
@@ -15,11 +16,11 @@ pub(crate) fn in_order(role: &Role)
     let _pairs = role.permissions().iter();
 }
 
-/// A role, found by name, whose front stands beside it. Contracts see it as the role.
+/// A role with its mask, found by name, whose front stands beside it. Contracts see it as the role.
 #[derive(Drop)]
 pub(crate) struct RoleByName {
     front: u64,
-    role: Arc<Role>,
+    role: Arc<MaskedRole>,
 }
 
 impl Model for RoleByName {
@@ -36,20 +37,27 @@ impl Model for RoleByName {
 }
 
 impl RoleByName {
-    pub(crate) fn new(role: Arc<Role>) -> RoleByName
+    pub(crate) fn new(role: Arc<MaskedRole>) -> RoleByName
         ensures { result ≡ arc_value role }
     {
         RoleByName {
-            front: front(role.name().as_str().as_bytes()),
+            front: front(role.role().name().as_str().as_bytes()),
             role,
         }
+    }
+
+    /// The role with its mask.
+    pub(crate) fn masked(&self) -> &MaskedRole
+        ensures { result.now ≡ self.now }
+    {
+        &self.role
     }
 
     /// The role.
     pub(crate) fn role(&self) -> &Role
         ensures { result.now ≡ self.now }
     {
-        &self.role
+        self.role.role()
     }
 
     /// What the role permits.
@@ -64,7 +72,7 @@ impl Row for RoleByName {
     ghost key = { λ row. row.name };
 
     fn key(&self) -> &[u8] {
-        self.role.name().as_str().as_bytes()
+        self.role.role().name().as_str().as_bytes()
     }
 
     fn front(&self) -> u64 {

@@ -4,6 +4,7 @@ ghost use Rattle.af_role.specs.Access.{synced_role};
 ghost use Rattle.af_policy.specs.Rows.{with_role};
 ghost use Rattle.af_policy.specs.SharedRows.{seen};
 
+use crate::masked_role::MaskedRole;
 use crate::role_rows::RoleByName;
 use crate::shared::Table;
 use af_names::DagId;
@@ -55,7 +56,8 @@ fn sync_row(
     ensures { OnOk result ((made.new ≡ with_role made.old (synced_role dag.now access.now role.now)) ⊎ ((made.new ≡ made.old) × (synced_role dag.now access.now role.now ≡ role.now))) }
 {
     if role.is_touched(dag, access) {
-        let role = Arc::new(alloc, role.synced(alloc, dag, access)?)?;
+        let role = MaskedRole::of(alloc, role.synced(alloc, dag, access)?)?;
+        let role = Arc::new(alloc, role)?;
         made.put(alloc, RoleByName::new(role))?;
     }
     Ok(())

@@ -1,7 +1,10 @@
-ghost use Rattle.std.specs.Prelude.{◌≡◌, [], length, map, not, IfOk, OnOk, OnErr};
+ghost use Rattle.std.specs.Prelude.{◌≡◌, ◌||◌, [], length, map, not, IfOk, OnOk, OnErr};
 ghost use Rattle.std.specs.List.{AllByRecursion, find};
 ghost use Rattle.std.specs.Option.{option_copied};
 ghost use Rattle.af_role.specs.Access.{synced_role};
+ghost use Rattle.af_role.specs.declared.action.Action.{Action};
+ghost use Rattle.af_role.specs.declared.resource.ResourceKind.{ResourceKind};
+ghost use Rattle.af_role.specs.KindMasks.{kind_has};
 ghost use Rattle.af_role.specs.Pairs.{on_dag, on_kind};
 ghost use Rattle.af_policy.specs.Rows.{NamesAscend, PermissionsAscend, has_role, has_roles, role_names, with_role, without_role};
 ghost use Rattle.af_policy.specs.Grants.{role_lists, some_role_lists};
@@ -10,13 +13,14 @@ ghost use Rattle.af_role.specs.Pairs.{with_pairs};
 ghost use Rattle.af_policy.specs.Shown.{page_rows};
 ghost use Rattle.af_policy.specs.Tables.{found_role, listed_of, pairs_of, permissions_of};
 
+use crate::masked_role::MaskedRole;
 use crate::role_rows::{RoleByName, in_order};
 use crate::role_shown::roles_shown;
 use crate::role_sync::synced;
 use crate::shared::Table;
 use crate::{Page, RoleShown, Span};
 use af_names::{DagId, RoleName};
-use af_role::{AccessControl, AccessRow, Action, Permissions, ResourceKind, Role};
+use af_role::{AccessControl, AccessRow, Action, KindMask, Permissions, Role};
 use std::alloc::{AllocError, Global};
 use std::marker::Model;
 use std::sync::Arc;
@@ -70,8 +74,9 @@ impl RoleTable {
         ensures err { OnErr result (self.new ≡ self.old) }
     {
         in_order(&role);
-        let role = Arc::new(self.alloc, role)?;
-        self.by_name.put(self.alloc, RoleByName::new(role))?;
+        let masked = MaskedRole::of(self.alloc, role)?;
+        let shared = Arc::new(self.alloc, masked)?;
+        self.by_name.put(self.alloc, RoleByName::new(shared))?;
         Ok(())
     }
 
@@ -114,6 +119,18 @@ impl RoleTable {
         self.by_name.facts();
         match self.by_name.get(name.as_str().as_bytes()) {
             Some(row) => Some(row.permissions()),
+            None => None,
+        }
+    }
+
+    /// The role of a name, with its mask.
+    pub(crate) fn masked(&self, name: &RoleName) -> Option<&MaskedRole>
+        ensures value { option_copied result ≡ found_role self.now name.now }
+        ensures ascend { NamesAscend (role_names self.now) }
+    {
+        self.by_name.facts();
+        match self.by_name.get(name.as_str().as_bytes()) {
+            Some(row) => Some(row.masked()),
             None => None,
         }
     }
@@ -206,13 +223,22 @@ impl RoleTable {
         names.iter().all(|name| self.has(name))
     }
 
-    /// Whether the role of a name lists an action on a whole kind.
-    fn lists_on_kind(&self, name: &RoleName, action: Action, kind: ResourceKind) -> bool
-        ensures { result ≡ role_lists self.now name.now (on_kind action kind) }
+    /// Adds the actions on whole kinds that the roles of these names list.
+    pub(crate) fn add_kinds(&self, names: &[RoleName], kinds: &mut KindMask)
+        ensures { (kind : ResourceKind) (action : Action) → kind_has kinds.new kind action ≡ (kind_has kinds.old kind action || some_role_lists self.now names.now (on_kind action kind)) }
     {
-        match self.get(name) {
-            Some(permissions) => permissions.has_on_kind(action, kind),
-            None => false,
+        for name in names {
+            self.add_kinds_of(name, kinds);
+        }
+    }
+
+    /// Adds the actions on whole kinds that the role of a name lists.
+    fn add_kinds_of(&self, name: &RoleName, kinds: &mut KindMask)
+        ensures { (kind : ResourceKind) (action : Action) → kind_has kinds.new kind action ≡ (kind_has kinds.old kind action || role_lists self.now name.now (on_kind action kind)) }
+    {
+        match self.masked(name) {
+            Some(role) => kinds.add_all(role.kinds()),
+            None => {}
         }
     }
 
@@ -220,24 +246,10 @@ impl RoleTable {
     fn lists_on_dag(&self, name: &RoleName, action: Action, dag: &DagId) -> bool
         ensures { result ≡ role_lists self.now name.now (on_dag action dag.now) }
     {
-        match self.get(name) {
-            Some(permissions) => permissions.has_on_dag(action, dag),
+        match self.masked(name) {
+            Some(role) => role.lists_on_dag(action, dag),
             None => false,
         }
-    }
-
-    /// Whether a role of one of these names lists an action on a whole kind.
-    pub(crate) fn some_lists_on_kind(
-        &self,
-        names: &[RoleName],
-        action: Action,
-        kind: ResourceKind,
-    ) -> bool
-        ensures { result ≡ some_role_lists self.now names.now (on_kind action kind) }
-    {
-        names
-            .iter()
-            .any(|name| self.lists_on_kind(name, action, kind))
     }
 
     /// Whether a role of one of these names lists an action on one DAG.

@@ -11,7 +11,7 @@ ghost use Rattle.af_policy.specs.Rows.{IsWithinLimits, NamesAscend, PermissionsA
 use crate::role_table::RoleTable;
 use crate::user_table::UserTable;
 use crate::uses::Uses;
-use crate::{PolicyView, User};
+use crate::{User, View};
 use af_names::{DagId, RoleName, UserName};
 use af_role::{AccessControl, Role};
 use std::alloc::{AllocError, Global};
@@ -183,11 +183,11 @@ impl Tables {
     }
 
     /// What the policy of these tables grants a user, whose row is looked up once.
-    pub(crate) fn view(&self, user: &UserName) -> PolicyView<'_>
+    pub(crate) fn view(&self, user: &UserName) -> View<'_>
         ensures held { (pair : PairRow) → held result pair ≡ grants self.now user.now pair }
         ensures reads { (dag : List ℕ) → reads_dag (held result) dag ≡ reads self.now user.now dag }
     {
-        PolicyView::new(&self.roles, self.users.roles_of(user))
+        View::new(&self.roles, self.users.roles_of(user))
     }
 
     /// What holds of each policy's tables but that some user is Admin.

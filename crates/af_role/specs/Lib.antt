@@ -6,3 +6,6 @@ pub mod Roles
 pub mod DefaultRoles
 pub mod Access
 pub mod PairTexts
+pub mod KindMasks
+pub mod DagMasks
+pub mod Masks

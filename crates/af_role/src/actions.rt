@@ -63,6 +63,13 @@ impl Actions {
         self.union(Actions::of(action))
     }
 
+    /// The set with the actions of another.
+    pub fn and(self, more: Actions) -> Actions
+        ensures { (action : Action) → has result action ≡ (has more action || has self action) }
+    {
+        self.union(more)
+    }
+
     /// The set of one action.
     fn of(action: Action) -> Actions
         ensures { bits_of result ≡ bit_of action }

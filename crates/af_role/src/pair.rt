@@ -3,7 +3,7 @@ ghost use Rattle.std.proofs.Common.{rules};
 ghost use Rattle.std.specs.Cmp.{partial_order_from_own_ties};
 ghost use Rattle.std.specs.Cmp.Rules.{comparing};
 ghost use Rattle.std.specs.Ordering.{as_partial_cmp};
-ghost use Rattle.af_role.specs.Pairs.{carries, on_dag, on_kind, pair_cmp, pair_of, pair_text, same_pair, same_pair-ties};
+ghost use Rattle.af_role.specs.Pairs.{carries, on_kind, pair_cmp, pair_of, pair_text, same_pair, same_pair-ties};
 ghost use Rattle.af_role.specs.Access.{is_about};
 
 use crate::{Action, Resource, ResourceKind};
@@ -89,26 +89,6 @@ impl Pair {
             action: self.action,
             resource: self.resource.copied(alloc)?,
         })
-    }
-
-    /// Whether it is that action on a whole kind.
-    pub fn is_on_kind(&self, action: Action, kind: ResourceKind) -> bool
-        ensures { result ≡ same_pair self.now (on_kind action kind) }
-    {
-        match &self.resource {
-            Resource::Kind(own) => *own == kind && self.action == action,
-            Resource::Dag(_) => false,
-        }
-    }
-
-    /// Whether it is that action on that DAG.
-    pub fn is_on_dag(&self, action: Action, dag: &DagId) -> bool
-        ensures { result ≡ same_pair self.now (on_dag action dag.now) }
-    {
-        match &self.resource {
-            Resource::Kind(_) => false,
-            Resource::Dag(own) => own == dag && self.action == action,
-        }
     }
 }
 

@@ -2,11 +2,10 @@ ghost use Rattle.std.specs.Prelude.{◌≡◌, [], length, not, IfOk, OnOk, OnEr
 ghost use Rattle.std.specs.List.{filter, list_any};
 ghost use Rattle.std.specs.Map.Iter.{ShowsInOrder, deref};
 ghost use Rattle.std.specs.List.Sorted.{IsStrictlySortedBy};
-ghost use Rattle.af_role.specs.Pairs.{PairRow, pair_cmp, on_dag, on_kind, with_pair, with_pairs};
-ghost use Rattle.af_role.specs.Roles.{contains_pair};
+ghost use Rattle.af_role.specs.Pairs.{PairRow, pair_cmp, with_pair, with_pairs};
 ghost use Rattle.af_role.specs.Access.{is_about};
 
-use crate::{Action, Pair, ResourceKind};
+use crate::Pair;
 use af_names::DagId;
 use std::alloc::{AllocError, Global};
 use std::collections::BTreeSet;
@@ -62,20 +61,6 @@ impl Permissions {
         ensures order { IsStrictlySortedBy pair_cmp self.now }
     {
         self.pairs.iter()
-    }
-
-    /// Whether an action on a whole kind is among them.
-    pub fn has_on_kind(&self, action: Action, kind: ResourceKind) -> bool
-        ensures { result ≡ contains_pair self.now (on_kind action kind) }
-    {
-        self.iter().any(|own| own.is_on_kind(action, kind))
-    }
-
-    /// Whether an action on one DAG is among them.
-    pub fn has_on_dag(&self, action: Action, dag: &DagId) -> bool
-        ensures { result ≡ contains_pair self.now (on_dag action dag.now) }
-    {
-        self.iter().any(|own| own.is_on_dag(action, dag))
     }
 
     /// Whether some permission is about one DAG alone.

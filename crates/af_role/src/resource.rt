@@ -1,4 +1,4 @@
-ghost use Rattle.std.specs.Prelude.{◌≡◌, ◌⊎◌, true, Some, Ok, Err, IfOk, alloc_error};
+ghost use Rattle.std.specs.Prelude.{◌≡◌, ◌<◌, ◌⊎◌, true, Some, Ok, Err, IfOk, alloc_error};
 ghost use Rattle.std.specs.Option.{is_some, option_copied};
 ghost use Rattle.std.proofs.Common.{rules};
 ghost use Rattle.std.specs.Cmp.{partial_order_from_own_ties};
@@ -81,6 +81,15 @@ impl ResourceKind {
             .iter()
             .copied()
             .find(|kind| kind.text() == text)
+    }
+
+    /// The kind's place in their order, below eight.
+    #[tactic(auto, using(crate::proofs::MaskLemmas::kind_rank_below))]
+    pub(crate) fn place(self) -> usize
+        ensures place { result ≡ kind_rank self }
+        ensures below { result < 8 }
+    {
+        usize::from(self.rank())
     }
 
     fn rank(self) -> u8

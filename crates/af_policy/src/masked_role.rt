@@ -1,0 +1,69 @@
+ghost use Rattle.std.specs.Prelude.{◌≡◌, IfOk};
+ghost use Rattle.af_role.specs.declared.action.Action.{Action};
+ghost use Rattle.af_role.specs.declared.resource.ResourceKind.{ResourceKind};
+ghost use Rattle.af_role.specs.KindMasks.{kind_has};
+ghost use Rattle.af_role.specs.Pairs.{on_dag, on_kind};
+ghost use Rattle.af_role.specs.Roles.{lists};
+
+use af_names::DagId;
+use af_role::{Action, KindMask, Mask, Permissions, Role};
+use std::alloc::{AllocError, Global};
+use std::marker::Model;
+
+/// A role with the mask of its permissions. Contracts see it as the role.
+#[derive(Drop)]
+pub(crate) struct MaskedRole {
+    role: Role,
+    mask: Mask,
+}
+
+impl Model for MaskedRole {
+    ghost use Rattle.std.specs.Prelude.{◌≡◌};
+    ghost use Rattle.af_role.specs.Masks.{allows};
+    ghost use Rattle.af_role.specs.Pairs.{PairRow};
+    ghost use Rattle.af_role.specs.Roles.{RoleRow, lists};
+
+    ghost Value = { RoleRow };
+
+    ghost view = { λ masked. masked.role };
+
+    ghost invariant = { λ masked. (pair : PairRow) → allows masked.mask pair ≡ lists masked.role pair };
+}
+
+impl MaskedRole {
+    /// The role with its mask. `AllocError` only where a growth was refused.
+    pub(crate) fn of(alloc: Global, role: Role) -> Result<MaskedRole, AllocError>
+        ensures { IfOk result (λ masked. masked ≡ role) }
+    {
+        let mask = Mask::of(alloc, role.permissions())?;
+        Ok(MaskedRole { role, mask })
+    }
+
+    /// The role.
+    pub(crate) fn role(&self) -> &Role
+        ensures { result.now ≡ self.now }
+    {
+        &self.role
+    }
+
+    /// What the role permits.
+    pub(crate) fn permissions(&self) -> &Permissions
+        ensures { result.now ≡ self.now.pairs }
+    {
+        self.role.permissions()
+    }
+
+    /// The actions on whole kinds that the role lists.
+    pub(crate) fn kinds(&self) -> &KindMask
+        ensures { (kind : ResourceKind) (action : Action) → kind_has result.now kind action ≡ lists self.now (on_kind action kind) }
+    {
+        self.mask.kinds()
+    }
+
+    /// Whether the role lists an action on one DAG.
+    pub(crate) fn lists_on_dag(&self, action: Action, dag: &DagId) -> bool
+        ensures { result ≡ lists self.now (on_dag action dag.now) }
+    {
+        self.mask.has_on_dag(action, dag)
+    }
+}

@@ -1,0 +1,88 @@
+-- Rows of single DAGs: the row that a search found, and what is there after an action is added.
+use Rattle.std.proofs.Common.{◌≡◌, ◌≢◌, ℕ, zero, suc, ◌<◌, List, [], ◌∷◌, length, get_or, set, take, drop, Bool, true, false, ◌&&◌, ◌||◌, nat_eq, refl, sym, ap, ◌∙◌, arith}
+use Rattle.std.specs.Prelude.{insert}
+use Rattle.std.specs.List.{list_any}
+use Rattle.std.specs.Cmp.Lexicographic.{pointwise, bytes_decides}
+use Rattle.std.proofs.Math.Bool.{and-or_distrib_left}
+use Rattle.std.proofs.lemmas.Bool.{true≢false}
+use Rattle.std.proofs.lemmas.List.{take-append-drop}
+use Rattle.std.proofs.lemmas.List.Folds.{list_any-append}
+use Rattle.af_names.proofs.OrderLemmas.{list_any-none}
+use Rattle.af_base.specs.Ordered.{has_key}
+use Rattle.af_base.specs.Places.{StandsAt, FitsAt}
+use Rattle.af_role.specs.declared.action.Action.{Action}
+use Rattle.af_role.specs.declared.dag_mask.DagActions.{DagActions}
+use Rattle.af_role.specs.ActionSets.{has}
+use Rattle.af_role.specs.DagMasks.{dag_has, id_of, row_has}
+
+or_turn : (a b c : Bool) → (a || (b || c)) ≡ (b || (a || c))
+or_turn true true c = refl
+or_turn true false c = refl
+or_turn false b c = refl
+
+pub or_nil : (a : Bool) → (a || false) ≡ a
+or_nil true = refl
+or_nil false = refl
+
+or_group : (a b c : Bool) → ((a || b) || c) ≡ (a || (b || c))
+or_group true b c = refl
+or_group false b c = refl
+
+-- a test that one element alone may pass
+list_any-alone : {X : Type 0} (test : X → Bool) (xs : List X) (i : ℕ) (d : X) → i < length xs → ((other : ℕ) (e : X) → other < length xs → other ≢ i → test (get_or xs other e) ≡ false) → list_any test xs ≡ test (get_or xs i d)
+list_any-alone test [] i d within alone = absurd (omega (arith, within))
+list_any-alone test (x ∷ xs) zero d within alone =
+    ap (λ b. test x || b) (list_any-none test xs (λ j e inside. alone (suc j) e (omega (arith, inside)) (λ same. omega (arith, same)))) ∙ or_nil (test x)
+list_any-alone test (x ∷ xs) (suc i) d within alone =
+    ap (λ b. b || list_any test xs) (alone zero x (omega arith) (λ same. omega (arith, same)))
+    ∙ list_any-alone test xs i d (omega (arith, within)) (λ j e inside apart. alone (suc j) e (omega (arith, inside)) (λ same. apart (omega (arith, same))))
+
+-- an element in the place of another
+list_any-set : {X : Type 0} (test : X → Bool) (xs : List X) (i : ℕ) (y own : X) (b : Bool) → i < length xs → own ≡ get_or xs i own → test y ≡ (b || test own) → list_any test (set xs i y) ≡ (b || list_any test xs)
+list_any-set test [] i y own b within at is = absurd (omega (arith, within))
+list_any-set test (x ∷ xs) zero y own b within at is =
+    ap (λ t. t || list_any test xs) (is ∙ ap (λ z. b || test z) at) ∙ or_group b (test x) (list_any test xs)
+list_any-set test (x ∷ xs) (suc i) y own b within at is =
+    ap (λ t. test x || t) (list_any-set test xs i y own b (omega (arith, within)) at is) ∙ or_turn (test x) b (list_any test xs)
+
+-- one element more
+list_any-insert : {X : Type 0} (test : X → Bool) (xs : List X) (i : ℕ) (y : X) → list_any test (insert xs i y) ≡ (test y || list_any test xs)
+list_any-insert test xs i y =
+    list_any-append test (take i xs) (y ∷ drop i xs)
+    ∙ or_turn (list_any test (take i xs)) (test y) (list_any test (drop i xs))
+    ∙ ap (λ b. test y || b) (sym (list_any-append test (take i xs) (drop i xs)) ∙ ap (list_any test) (take-append-drop i xs))
+
+-- the row of a DAG has the actions on it
+pub stands_has : (rows : List DagActions) (dag : List ℕ) (place : ℕ) (d : DagActions) (action : Action) → StandsAt id_of rows dag place → dag_has rows dag action ≡ has ((get_or rows place d).actions) action
+stands_has rows dag place d action stands =
+    list_any-alone (row_has dag action) rows place d stands.within
+    (λ other e inside apart. ap (λ b. b && has ((get_or rows other e).actions) action) (stands.alone other e inside apart))
+    ∙ ap (λ b. b && has ((get_or rows place d).actions) action) (stands.here d)
+
+none_has : (rows : List DagActions) (dag : List ℕ) (action : Action) → list_any (has_key id_of dag) rows ≡ false → dag_has rows dag action ≡ false
+none_has [] dag action none = refl
+none_has (x ∷ xs) dag action none = step (has_key id_of dag x) (none_has xs dag action) none
+  where
+    step : (b : Bool) → (list_any (has_key id_of dag) xs ≡ false → dag_has xs dag action ≡ false) → (b || list_any (has_key id_of dag) xs) ≡ false → ((b && has x.actions action) || dag_has xs dag action) ≡ false
+    step true later e = absurd (true≢false e)
+    step false later e = later e
+
+-- a DAG without a row has no action
+pub fits_has : (rows : List DagActions) (dag : List ℕ) (place : ℕ) (action : Action) → FitsAt id_of rows dag place → dag_has rows dag action ≡ false
+fits_has rows dag place action fits = none_has rows dag action fits.absent
+
+-- an action added to the row of a DAG
+pub added_at : (rows : List DagActions) (dag : List ℕ) (place : ℕ) (row own : DagActions) (b : Action → Bool) → StandsAt id_of rows dag place → own ≡ get_or rows place own → row.dag ≡ own.dag → ((a : Action) → has row.actions a ≡ (b a || has own.actions a)) → (other : List ℕ) (a : Action) → dag_has (set rows place row) other a ≡ ((pointwise nat_eq dag other && b a) || dag_has rows other a)
+added_at rows dag place row own b stands at same more other a =
+    let own_id : own.dag ≡ dag = ap id_of at ∙ (bytes_decides ((get_or rows place own).dag) dag).0 (stands.here own)
+    in list_any-set (row_has other a) rows place row own (pointwise nat_eq dag other && b a) stands.within at
+    (ap (λ id. pointwise nat_eq id other && has row.actions a) same
+    ∙ ap (λ t. pointwise nat_eq own.dag other && t) (more a)
+    ∙ and-or_distrib_left (pointwise nat_eq own.dag other) (b a) (has own.actions a)
+    ∙ ap (λ id. (pointwise nat_eq id other && b a) || row_has other a own) own_id)
+
+-- the row of a DAG that had none
+pub added_row : (rows : List DagActions) (dag : List ℕ) (place : ℕ) (row : DagActions) (b : Action → Bool) → row.dag ≡ dag → ((a : Action) → has row.actions a ≡ b a) → (other : List ℕ) (a : Action) → dag_has (insert rows place row) other a ≡ ((pointwise nat_eq dag other && b a) || dag_has rows other a)
+added_row rows dag place row b same is other a =
+    list_any-insert (row_has other a) rows place row
+    ∙ (λ i. (pointwise nat_eq (same i) other && is a i) || dag_has rows other a)

@@ -1,0 +1,92 @@
+ghost use Rattle.std.specs.Prelude.{◌≡◌, ◌||◌, ◌&&◌, [], List, ℕ, nat_eq, OnOk};
+ghost use Rattle.std.specs.Cmp.Lexicographic.{pointwise};
+ghost use Rattle.af_base.specs.Ordered.{AreInOrder};
+ghost use Rattle.af_role.specs.declared.action.Action.{Action};
+ghost use Rattle.af_role.specs.Resources.{same_action};
+ghost use Rattle.af_role.specs.DagMasks.{dag_has, id_of};
+
+use crate::{Action, Actions};
+use af_base::{Keyed, place_in};
+use af_names::DagId;
+use std::alloc::{AllocError, Global};
+use std::marker::Model;
+
+/// The actions on one DAG.
+#[derive(Drop)]
+pub struct DagActions {
+    pub dag: DagId,
+    pub actions: Actions,
+}
+
+impl Keyed for DagActions {
+    ghost key_of = { λ row. row.dag };
+
+    fn key(&self) -> &str {
+        self.dag.as_str()
+    }
+}
+
+/// The actions on single DAGs. Contracts see it as a row for each of these DAGs, in byte order of their ids.
+#[derive(Drop)]
+pub struct DagMask {
+    rows: Vec<DagActions>,
+}
+
+impl Model for DagMask {
+    ghost use Rattle.std.specs.Prelude.{List};
+    ghost use Rattle.af_base.specs.Ordered.{AreInOrder};
+    ghost use Rattle.af_role.specs.declared.dag_mask.DagActions.{DagActions};
+
+    ghost Value = { List DagActions };
+
+    ghost view = { λ mask. mask.rows.items };
+
+    ghost invariant = { λ mask. AreInOrder (λ row. row.dag) mask.rows.items };
+}
+
+impl DagMask {
+    /// No action on any DAG.
+    pub fn new(alloc: Global) -> DagMask
+        ensures { result ≡ [] }
+    {
+        DagMask {
+            rows: Vec::new(alloc),
+        }
+    }
+
+    /// The rows.
+    pub fn rows(&self) -> &[DagActions]
+        ensures rows { result.now ≡ self.now }
+        ensures order { AreInOrder id_of self.now }
+    {
+        self.rows.as_slice()
+    }
+
+    /// Whether an action on a DAG is there. The DAG is found by binary search.
+    pub fn has(&self, action: Action, dag: &DagId) -> bool
+        ensures { result ≡ dag_has self.now dag.now action }
+    {
+        match place_in(self.rows.as_slice(), dag.as_str()) {
+            Ok(place) => self.rows[place].actions.has(action),
+            Err(_) => false,
+        }
+    }
+
+    /// Adds an action on a DAG. `AllocError` only where a growth was refused.
+    pub fn add(&mut self, alloc: Global, action: Action, dag: &DagId) -> Result<(), AllocError>
+        ensures { OnOk result ((other : List ℕ) (a : Action) → dag_has self.new other a ≡ ((pointwise nat_eq dag.now other && same_action action a) || dag_has self.old other a)) }
+    {
+        match place_in(self.rows.as_slice(), dag.as_str()) {
+            Ok(place) => {
+                let row = &mut self.rows[place];
+                row.actions = row.actions.with(action);
+            }
+            Err(place) => {
+                let dag = dag.copied(alloc)?;
+                let actions = Actions::none().with(action);
+                self.rows.insert(place, DagActions { dag, actions })?;
+            }
+        }
+        Ok(())
+    }
+}
