@@ -3,8 +3,8 @@ ghost use mathlib.Core.List.{IsPrefix};
 ghost use Rattle.af_word.specs.Places.{Within};
 ghost use Rattle.af_board.specs.Marks.{HasSeen, IsLast, IsOf, place_of, policy_of};
 
-use crate::published::{Published, policy_in};
 use crate::{Mark, NotFound, OutOfMemory};
+use af_mask::Compiled;
 use af_policy::Policy;
 use af_word::{Pass, VersionWord};
 use std::alloc::Global;
@@ -14,13 +14,13 @@ use std::marker::Model;
 /// version 0.
 ///
 /// The version word names the last version and the place of its policy. Place 0 is the opening policy, which is not in the table; place
-/// n + 1 is index n of the table. A policy is pushed to the table before its place is published, so a place whose publication
-/// failed stays used up. Each call says which kinds of atomic step it takes on the word; a push takes none.
+/// n + 1 is index n of the table. A policy is compiled and pushed to the table before its place is published, so a place whose
+/// publication failed stays used up. Each call says which kinds of atomic step it takes on the word; a push takes none.
 #[derive(Drop)]
 pub struct Board {
     pub(crate) word: VersionWord,
-    pub(crate) table: boxcar::Vec<Published>,
-    opening: Published,
+    pub(crate) table: boxcar::Vec<Compiled>,
+    opening: Compiled,
 }
 
 impl Model for Board {
@@ -41,6 +41,9 @@ impl Board {
         ensures board { IfOk result (λ r. (r.0.opening ≡ policy) × (r.0.word.last ≡ last)) }
         ensures pass { IfOk result (λ r. r.1 ≡ record { word = r.0.word; places = 0 ∷ []; steps = 0 }) }
     {
+        let Ok(opening) = Compiled::of(&policy) else {
+            return Err(OutOfMemory);
+        };
         let Ok(table) = boxcar::Vec::new(alloc) else {
             return Err(OutOfMemory);
         };
@@ -50,7 +53,7 @@ impl Board {
         let board = Board {
             word,
             table,
-            opening: policy,
+            opening,
         };
         Ok((board, pass))
     }
@@ -96,11 +99,12 @@ impl Board {
         requires { IsOf self.now mark.now }
         ensures { result.now ≡ policy_of self.now mark.now }
     {
-        policy_in(self.published(mark))
+        self.compiled(mark).policy()
     }
 
-    /// What the board keeps of the version that a mark names.
-    fn published(&self, mark: &Mark) -> &Published
+    /// The compiled policy that a mark of this board names; it keeps the policy. It takes no memory and does not wait. No atomic step on
+    /// the word.
+    pub fn compiled(&self, mark: &Mark) -> &Compiled
         requires { IsOf self.now mark.now }
         ensures { result.now ≡ policy_of self.now mark.now }
     {

@@ -1,21 +1,21 @@
 ghost use Rattle.std.specs.Prelude.{◌≡◌};
 ghost use Rattle.boxcar.specs.Table.{Shows};
 
-use crate::published::{Published, policy_in};
 use crate::{Board, Mark};
+use af_mask::Compiled;
 use af_names::UserName;
 use af_policy::{Change, Policy};
 use boxcar::Pushed;
 use std::marker::Model;
 
-/// A change that was decided under a version, and the policy that it makes, which is in the board's table and is no version yet.
+/// A change that was decided under a version, and the policy that it makes, which is compiled, is in the board's table and is no version yet.
 #[derive(Drop)]
 pub struct Draft {
     pub(crate) author: UserName,
     pub(crate) change: Change,
     pub(crate) base: Mark,
     pub(crate) place: u32,
-    pub(crate) pushed: Pushed<Published>,
+    pub(crate) pushed: Pushed<Compiled>,
 }
 
 impl Model for Draft {
@@ -53,6 +53,6 @@ impl Draft {
         requires { Shows board.now.table self.now.pushed }
         ensures { result.now ≡ self.now.pushed.value }
     {
-        policy_in(board.table.value(&self.pushed))
+        board.table.value(&self.pushed).policy()
     }
 }

@@ -10,9 +10,9 @@ ghost use Rattle.af_board.specs.Drafts.{IsDraft};
 ghost use Rattle.af_board.specs.Faults.{Explains};
 ghost use Rattle.af_board.specs.Pushes.{IsSpentBy};
 
-use crate::published::Published;
 use crate::push_fault::PushFault;
 use crate::{Board, Draft, Spent, SubmitFault};
+use af_mask::Compiled;
 use af_policy::{Ask, Decision, Policy, SubmitFault as Refusal};
 use af_word::Pass;
 use boxcar::Pushed;
@@ -20,10 +20,10 @@ use std::alloc::Global;
 use std::sync::Wait;
 
 impl Board {
-    /// Decides a change for the token's owner under the last version, which the pass has then seen, and pushes the policy that the change
-    /// makes to the table; it is no version yet. The errors are reported in the order of `SubmitFault`, but `OutOfMemory` may take the
-    /// place of `Full` and of an error of the change that has a text. It is never `Moved`. It may wait for another thread that grows the
-    /// table. Atomic step: one look.
+    /// Decides a change for the token's owner under the last version, which the pass has then seen; compiles the policy that the change
+    /// makes, and pushes it to the table, where it is no version yet. The errors are reported in the order of `SubmitFault`, but
+    /// `OutOfMemory` may take the place of `Full` and of an error of the change that has a text. It is never `Moved`. It may wait for
+    /// another thread that grows the table. Atomic step: one look.
     pub fn draft<R: Wait>(
         &self,
         rt: &R,
@@ -76,14 +76,17 @@ impl Board {
         })
     }
 
-    /// Pushes a policy to the table: its place there, and the token of the push.
-    fn push<R: Wait>(&self, rt: &R, policy: Policy) -> Result<(u32, Pushed<Published>), PushFault>
+    /// Compiles a policy and pushes it to the table: its place there, and the token of the push.
+    fn push<R: Wait>(&self, rt: &R, policy: Policy) -> Result<(u32, Pushed<Compiled>), PushFault>
         ensures pushed { IfOk result (λ p. Shows self.now.table p.1) }
         ensures value { IfOk result (λ p. p.1.value ≡ policy) }
         ensures place { IfOk result (λ p. p.0 ≡ p.1.index + 1) }
         ensures err { IfErr result (λ fault. IsSpentBy self.now fault) }
     {
-        let Ok(pushed) = self.table.push_shown(rt, policy) else {
+        let Ok(compiled) = Compiled::of(&policy) else {
+            return Err(PushFault::OutOfMemory);
+        };
+        let Ok(pushed) = self.table.push_shown(rt, compiled) else {
             return Err(PushFault::OutOfMemory);
         };
         let index = pushed.index();

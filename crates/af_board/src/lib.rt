@@ -6,7 +6,6 @@ mod draft;
 mod drafting;
 mod fault;
 mod mark;
-mod published;
 mod publishing;
 mod push_fault;
 mod reading;

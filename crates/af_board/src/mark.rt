@@ -1,15 +1,15 @@
 ghost use Rattle.std.specs.Prelude.{◌≡◌};
 
-use crate::published::Published;
+use af_mask::Compiled;
 use boxcar::Pushed;
 use std::marker::Model;
 
 /// A version of a board: its number, and the table's token of its policy. Version 0 has no token, since the opening policy is not in the
-/// table. `Board::policy` lends the policy that a mark names, without a look-up that could fail.
+/// table. `Board::policy` and `Board::compiled` lend what a mark names, without a look-up that could fail.
 #[derive(Drop)]
 pub struct Mark {
     pub(crate) version: u32,
-    pub(crate) token: Option<Pushed<Published>>,
+    pub(crate) token: Option<Pushed<Compiled>>,
 }
 
 impl Model for Mark {

@@ -1,11 +1,11 @@
-use crate::published::Published;
+use af_mask::Compiled;
 use boxcar::Pushed;
 use std::marker::Model;
 
 /// Evidence that the places of the table are used up: a push to it whose place is above 4,294,967,295.
 #[derive(Drop)]
 pub struct Spent {
-    pub(crate) pushed: Pushed<Published>,
+    pub(crate) pushed: Pushed<Compiled>,
 }
 
 impl Model for Spent {

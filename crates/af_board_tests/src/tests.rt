@@ -1,0 +1,9 @@
+mod asserts;
+mod changes;
+mod drafts;
+mod marks;
+mod playing;
+mod raced;
+mod reports;
+mod rows;
+mod users;

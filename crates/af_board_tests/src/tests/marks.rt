@@ -1,0 +1,75 @@
+//! Marks of one version, of two passes, and the mark of version 0.
+ghost use Rattle.std.specs.Prelude.{◌≡◌};
+ghost use Rattle.af_board.specs.Marks.{IsLast, IsOf};
+
+use crate::tests::asserts::holds;
+use crate::tests::changes::Step;
+use crate::tests::playing::Call::Submit;
+use crate::tests::playing::{Row, opened, play_rows};
+use af_board::{Board, Mark};
+use af_word::Pass;
+use std::process::Abort;
+use std::test::*;
+
+/// The mark of the last version, which the pass has then seen.
+fn last(rt: &impl Abort, board: &Board, pass: &mut Pass) -> Mark
+    requires { pass.old.word ≡ board.now.word }
+    ensures word { pass.new.word ≡ board.now.word }
+    ensures mark { IsLast board.now pass.new result }
+{
+    board.current(pass).expect(rt, "the last version")
+}
+
+/// Whether adam is known under the version that a mark names.
+fn knows_adam(board: &Board, mark: &Mark) -> bool
+    requires { IsOf board.now mark.now }
+{
+    board.policy(mark).bearer(Some(b"admin")).is_some()
+}
+
+/// Ends the test where the marks of the last version, one of each pass, differ.
+fn agree(rt: &impl Abort, board: &Board, one: &mut Pass, two: &mut Pass)
+    requires { (one.old.word ≡ board.now.word) × (two.old.word ≡ board.now.word) }
+{
+    let a = last(rt, board, one);
+    let b = last(rt, board, two);
+    holds(
+        rt,
+        a.version() == 1 && b.version() == 1,
+        "two marks of version 1",
+    );
+    holds(
+        rt,
+        !knows_adam(board, &a) && !knows_adam(board, &b),
+        "one policy",
+    );
+    if a.version() == b.version() {
+        board.versions_agree(one, &a, two, &b);
+        board.same_version(one, &a, &a);
+        board.agrees(&b, &b);
+    }
+}
+
+/// Ends the test where the opening mark is not version 0, or names another policy than the opening one.
+fn opens(rt: &impl Abort, board: &Board) {
+    let opening = board.opening();
+    holds(rt, opening.version() == 0, "the opening version");
+    holds(rt, knows_adam(board, &opening), "the opening policy");
+}
+
+/// adam leaves.
+const ONE: &[Row] = &[(
+    1,
+    Submit("admin", Step::DropUser("adam")),
+    "version 1 by adam on 0",
+)];
+
+#[test]
+fn marks_of_one_version_agree(rt: HostRuntime) {
+    let alloc = rt.alloc();
+    let (board, mut one, mut two) = opened(&rt, alloc, 9);
+    play_rows(&rt, alloc, &board, &mut one, &mut two, "one version", ONE);
+    agree(&rt, &board, &mut one, &mut two);
+    opens(&rt, &board);
+    drop(board);
+}

@@ -1,0 +1,222 @@
+//! Two threads submit through one board.
+ghost use Rattle.std.specs.Prelude.{◌≡◌};
+ghost use Rattle.af_board.specs.Drafts.{IsReceipt};
+
+use crate::tests::asserts::{has_memory, holds};
+use crate::tests::changes::{Step, ask_of};
+use crate::tests::playing::opened;
+use af_board::{Board, Receipt, SubmitFault};
+use af_names::RoleName;
+use af_policy::{Policy, PolicyRead};
+use af_word::Pass;
+use std::alloc::Global;
+use std::process::Abort;
+use std::sync::Wait;
+use std::test::*;
+use std::thread::{Threads, join};
+
+/// Who submits in a thread: the user's name and token, and the roles that the user adds.
+#[derive(Clone, Copy)]
+struct Author {
+    name: &'static str,
+    token: &'static str,
+    roles: &'static [&'static str],
+}
+
+const ADAM: Author = Author {
+    name: "adam",
+    token: "admin",
+    roles: &["x1", "x2", "x3", "x4"],
+};
+
+const ZOE: Author = Author {
+    name: "zoe",
+    token: "password",
+    roles: &["y1", "y2", "y3", "y4"],
+};
+
+/// A board that threads share: a thread knows it by this bound alone.
+trait Submits {
+    ghost use Rattle.af_word.specs.Places.{WordId};
+
+    /// Which version word it has.
+    ghost word: { Self → WordId };
+
+    /// Adds the author's roles one after another: the versions that they make.
+    fn made<R: Wait + Abort>(
+        &self,
+        rt: &R,
+        alloc: Global,
+        pass: Pass,
+        author: Author,
+    ) -> (Vec<u32>, Pass)
+        requires { pass.word ≡ word self.now }
+        ensures { result.1.word ≡ word self.now };
+}
+
+impl Submits for Board {
+    ghost word = { λ board. board.word };
+
+    fn made<R: Wait + Abort>(
+        &self,
+        rt: &R,
+        alloc: Global,
+        pass: Pass,
+        author: Author,
+    ) -> (Vec<u32>, Pass) {
+        made(rt, alloc, self, pass, author)
+    }
+}
+
+/// Adds the author's roles, trying again where another was first. Each try that fails sees a version of the other thread's, so that
+/// eight are enough for four roles of each.
+fn made(
+    rt: &(impl Wait + Abort),
+    alloc: Global,
+    board: &Board,
+    mut pass: Pass,
+    author: Author,
+) -> (Vec<u32>, Pass)
+    requires { pass.word ≡ board.now.word }
+    ensures { result.1.word ≡ board.now.word }
+{
+    let mut made = Vec::new(alloc);
+    for _ in 0..8 {
+        if let Some(role) = author.roles.get(made.len()) {
+            if let Some(version) = submitted(rt, alloc, board, &mut pass, author, role) {
+                made.push(version).expect(rt, "room for a version");
+            }
+        }
+    }
+    (made, pass)
+}
+
+/// The version that a further role makes; none where another version was published first.
+fn submitted(
+    rt: &(impl Wait + Abort),
+    alloc: Global,
+    board: &Board,
+    pass: &mut Pass,
+    author: Author,
+    role: &'static str,
+) -> Option<u32>
+    requires { pass.old.word ≡ board.now.word }
+    ensures { pass.new.word ≡ board.now.word }
+{
+    let ask = ask_of(rt, alloc, Step::AddRole(role));
+    let made = board.submit(rt, alloc, pass, Some(author.token.as_bytes()), &ask);
+    drop(ask);
+    match made {
+        Ok(receipt) => {
+            is_of(rt, alloc, board, &receipt, author, role);
+            let version = receipt.mark().version();
+            drop(receipt);
+            Some(version)
+        }
+        Err(fault) => {
+            is_moved(rt, &fault);
+            drop(fault);
+            None
+        }
+    }
+}
+
+/// Ends the test where a fault is another than that a later version was published.
+fn is_moved(rt: &impl Abort, fault: &SubmitFault) {
+    has_memory(
+        rt,
+        !matches!(fault, SubmitFault::OutOfMemory(_)),
+        "a change",
+    );
+    holds(rt, matches!(fault, SubmitFault::Moved { .. }), "moved");
+}
+
+/// Ends the test where a receipt is of another author, or where the version that it made is not the one before with the role.
+fn is_of(
+    rt: &impl Abort,
+    alloc: Global,
+    board: &Board,
+    receipt: &Receipt,
+    author: Author,
+    role: &str,
+)
+    requires { IsReceipt board.now receipt.now }
+{
+    holds(rt, receipt.author().as_str() == author.name, "the author");
+    let had = has_role(rt, alloc, board.policy(receipt.base()), author, role);
+    holds(rt, !had, "the policy before");
+    let has = has_role(rt, alloc, board.policy(receipt.mark()), author, role);
+    holds(rt, has, "the policy of the version");
+}
+
+/// Whether there is a role of this name.
+fn has_role(rt: &impl Abort, alloc: Global, policy: &Policy, author: Author, role: &str) -> bool {
+    let name = RoleName::parse(alloc, role).expect(rt, "the name of a role");
+    let read = PolicyRead::Role(name);
+    let is_there = policy
+        .read(alloc, Some(author.token.as_bytes()), &read)
+        .is_ok();
+    drop(read);
+    is_there
+}
+
+/// What two threads have made, each with its pass.
+fn raced<B: Submits + Sync, R: Threads + Wait + Abort + Sync>(
+    rt: &R,
+    alloc: Global,
+    board: &B,
+    one: Pass,
+    two: Pass,
+) -> ((Vec<u32>, Pass), (Vec<u32>, Pass))
+    requires { (one.word ≡ B.word board.now) × (two.word ≡ B.word board.now) }
+    ensures { (result.0.1.word ≡ B.word board.now) × (result.1.1.word ≡ B.word board.now) }
+{
+    join(
+        rt,
+        move || -> (Vec<u32>, Pass)
+            requires { one.word ≡ B.word board.now }
+            ensures { result.1.word ≡ B.word board.entry.now }
+        { board.made(rt, alloc, one, ADAM) },
+        move || -> (Vec<u32>, Pass)
+            requires { two.word ≡ B.word board.now }
+            ensures { result.1.word ≡ B.word board.entry.now }
+        { board.made(rt, alloc, two, ZOE) },
+    )
+}
+
+/// Ends the test where the versions of both are not 1 to 8, each once.
+fn are_all(rt: &impl Abort, mut made: Vec<u32>, others: &[u32]) {
+    for version in others {
+        made.push(*version).expect(rt, "room for a version");
+    }
+    made.sort().expect(rt, "room to sort");
+    holds(
+        rt,
+        made.as_slice() == [1, 2, 3, 4, 5, 6, 7, 8].as_slice(),
+        "each version once",
+    );
+}
+
+/// Shares a board with two threads: the versions that they have made, and the last one that their passes have seen together.
+fn shared(
+    rt: &(impl Threads + Wait + Abort + Sync),
+    alloc: Global,
+    board: &Board,
+    one: Pass,
+    two: Pass,
+)
+    requires { (one.word ≡ board.now.word) × (two.word ≡ board.now.word) }
+{
+    let ((made, mut pass), (others, met)) = raced::<Board, _>(rt, alloc, board, one, two);
+    board.meet(&mut pass, met);
+    holds(rt, pass.seen().version == 8, "the last version");
+    are_all(rt, made, others.as_slice());
+}
+
+#[test]
+fn two_threads_make_each_version_once(rt: HostRuntime) {
+    let alloc = rt.alloc();
+    let (board, one, two) = opened(&rt, alloc, 99);
+    shared(&rt, alloc, &board, one, two);
+    drop(board);
+}
