@@ -7,7 +7,7 @@ the version that its answer names, and a change of the state by its number; tick
 `fault` returns the first thing that is wrong, with its request, or None where all of this holds:
 
 1. Within one session neither versions nor numbers fall. If exchanges have times, no number is below one whose answer had been received before the request
-   was sent.
+   was sent: no contract says so of two connections, but the lock of the plane does.
 2. Each version from 1 on was made by exactly one change, and each entry of a user by exactly one request, without gaps. An entry has the owner, version, event
    and names that it has in the model. The timestamp of a change is its entry's.
 3. Applied in this order to the model, each change has the answer that it had, to the byte. Each entry of the scheduler or the executor is of a tick that
@@ -17,7 +17,7 @@ the version that its answer names, and a change of the state by its number; tick
 5. Answers on the state and entries name no version below one of an earlier number. An entry of the scheduler or the executor names the last version before it.
 
 Which request made an entry can be open: two clients pause a DAG, and both answers name one number. Each request that fits is tried, and one has to fit all
-answers. Each request needs its answer: one that was lost, or that reports out of memory, is an error here.
+answers. Each request needs its answer: one that was lost, or that reports out of memory or a missing policy, is an error here.
 """
 import collections
 import copy
@@ -111,7 +111,7 @@ class History:
         """The answer names the version that was found; the change would have been done under one before that."""
         status, body, _ = told(409, f"policy moved to version {it.version}")
         it.expect(it.text_of((status, body, [f"X-Policy-Version: {it.version}"])))
-        if not any(self.is_done(it, version) for version in range(it.seen, it.version)):
+        if not any(self.is_done(it, version) for version in reversed(range(it.seen, it.version))):
             raise Differs(f"{it}: the answer is that the policy moved, but under no version from {it.seen} to {it.version - 1} is the change done")
 
     def is_done(self, it, version):
