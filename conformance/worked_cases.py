@@ -1,8 +1,11 @@
 """Connections over examples/base.json whose answers were worked out by hand, for oracle_test.py and differential.py: operations on the state.
 
 A connection is its title, what the program has to have, the moment, members that the configuration has in place of its own, and the steps
-(worked_rows.exchanges). Those of event logs stand in worked_logs.py, those of roles and users in worked_policies.py and worked_faults.py.
+(worked_rows.exchanges). Those of bodies stand in worked_bodies.py and those of denials at a DAG in worked_denials.py, which are among these; those of
+event logs in worked_logs.py, and those of roles and users in worked_policies.py and worked_faults.py.
 """
+from worked_bodies import BODIES
+from worked_denials import DENIALS
 from worked_rows import ENDED, MIDNIGHT, NOW, T1, dag_row, instance_row, listed, pool_row, run_row, variable_row
 
 
@@ -23,7 +26,7 @@ RUNS, CLEAR = "/dags/b/dagRuns", "POST /dags/b/clearTaskInstances"
 Q_R = "/pools/q%20r"
 
 # title, what the program has to have, the moment, members of the configuration, steps
-CONNECTIONS = [
+OPERATIONS = [
     ("DAGs of those who read them all, or one", "baseline", NOW, {}, [
         ("vera", "GET /dags", "", 200, listed("dags", 3, dag_row("a", "true"), dag_row("b"), dag_row("c")), 0),
         ("", "GET /version", "", 200, '{"git_version":null,"version":"afplane 1"}', None, None),
@@ -190,3 +193,5 @@ CONNECTIONS = [
         ("adam", "GET /variables", "", 200, listed("variables", 2, variable_row("B", ""), variable_row("a", "é")), 2),
     ]),
 ]  # fmt: skip
+
+CONNECTIONS = OPERATIONS + BODIES + DENIALS

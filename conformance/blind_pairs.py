@@ -1,0 +1,163 @@
+"""Random pairs of connections that differ in hidden rows alone, for blindness.py.
+
+A reader reads some DAGs and not the others. The DAGs that are read stand in both configurations, and an admin makes the same changes of them on both sides, in
+the same order. The others stand on one side, on the other, on both with other tasks and schedules, or on none. Changes of these stand in between, so that runs
+have other numbers on each side; so do changes of pools, of variables, and of roles and users that leave to the reader what the reader has.
+
+Each change is one that is done and that leaves another state or another policy than it found. Ids of runs and dates come from few, so that hidden runs often
+have those of runs that are read.
+"""
+import json
+
+from blind_cases import ADMIN, NOW, Pair, Side, role, user
+from worked_rows import digest
+
+DAGS = ["A", "a", "a.1", "b", "b-2", "b.", "c", "c_3", "d", "zz"]
+ABSENT = "gone"
+RUN_IDS = ["r1", "r2", "r3", "r4", "x", "scheduled__2024-01-01T00:00:00+00:00", "a~b:+"]
+DATES = [NOW, "2024-01-01T00:00:00.5Z", "2024-01-02T00:00:00Z", "2024-01-03T00:00:00Z", "2024-01-04T00:00:00+01:00", "1970-01-01T00:00:00Z"]
+TASKS = ["t", "u", "v", "w"]
+READER = "bob"
+BEHIND = ["DAG Runs.can_read", "Task Instances.can_read"]
+KINDS = ("one", "some", "none", "no runs")
+LIMITS = ["", "0", "1", "2", "3", "5", "100", "101", "x", "-1", "000", "9" * 30]
+
+
+class Changes:
+    """Changes of some DAGs, of which each is done and leaves another state; what was done before is known."""
+
+    def __init__(self, rng, rows):
+        self.rng, self.paused, self.runs = rng, {it["dag_id"]: it["is_paused"] for it in rows}, {it["dag_id"]: {} for it in rows}
+
+    def one(self):
+        dag = self.rng.choice(sorted(self.paused))
+        makers = [self.trigger] * 4 + [self.pause] + [self.mark, self.mark, self.clear, self.clear, self.delete] * bool(self.runs[dag])
+        return self.rng.choice(makers)(dag) or self.pause(dag)
+
+    def pause(self, dag):
+        self.paused[dag] = not self.paused[dag]
+        return f"PATCH /dags/{dag}", json.dumps({"is_paused": self.paused[dag]})
+
+    def trigger(self, dag):
+        """A run whose id and date are free; nothing where there is none."""
+        taken = {it["date"] for it in self.runs[dag].values()}
+        ids, dates = [it for it in RUN_IDS if it not in self.runs[dag]], [it for it in DATES if it not in taken]
+        if not ids or not dates:
+            return None
+        made, date = self.rng.choice(ids), self.rng.choice(dates)
+        self.runs[dag][made] = {"date": date, "state": "queued", "fresh": True}
+        return f"POST /dags/{dag}/dagRuns", json.dumps({"dag_run_id": made, self.rng.choice(["logical_date", "execution_date"]): date})
+
+    def some_run(self, dag):
+        run_id = self.rng.choice(sorted(self.runs[dag]))
+        return self.runs[dag][run_id], f"/dags/{dag}/dagRuns/{run_id}", run_id
+
+    def mark(self, dag):
+        """A run that is marked otherwise than it is: success and failed end its instances."""
+        run, path, _ = self.some_run(dag)
+        to = self.rng.choice([it for it in ("success", "failed", "queued") if it != run["state"]])
+        run["state"], run["fresh"] = to, run["fresh"] and to == "queued"
+        return f"PATCH {path}", json.dumps({"state": to})
+
+    def clear(self, dag):
+        """All instances of a run of which they have ended; by the run, or by the DAG."""
+        run, path, run_id = self.some_run(dag)
+        if run["fresh"]:
+            return None
+        run["state"], run["fresh"] = "queued", True
+        if self.rng.random() < 0.5:
+            return f"POST {path}/clear", '{"dry_run":false}'
+        return f"POST /dags/{dag}/clearTaskInstances", json.dumps({"dry_run": False, "only_failed": False, "dag_run_id": run_id})
+
+    def delete(self, dag):
+        run, path, run_id = self.some_run(dag)
+        del self.runs[dag][run_id]
+        return f"DELETE {path}", ""
+
+
+class Maker:
+    """Makes one pair."""
+
+    def __init__(self, rng, kind):
+        self.rng, self.kind = rng, kind
+        ids = rng.sample(DAGS, len(DAGS))
+        count = {"one": 1, "none": 0}.get(kind, rng.randint(1, 4))
+        self.read, self.hidden = ids[:count], ids[count : count + rng.randint(1, 5)]
+        self.rows = [self.row(it) for it in self.read]
+
+    def row(self, dag_id):
+        rng = self.rng
+        names = rng.sample(TASKS, rng.randint(1, 3))
+        upstream = [rng.sample(names[:at], rng.randint(0, at)) for at in range(len(names))]
+        tasks = [{"task_id": it, "upstream": before, "pool": rng.choice(["default_pool", "p"])} for it, before in zip(names, upstream)]
+        row = {"dag_id": dag_id, "is_paused": rng.random() < 0.3, "max_active_runs": rng.choice([1, 16]), "tasks": tasks}
+        if rng.random() < 0.5:
+            row.update({"schedule": rng.choice(["@daily", "@monthly", 60]), "start_date": rng.choice(DATES)})
+        return row
+
+    def reader_roles(self):
+        """What the reader may read, and edits of hidden DAGs beside; spread over one role or two."""
+        rng = self.rng
+        behind = [it for it in BEHIND if rng.random() < 0.4] if self.kind == "no runs" else BEHIND
+        found = [f"DAG:{it}.can_read" for it in self.read] + behind
+        found += [f"DAG:{it}.{rng.choice(['can_edit', 'can_delete'])}" for it in self.hidden if rng.random() < 0.3]
+        found += [f"DAG:{ABSENT}.can_edit"] if rng.random() < 0.1 else []
+        rng.shuffle(found)
+        cut = rng.randint(0, len(found))
+        return [role("Reader", found[:cut]), role("Reader too", found[cut:])]
+
+    def others(self, n):
+        """Changes of no DAG, which the reader is not to see either: each pair of method, path and body is done once on a side."""
+        rng = self.rng
+        return rng.choice([
+            ("POST /variables", json.dumps({"key": f"k{n}", "value": "v"})),
+            ("POST /pools", json.dumps({"name": f"q{n}", "slots": n})),
+            ("PATCH /pools/default_pool", json.dumps({"slots": 1000 + n})),
+            ("POST /roles", json.dumps(role(f"role {n}", [f"DAG:{it}.can_read" for it in self.hidden]))),
+            ("POST /users", json.dumps({**user("ann", "Viewer"), "username": f"ann {n}", "token_sha256": digest("ann")[:-4] + f"{n:04x}"})),
+        ])  # fmt: skip
+
+    def side(self, shared):
+        """One side: hidden DAGs of its own, and changes of its own between those that both have."""
+        rng = self.rng
+        rows = [self.row(it) for it in self.hidden if rng.random() < 0.7]
+        own = Changes(rng, rows)
+        count = rng.choice([0, 1, 4, 12, 20])
+        hidden = [self.others(n) if not rows or rng.random() < 0.15 else own.one() for n in range(count)]
+        places = sorted(rng.randint(0, len(shared)) for _ in hidden)
+        changes, done = [], 0
+        for place, change in zip(places, hidden):
+            changes += [*shared[done:place], change]
+            done = place
+        return rows, changes + shared[done:]
+
+    def pair(self, title):
+        rng = self.rng
+        both = Changes(rng, self.rows)
+        shared = [both.one() for _ in range(rng.choice([0, 3, 8, 16]))] if self.rows else []
+        roles, users = self.reader_roles(), [user(ADMIN, "Admin"), user(READER, "Reader", "Reader too")]
+        sides = []
+        for rows, changes in (self.side(shared), self.side(shared)):
+            dags = rng.sample([*self.rows, *rows], len(self.rows) + len(rows))
+            pools = [{"name": "p", "slots": rng.choice([0, 3])}, *({"name": it, "slots": 1} for it in ("pa", "pb") if rng.random() < 0.3)]
+            sides.append(Side({"roles": roles, "users": users, "pools": pools, "dags": dags}, changes))
+        return Pair(title, READER, tuple(sides), self.asked())
+
+    # ---- What the reader asks for ----
+
+    def query(self):
+        rng = self.rng
+        page = [f"{it}={rng.choice(LIMITS)}" for it in ("limit", "offset") if rng.random() < 0.5]
+        return "?" + "&".join(rng.sample(page, len(page))) if page else ""
+
+    def asked(self):
+        """Each DAG by its id, that which is nowhere too; and then what stands below them, by any ids."""
+        rng, found = self.rng, []
+        for dag in [*self.read, *self.hidden, ABSENT]:
+            found += [f"GET /dags/{dag}", f"GET /dags/{dag}/tasks{self.query()}", f"GET /dags/{dag}/dagRuns{self.query()}"]
+        found += [f"GET /dags{self.query()}" for _ in range(3)] + [f"GET /dags/~/dagRuns{self.query()}" for _ in range(5)]
+        for _ in range(24):
+            dag = rng.choice([*self.read * 3, *self.hidden, ABSENT])
+            run = f"GET /dags/{dag}/dagRuns/{rng.choice([*RUN_IDS, ABSENT])}"
+            found.append(run + rng.choice(["", "", f"/taskInstances{self.query()}", f"/taskInstances/{rng.choice([*TASKS, ABSENT])}"]))
+        return rng.sample(found, len(found))
