@@ -20,6 +20,7 @@ from worked_rows import exchanges
 ROOT = os.path.dirname(os.path.dirname(os.path.realpath(__file__)))
 NOW = "2024-01-01T00:00:00Z"
 ON_BASE = ("viewer", "pause")  # the examples over base.json; the others are over team.json
+CUT_SHORT = ("refusals",)  # the examples whose last message is refused, so that the program ends with status 1
 MOMENTS = [
     *["2024-01-01T00:00:00.000001+00:00", "2024-01-01 00:00:00z", "20240101T000000Z", "2024-01-01T00Z", "2024-02-29T00:00Z", "2023-02-29T00:00Z"],
     *["1970-01-01T00:00:00Z", "1969-12-31T23:59:59Z", "1969-12-31T23:59:59.9999999Z", "1970-01-01T01:00:00+01:00", "1970-01-01T00:00:00+01:00"],
@@ -30,26 +31,38 @@ MOMENTS = [
 ]
 
 
-def check_examples(it):
-    """The examples, against the files that stand beside them."""
+def examples():
+    """Of each example its name, the words of the program, its requests, and its answers as they stand in examples/expected/."""
     folder = os.path.join(ROOT, "examples")
-    for name in sorted(os.listdir(os.path.join(folder, "expected"))):
-        stem, _ = os.path.splitext(name)
+    for stem in sorted(it[: -len(".http")] for it in os.listdir(folder) if it.endswith(".http")):
         with open(os.path.join(folder, stem + ".http"), "rb") as file:
             data = file.read()
-        with open(os.path.join(folder, "expected", name), "rb") as file:
+        with open(os.path.join(folder, "expected", stem + ".out"), "rb") as file:
             expected = file.read()
-        words = ["once", os.path.join(folder, "base.json" if stem in ON_BASE else "team.json"), NOW]
+        yield stem, ["once", os.path.join(folder, "base.json" if stem in ON_BASE else "team.json"), NOW], data, expected
+
+
+def worked():
+    """Of each connection that was worked out by hand its title, what the program has, its configuration, its moment, its requests and its answers."""
+    with open(os.path.join(ROOT, "examples", "base.json"), "rb") as file:
+        base = json.load(file)
+    for title, has, now, members, steps in worked_cases.CONNECTIONS + worked_policies.CONNECTIONS:
+        asked, wanted = (b"".join(texts) for texts in zip(*exchanges(steps)))
+        yield title, has, json.dumps({**base, **members}).encode(), now, asked, wanted
+
+
+def check_examples(it):
+    """The examples, against the files that stand beside them."""
+    for stem, words, data, expected in examples():
         if oracle.run(words, data)[1] != expected:
-            sys.exit(f"examples/expected/{name} is not what the oracle writes")
+            sys.exit(f"examples/expected/{stem}.out is not what the oracle writes")
         it.case(f"example {stem}", words, data)
 
 
-def check_worked(it, base, write):
+def check_worked(it, write):
     """The connections that were worked out by hand, against the bytes that were."""
-    for title, has, now, members, steps in worked_cases.CONNECTIONS + worked_policies.CONNECTIONS:
-        asked, wanted = (b"".join(texts) for texts in zip(*exchanges(steps)))
-        words = [*write(json.dumps({**base, **members}).encode())[:2], now]
+    for title, has, config, now, asked, wanted in worked():
+        words = [*write(config)[:2], now]
         if oracle.run(words, asked, having(has)) != (0, wanted, b""):
             sys.exit(f"differential.py: the oracle does not write what was worked out: {title}")
         it.case(f"worked: {title}", words, asked)
@@ -76,7 +89,7 @@ def fixed_cases(it, folder, write):
         base = json.load(file)
     for n, data in enumerate(request_cases.fixed_inputs(b"test")):
         it.case(f"limit of requests {n}", words, data)
-    check_worked(it, base, write)
+    check_worked(it, write)
     for n, data in enumerate(state_cases.fixed()):
         it.case(f"each operation {n}", words, data)
     for n, data in enumerate(state_cases.fixed_rows()):

@@ -55,7 +55,7 @@ class Worked(unittest.TestCase):
         kinds, texts = set(), set()
         for name, _, body, wanted in steps():
             if wanted.startswith(b"HTTP/1.1 400 ") and (detail := detail_of(wanted)).startswith("bad member: "):
-                member = detail.removeprefix("bad member: ")
+                member = detail[len("bad member: ") :]
                 value = json.loads(body).get(member)
                 if value is not None:
                     (texts if type(value) is str else kinds).add((name, member))

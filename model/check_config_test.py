@@ -47,6 +47,9 @@ class Check(unittest.TestCase):
         actions = "one of can_create, can_read, can_edit, can_delete"
         self.refused({"roles": 5}, "shape", "roles: expected a list, found an integer")
         self.refused({"roles": [role]}, "action", f'roles[0].actions[1].action.name (role "r"): expected {actions}, found "can_fly"')
+        resources = "one of DAGs, DAG Runs, Task Instances, Pools, Variables, Audit Logs, Roles, Users, or 'DAG:' and the id of a DAG (not for can_create)"
+        pair = {**PAIR, "resource": {"name": "dags"}}
+        self.refused({"roles": [{"name": "r", "actions": [pair]}]}, "pair", f'roles[0].actions[0].resource.name (role "r"): expected {resources}, found "dags"')
         self.refused({"roles": [{"name": "r", "actions": [{"action": {}}]}]}, "shape", 'roles[0].actions[0].action.name (role "r"): expected a string, found nothing')
         twice = [USER, {**USER, "username": "x"}]
         self.refused({"users": twice}, "duplicate", 'users[1].token_sha256 (user "x"): expected a token that no earlier user has')

@@ -15,7 +15,7 @@ LOADER = importlib.machinery.SourceFileLoader("gate_times", os.path.join(HERE, "
 GATE_TIMES = importlib.util.module_from_spec(importlib.util.spec_from_loader("gate_times", LOADER))
 LOADER.exec_module(GATE_TIMES)
 
-POOLS, WORDS = ("af_pool", "tests"), ("af_word", "wrong bodies")
+POOLS, WORDS = ("af_pool", "tests"), ("af_word", "mutants")
 
 
 class Seconds(unittest.TestCase):

@@ -1,9 +1,12 @@
 #!/usr/bin/env python3
-"""Tests of the mutants without the prover: each edit of mutants/ and of crates/*/must-fail/ can be applied.
+"""Tests of the mutants without the prover: each edit of mutants/ and of crates/*/must-fail/ can be applied; and of the tool that tries them.
 
     python3 tools/dev/test_mutants.py
 """
+import os
 import pathlib
+import shutil
+import subprocess
 import sys
 import tempfile
 import unittest
@@ -11,7 +14,8 @@ import unittest
 sys.dont_write_bytecode = True
 from edits import Unusable, applied, edits_in  # noqa: E402
 
-TOP = pathlib.Path(__file__).resolve().parents[2]
+HERE = pathlib.Path(__file__).resolve().parent
+TOP = HERE.parents[1]
 CRATES = TOP / "crates"
 
 
@@ -85,6 +89,77 @@ class Edits(unittest.TestCase):
         self.assertEqual(edits_in("## a\nfile: x\nold: ## b\nnew: c\n\n## b_2\nfile: y\n"), {"a": "file: x\nold: ## b\nnew: c\n", "b_2": "file: y\n"})
         self.assertRaisesRegex(Unusable, "no heading", edits_in, "file: x\n## a\n")
         self.assertRaisesRegex(Unusable, "two mutants named a", edits_in, "## a\nfile: x\n## a\nfile: y\n")
+
+
+# Says of each edit that it was refused, but of those with `kept` in their names; and notes what there is.
+RT = """#!/bin/sh
+ls crates >>"$ROOM/crates"
+for it in crates/$2/must-fail/*; do
+    cat "$it" >>"$ROOM/edits"
+    case $it in *kept*) say="NOT REFUSED: the crate is still proved" ;; *) say="refused, as it must be: x" ;; esac
+    echo "rt: must-fail $2/${it##*/}: $say"
+done
+"""
+
+
+class Tool(unittest.TestCase):
+    def setUp(self):
+        kept = tempfile.TemporaryDirectory()
+        self.addCleanup(kept.cleanup)
+        self.room = pathlib.Path(kept.name)
+        self.top = self.room / "top"
+        files = {
+            "crates.txt": "low:\nhigh: low json\nbeside:\n",
+            "HANDLES": "Handles allowed: none.\n",
+            "mutants/low.edits": "## one\nfile: src/lib.rt\nold: a\nnew: b\n\n## is_kept\nfile: src/lib.rt\nold: a\nnew: c\n",
+            "mutants/high.edits": "## two\nfile: src/lib.rt\nold: a\nnew: d\n",
+            "mutants/beside.edits": "## three\nfile: src/lib.rt\nold: a\nnew: e\n",
+            **{f"crates/{it}/src/lib.rt": "a\n" for it in ("low", "high", "beside")},
+            "crates/low/must-fail/gate.edit": "file: src/lib.rt\nold: a\nnew: f\n",
+        }
+        for path, text in files.items():
+            (self.top / path).parent.mkdir(parents=True, exist_ok=True)
+            (self.top / path).write_text(text)
+        (self.top / "tools/dev").mkdir(parents=True)
+        for it in ("mutants", "edits.py"):
+            shutil.copy(HERE / it, self.top / "tools/dev" / it)
+        (self.room / "bin").mkdir()
+        (self.room / "bin/rt").write_text(RT)
+        (self.room / "bin/rt").chmod(0o755)
+
+    def call(self, *words):
+        """Exit status and the lines of standard output."""
+        env = {**os.environ, "PATH": f"{self.room}/bin:{os.environ['PATH']}", "ROOM": str(self.room)}
+        how = {"stdout": subprocess.PIPE, "stderr": subprocess.DEVNULL, "universal_newlines": True, "env": env}
+        ran = subprocess.run([sys.executable, str(self.top / "tools/dev/mutants"), *words], **how)
+        return ran.returncode, ran.stdout.splitlines()
+
+    def test_a_crate(self):
+        status, lines = self.call("low")
+        kept = "low/is_kept.edit: NOT REFUSED: the crate is still proved"
+        self.assertEqual((status, lines), (1, [kept, "low/one.edit: refused, as it must be: x", "1 refused, 1 not"]))
+        self.assertEqual((self.room / "edits").read_text(), "file: src/lib.rt\nold: a\nnew: c\nfile: src/lib.rt\nold: a\nnew: b\n")
+        self.assertEqual((self.room / "crates").read_text(), "low\n")
+        self.assertEqual(self.call("high"), (0, ["high/two.edit: refused, as it must be: x", "1 refused, 0 not"]))
+        self.assertEqual(self.call("none")[0], 2)
+        self.assertEqual(self.call()[0], 2)
+
+    def test_since_a_commit(self):
+        def git(*words):
+            subprocess.run(["git", "-c", "user.name=x", "-c", "user.email=x@example.org", *words], cwd=str(self.top), check=True, stdout=subprocess.DEVNULL)
+
+        git("init", "-q")
+        git("add", "-A")
+        git("commit", "-qm", "x")
+        self.assertEqual(self.call("--since", "HEAD")[0], 2)
+        for path in ("mutants/high.edits", "crates/high/src/lib.rt"):
+            before = (self.top / path).read_text()
+            (self.top / path).write_text(before + "\n")
+            self.assertEqual(self.call("--since", "HEAD"), (0, ["high/two.edit: refused, as it must be: x", "1 refused, 0 not"]))
+            (self.top / path).write_text(before)
+        (self.top / "crates/low/src/more.rt").write_text("b\n")
+        self.assertEqual(self.call("--since", "HEAD")[1][-1], "2 refused, 1 not")
+        self.assertEqual(self.call("--all")[1][-1], "3 refused, 1 not")
 
 
 if __name__ == "__main__":

@@ -1,0 +1,146 @@
+#!/usr/bin/env python3
+"""Tests of gate-program, run-tests and .ci/run: what counts as failed. In place of the program stands the model, or one that answers otherwise.
+
+    python3 tools/dev/test_gate_program.py
+"""
+import hashlib
+import importlib.machinery
+import importlib.util
+import os
+import pathlib
+import shutil
+import subprocess
+import sys
+import tempfile
+import unittest
+
+sys.dont_write_bytecode = True
+HERE = pathlib.Path(__file__).resolve().parent
+TOP = HERE.parents[1]
+
+
+def module_of(name):
+    loader = importlib.machinery.SourceFileLoader(name.replace("-", "_"), str(HERE / name))
+    module = importlib.util.module_from_spec(importlib.util.spec_from_loader(loader.name, loader))
+    loader.exec_module(module)
+    return module
+
+
+GATE = module_of("gate-program")
+TESTS = """
+import unittest
+class A(unittest.TestCase):
+    def test_good(self):
+        pass
+    def test_bad(self):
+        for n in range(3):
+            with self.subTest(n):
+                self.assertEqual(n, 1)
+    @unittest.skip("no reason")
+    def test_skipped(self):
+        pass
+    @unittest.expectedFailure
+    def test_unexpected(self):
+        pass
+"""
+
+
+class Case(unittest.TestCase):
+    def setUp(self):
+        kept = tempfile.TemporaryDirectory()
+        self.addCleanup(kept.cleanup)
+        self.room = pathlib.Path(kept.name)
+
+    def script(self, name, text):
+        path = self.room / name
+        path.write_text(f"#!/bin/sh\n{text}\n")
+        path.chmod(0o755)
+        return path
+
+    def call(self, *words, **env):
+        """Exit status and the lines of standard output."""
+        env = {**os.environ, **{name: str(value) for name, value in env.items()}}
+        ran = subprocess.run([str(it) for it in words], stdin=subprocess.DEVNULL, stdout=subprocess.PIPE, env=env, universal_newlines=True)
+        return ran.returncode, ran.stdout.rstrip("\n").split("\n")
+
+
+class Counts(Case):
+    def test_of_a_command(self):
+        rows = [
+            (0, "5 passed, 0 failed", (5, 0)),
+            (1, "5 passed, 2 failed", (5, 2)),
+            (1, "5 passed, 0 failed", (5, 1)),
+            (0, "0 passed, 0 failed", (0, 1)),
+            (0, "", (0, 1)),
+            (1, "Traceback", (0, 1)),
+            (0, "x 5 passed, 0 failed", (0, 1)),
+            (0, "5 passed, 0 failed (af_names and the crates below alone: not the gate)", (5, 0)),
+        ]
+        for status, last, wanted in rows:
+            self.assertEqual(GATE.count_of(status, last), wanted, last)
+
+    def test_of_unit_tests(self):
+        (self.room / "test_a.py").write_text(TESTS)
+        status, lines = self.call(sys.executable, HERE / "run-tests", self.room, "test_*.py")
+        self.assertEqual((status, lines[-1]), (1, "1 passed, 3 failed"))
+        self.assertIn("no reason", "\n".join(lines))
+        (self.room / "test_a.py").write_text(TESTS.partition("    def test_bad")[0])
+        self.assertEqual((self.call(sys.executable, HERE / "run-tests", self.room, "test_*.py")[1])[-1], "1 passed, 0 failed")
+        (self.room / "test_b.py").write_text("import nothing_of_this_name\n")
+        status, lines = self.call(sys.executable, HERE / "run-tests", self.room, "test_*.py")
+        self.assertEqual((status, lines[-1]), (1, "1 passed, 1 failed"))
+        status, lines = self.call(sys.executable, HERE / "run-tests", self.room, "none_*.py")
+        self.assertEqual((status, lines[-1]), (1, "0 passed, 0 failed"))
+
+
+class Gate(Case):
+    def gate(self, program, *words, only="examples"):
+        return self.call(sys.executable, HERE / "gate-program", "--program", program, "--only", only, *words)
+
+    def model(self, more=""):
+        return self.script("program", f'"{sys.executable}" "{TOP}/model/oracle.py" "$@"{more}')
+
+    def test_the_model_passes(self):
+        program = self.model()
+        status, lines = self.gate(program, "--after", "0", "69 passed, 0 failed")
+        self.assertEqual(status, 0)
+        self.assertIn(f"{program}: SHA-256 {hashlib.sha256(program.read_bytes()).hexdigest()}", lines)
+        passed = int(lines[-1].split()[0])
+        self.assertGreater(passed, 69 + 12)
+        self.assertEqual(lines[-1], f"{passed} passed, 0 failed")
+
+    def test_a_wrong_program_fails(self):
+        status, lines = self.gate(self.model(" | sed 's/X-Plane-Seq: 1/X-Plane-Seq: 2/'"))
+        self.assertEqual(status, 1)
+        self.assertNotEqual(lines[-1].split(" ")[2], "0")
+
+    def test_no_program(self):
+        status, lines = self.gate(self.room / "none", "--after", "0", "69 passed, 0 failed")
+        self.assertEqual((status, lines[-1]), (1, "69 passed, 1 failed"))
+
+    def test_a_failed_proof(self):
+        for status, line, wanted in (("1", "60 passed, 2 failed", "60 passed, 2 failed"), ("2", "rt: no crates.txt", "0 passed, 1 failed")):
+            self.assertEqual(self.gate(self.room / "none", "--after", status, line, only="no part")[0], 1)
+            self.assertEqual(self.gate(self.room / "none", "--after", status, line, only="no part")[1][-1], wanted)
+
+
+class Whole(Case):
+    """.ci/run in a repository that has it alone, with a fake `rt` and a fake of what plays the program."""
+
+    def test_what_is_called(self):
+        for it in ("repository/.ci", "repository/tools/dev", "bin"):
+            (self.room / it).mkdir(parents=True)
+        shutil.copy(TOP / ".ci/run", self.room / "repository/.ci/run")
+        (self.room / "repository/tools/dev/gate-program").write_text("import os, sys\nprint(sys.argv[1:], os.getcwd())\nsys.exit(5)\n")
+        self.script("bin/rt", 'echo "$* $RT_JOBS $PWD"; echo "3 passed, 4 failed"; exit 1')
+        path = f"{self.room}/bin:{os.environ['PATH']}"
+        top = str((self.room / "repository").resolve())
+        for given, jobs in (({}, "2"), ({"RT_JOBS": "7"}, "7")):
+            given = {"PATH": path, "RT_JOBS": "", **given}
+            status, lines = self.call("bash", self.room / "repository/.ci/run", **given)
+            self.assertEqual(status, 5)
+            self.assertEqual(lines, [f"ci {jobs} {top}", "3 passed, 4 failed", f"{['--after', '1', '3 passed, 4 failed']} {top}"])
+
+
+if __name__ == "__main__":
+    sys.exit(unittest.main())
