@@ -163,7 +163,7 @@ class Unproved(Case):
         (self.room / "my config=1.json").write_text("{}")
         status, out, err = self.once("my config=1.json", NOW)
         self.assertEqual((status, out), (0, "HTTP/1.1 200 OK\n"))
-        self.assertEqual(err, "afplane: compiled from source with run-time checks, not proved (a minute or two); './afplane build' proves it\n")
+        self.assertEqual(err, "afplane: compiling from source, with run-time checks and not proved: a minute or two on an idle machine; './afplane build' proves and builds it once\n")
         (call,) = self.calls()
         self.assertRegex(call, rf"\Aafplane try --data given=\S.*/given -- once given {NOW}\Z")
         self.assertEqual((self.room / "data").read_text(), "{}")
