@@ -34,6 +34,33 @@ class Check(unittest.TestCase):
     def test_accepted(self):
         self.assertEqual(self.said(json.dumps({"users": [USER], **dag()}).encode()), (0, "accepted"))
 
+    def test_ignored(self):
+        user = {**USER, "email": "root@example.com", "roles": [{"name": "Admin", "id": 1}]}
+        members = dag({"task_id": "x", "downstream": [], "retrys": None}, schedule_interval="@daily")
+        config = json.dumps({"users": [user], "pools": None, "dag": [], "a\nb": 1, **members})
+        known = "dag_id, schedule, start_date, catchup, max_active_runs, is_paused, access_control, tasks"
+        of_task = "task_id, upstream, pool, pool_slots, priority_weight, retries, retry_delay, trigger_rule, script"
+        of_file = "a configuration has only roles, users, pools, variables, dags, history_limit, version_limit"
+        lines = [
+            f"dag: ignored, since {of_file}",
+            f'"a\\nb": ignored, since {of_file}',
+            'users[0].email (user "root"): ignored, since a user has only username, roles, token_sha256',
+            f'dags[1].schedule_interval (DAG "b"): ignored, since a DAG has only {known}',
+            f'dags[1].tasks[0].downstream (DAG "b", task "x"): ignored, since a task has only {of_task}',
+            f'dags[1].tasks[0].retrys (DAG "b", task "x"): ignored, since a task has only {of_task}',
+        ]
+        self.assertEqual(check_config.ignored(config.encode()), lines)
+        self.assertEqual(self.said(config.encode()), (0, "accepted"))
+        many = check_config.ignored(json.dumps({"users": [USER], **{f"x{n}": 0 for n in range(23)}}).encode())
+        self.assertEqual((len(many), many[-1]), (21, "3 more members are ignored"))
+
+    def test_members_are_those_of_the_page(self):
+        with open(os.path.join(os.path.dirname(os.path.abspath(__file__)), "..", "docs", "CONFIGURATION.md"), encoding="utf-8") as file:
+            page = file.read()
+        for members in check_config.MEMBERS.values():
+            for it in members.split():
+                self.assertRegex(page, rf"`(?:\w+\[\]\.)?{it}`")
+
     def test_text(self):
         line = "afplane: configuration refused: syntax: the file: expected JSON (Expecting value at line 2, column 2)"
         self.assertEqual(self.said(b"{\n]"), (3, line.replace("Expecting value", "Expecting property name enclosed in double quotes").replace("column 2", "column 1")))

@@ -15,6 +15,7 @@ import unittest
 TOP = pathlib.Path(__file__).resolve().parents[2]
 EXAMPLES = TOP / "examples"
 NOW = "2024-01-01T00:00:00Z"
+CHECK = "afplane: 'afplane check CONFIG' says which row and member is wrong, and what was expected\n"
 COMMANDS = "sh awk basename cat chmod date dirname env find grep mkdir mktemp mv python3 readlink rm sed tail touch wc"
 ENDED = "\nchecked: ended status={0}\nraces: not looked for\nrun=ended status={0} runners=1 races=unchecked proved=no\n"
 
@@ -92,12 +93,32 @@ class Words(Case):
             self.assertIn(it, out)
         self.assertEqual(self.call("--version"), (0, "afplane 1\n", ""))
 
+    def test_help_on_a_command(self):
+        for it in ("once", "verify", "check", "model", "build"):
+            self.assertEqual(self.call(it, "--help"), self.call("--help"))
+
+    def test_now(self):
+        self.with_rt()
+        for it in ("now", "", "2024-01-01", "2024-01-01T00:00:00", "00:00:00Z", "1704067200"):
+            for words in (("once",), ("model", "once")):
+                status, out, err = self.call(*words, EXAMPLES / "base.json", it)
+                self.assertEqual((status, out), (2, ""))
+                self.assertIn(f"afplane: NOW is a timestamp with its offset, such as {NOW}, found '{it}'\n", err)
+        self.assertEqual(self.calls(), [])
+        for it in (NOW, "2024-01-01 00:00:00.5+01:00", "20240101t00z", "+002024-01-01T00:00-00:30:15[!UTC][u-ca=iso]"):
+            self.assertEqual(self.call("model", "once", EXAMPLES / "base.json", it)[0], 0)
+        status, out, err = self.call("model", "once", EXAMPLES / "base.json", "2024-02-30T00:00:00Z")
+        self.assertEqual((status, out), (2, ""))
+        self.assertTrue(err.endswith(f"afplane: NOW is not a timestamp with its offset, such as {NOW}\n"), err)
+
     def test_usage(self):
         for words in ((), ("once",), ("once", "c"), ("once", "c", NOW, "x"), ("verify",), ("build", "x"), ("check",), ("model",), ("model", "serve", "c", "1"), ("help",)):
             with self.subTest(words):
                 status, out, err = self.call(*words)
                 self.assertEqual((status, out), (2, ""))
                 self.assertTrue(err.startswith("usage: afplane once CONFIG NOW | "), err)
+        self.assertIn("afplane: there is no command 'chekc'\n", self.call("chekc", "c")[2])
+        self.assertIn("afplane: once takes a configuration and a timestamp", self.call("once", "c")[2])
         status, out, err = self.call("serve", "c", "8080", "4")
         self.assertEqual((status, out), (2, ""))
         self.assertTrue(err.startswith("afplane: serve is not implemented yet\nusage: "), err)
@@ -110,6 +131,10 @@ class Model(Case):
         bad.write_text('{"users": [], "roles": [{"name": "r", "actions": []}, {"name": "", "actions": []}]}')
         line = 'afplane: configuration refused: name: roles[1].name (role ""): expected 1 to 64 printable ASCII characters, found ""\n'
         self.assertEqual(self.call("check", "bad.json"), (3, "", line))
+        self.assertEqual(self.call("model", "once", "bad.json", NOW)[2].splitlines()[1:], ["afplane: configuration refused: name", CHECK.rstrip()])
+        bad.write_text('{"dag": [], "users": [{"username": "a", "roles": [{"name": "Admin"}], "token_sha256": "%064d"}]}' % 0)
+        line = "afplane: dag: ignored, since a configuration has only roles, users, pools, variables, dags, history_limit, version_limit\n"
+        self.assertEqual(self.call("check", "bad.json"), (0, "accepted\n", line))
         status, out, err = self.call("check", "none.json")
         self.assertEqual((status, out), (3, ""))
         self.assertTrue(err.startswith("afplane: configuration refused: unreadable: "), err)
@@ -138,7 +163,7 @@ class Unproved(Case):
         (self.room / "my config=1.json").write_text("{}")
         status, out, err = self.once("my config=1.json", NOW)
         self.assertEqual((status, out), (0, "HTTP/1.1 200 OK\n"))
-        self.assertEqual(err, "afplane: compiled from source with run-time checks, not proved (a minute or two); './afplane build' proves it\n")
+        self.assertEqual(err, "afplane: compiling from source, with run-time checks and not proved: a minute or two on an idle machine; './afplane build' proves and builds it once\n")
         (call,) = self.calls()
         self.assertRegex(call, rf"\Aafplane try --data given=\S.*/given -- once given {NOW}\Z")
         self.assertEqual((self.room / "data").read_text(), "{}")
@@ -157,7 +182,8 @@ class Unproved(Case):
             self.with_rt(status, "out", own + "interpreter: no-answer: x\n" + ENDED.format(status))
             found, out, err = self.once()
             self.assertEqual((found, out), (status, "out"))
-            self.assertEqual(err.splitlines(keepends=True)[1:], [own] * (status == 3))
+            more = {2: f"afplane: NOW is not a timestamp with its offset, such as {NOW}\n", 3: CHECK}
+            self.assertEqual("".join(err.splitlines(keepends=True)[1:]), own + more.get(status, ""))
 
     def test_no_answer(self):
         self.with_rt(1, "", "src/main.rt:3: error: no such name\nrun=none proved=no\n")
