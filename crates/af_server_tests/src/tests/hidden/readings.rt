@@ -1,5 +1,5 @@
 //! What users read who may read the DAG `b` at most, whatever other DAGs there are.
-use super::super::rows::Step;
+use crate::tests::rows::Step;
 use super::bodies::{
     DAG, DAGS, INSTANCE, INSTANCES, NO_DAGS, NO_MORE_RUNS, NO_RUN_NUMBERED, NO_RUNS, NO_SUCH_RUN,
     NOBODY, NOT_A, RUN, RUNS, TASKS,
