@@ -1,0 +1,4 @@
+mod comparing;
+mod making;
+mod numbers;
+mod plain;
