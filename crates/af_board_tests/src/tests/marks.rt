@@ -7,7 +7,10 @@ use crate::tests::changes::Step;
 use crate::tests::playing::Call::Submit;
 use crate::tests::playing::{Row, opened, play_rows};
 use af_board::{Board, Mark};
+use af_names::{DagId, UserName};
+use af_role::{Action, Need, ResourceKind};
 use af_word::Pass;
+use std::alloc::Global;
 use std::process::Abort;
 use std::test::*;
 
@@ -27,8 +30,28 @@ fn knows_adam(board: &Board, mark: &Mark) -> bool
     board.policy(mark).bearer(Some(b"admin")).is_some()
 }
 
+/// To read all runs.
+const READ_RUNS: Need = Need {
+    action: Action::Read,
+    kind: ResourceKind::DagRuns,
+    at_dag: false,
+};
+
+/// Whether adam reads all runs under the compiled policy that a mark names.
+fn adam_reads(rt: &impl Abort, alloc: Global, board: &Board, mark: &Mark) -> bool
+    requires { IsOf board.now mark.now }
+{
+    let adam = UserName::parse(alloc, "adam").expect(rt, "the name of a user");
+    let dags: &[DagId] = &[];
+    let missing = board
+        .compiled(mark)
+        .missing(&adam, &[READ_RUNS], None, dags);
+    drop(adam);
+    missing.is_none()
+}
+
 /// Ends the test where the marks of the last version, one of each pass, differ.
-fn agree(rt: &impl Abort, board: &Board, one: &mut Pass, two: &mut Pass)
+fn agree(rt: &impl Abort, alloc: Global, board: &Board, one: &mut Pass, two: &mut Pass)
     requires { (one.old.word ≡ board.now.word) × (two.old.word ≡ board.now.word) }
 {
     let a = last(rt, board, one);
@@ -51,10 +74,15 @@ fn agree(rt: &impl Abort, board: &Board, one: &mut Pass, two: &mut Pass)
 }
 
 /// Ends the test where the opening mark is not version 0, or names another policy than the opening one.
-fn opens(rt: &impl Abort, board: &Board) {
+fn opens(rt: &impl Abort, alloc: Global, board: &Board) {
     let opening = board.opening();
     holds(rt, opening.version() == 0, "the opening version");
     holds(rt, knows_adam(board, &opening), "the opening policy");
+    holds(
+        rt,
+        adam_reads(rt, alloc, board, &opening),
+        "the opening policy, compiled",
+    );
 }
 
 /// adam leaves.
@@ -69,7 +97,7 @@ fn marks_of_one_version_agree(rt: HostRuntime) {
     let alloc = rt.alloc();
     let (board, mut one, mut two) = opened(&rt, alloc, 9);
     play_rows(&rt, alloc, &board, &mut one, &mut two, "one version", ONE);
-    agree(&rt, &board, &mut one, &mut two);
-    opens(&rt, &board);
+    agree(&rt, alloc, &board, &mut one, &mut two);
+    opens(&rt, alloc, &board);
     drop(board);
 }

@@ -1,9 +1,9 @@
 //! What users read who may read the DAG `b` at most, whatever other DAGs there are.
-use crate::tests::rows::Step;
 use super::bodies::{
     DAG, DAGS, INSTANCE, INSTANCES, NO_DAGS, NO_MORE_RUNS, NO_RUN_NUMBERED, NO_RUNS, NO_SUCH_RUN,
     NOBODY, NOT_A, RUN, RUNS, TASKS,
 };
+use crate::tests::rows::Step;
 
 const UNDER: (u32, Option<u32>) = (1, Some(3));
 
