@@ -235,7 +235,7 @@ class Build(Case):
     def test_a_stale_build_answers_unproved(self):
         self.with_rt(out="tried")
         self.assertEqual(self.call("build")[0], 0)
-        for path in ("crates/af_names/src/lib.rt", "crates.txt"):
+        for path in (f"crates/{self.crates()[0]}/src/lib.rt", "crates.txt"):
             made = (self.top / "out/afplane-built").stat().st_mtime
             os.utime(self.top / path, (made + 5, made + 5))
             count = len(self.calls())
@@ -247,7 +247,8 @@ class Build(Case):
         self.with_rt()
         self.assertEqual(self.call("build")[0], 0)
         made = (self.top / "out/afplane-built").stat().st_mtime
-        for path in ("crates/af_names_tests/src/lib.rt", "crates/af_names/must-fail/x.edit", "crates/af_names/out/x"):
+        crate = f"crates/{self.crates()[0]}"
+        for path in (f"{crate}_tests/src/lib.rt", f"{crate}/must-fail/x.edit", f"{crate}/out/x"):
             (self.top / path).parent.mkdir(parents=True)
             (self.top / path).touch()
             os.utime(self.top / path, (made + 5, made + 5))
@@ -255,12 +256,13 @@ class Build(Case):
 
     def test_a_build_that_fails_goes_on(self):
         self.with_rt()
-        (self.room / "fails").write_text("af_role")
+        first = self.crates()[:3]
+        (self.room / "fails").write_text(first[-1])
         status, out, err = self.call("build")
         self.assertEqual((status, out), (70, ""))
         self.assertIn("goal 7 is open", err)
-        self.assertIn("af_role is not proved or not built", err)
-        self.assertEqual(self.calls(), ["af_names lib", "af_base lib", "af_role lib"])
+        self.assertIn(f"{first[-1]} is not proved or not built", err)
+        self.assertEqual(self.calls(), [f"{it} lib" for it in first])
         self.assertEqual(list((self.top / "out").glob("afplane-built*")), [])
         (self.room / "fails").unlink()
         self.assertEqual(self.call("build")[0], 0)
