@@ -114,7 +114,7 @@ fn user(
             plain.have(rt, Had { user, role });
         }
     }
-    User::new(user_of(rt, alloc, user), [user as u8; 32], roles)
+    User::new(user_of(rt, alloc, user), [user.to_le_bytes()[0]; 32], roles)
 }
 
 /// The one Admin, who is not asked about.
