@@ -3,5 +3,5 @@
 
 mod compiled;
 
-pub use af_policy::{Reader, View};
+pub use af_policy::{NamedDag, Reader, View};
 pub use compiled::Compiled;

@@ -21,3 +21,4 @@ pub mod LawLemmas
 pub mod PermissionLemmas
 pub mod TouchLemmas
 pub mod StandLemmas
+pub mod NamedLemmas

@@ -1,7 +1,7 @@
 -- A list of versions with one more, and what a refused change is told as.
 use Rattle.std.proofs.Common.{◌≡◌, ◌⊎◌, ◌≤◌, ℕ, length, true, cond, nat_le, le-leb, List, [], ◌∷◌, ◌++◌, Option, Some, None, Result, Ok, Err, refl, sym, ap, subst, ◌∙◌, ⊎_elim}
 use Rattle.af_policy.specs.Rows.{PolicyRows}
-use Rattle.af_policy.specs.declared.submit_fault.SubmitFault.TheVariants.{Full, OutOfMemory}
+use Rattle.af_policy.specs.declared.refusal.Refusal.TheVariants.{Full, OutOfMemory}
 use Rattle.af_policy.specs.declared.change_fault.ChangeFault.{ChangeFault}
 use Rattle.af_policy.specs.declared.change_fault.ChangeFault.TheVariants as change
 use Rattle.af_policy.specs.declared.ask.Ask.{Ask}

@@ -12,15 +12,15 @@ use Rattle.af_policy.specs.declared.change_fault.ChangeFault.TheVariants as chan
 use Rattle.af_policy.specs.declared.ask.Ask.{Ask}
 use Rattle.af_policy.specs.declared.decision.Decision.{Decision}
 use Rattle.af_policy.specs.declared.ask.Ask.TheVariants.{Made, Bad}
-use Rattle.af_policy.specs.declared.submit_fault.SubmitFault.{SubmitFault}
-use Rattle.af_policy.specs.declared.submit_fault.SubmitFault.TheVariants.{NotFound, Unauthenticated, Denied, BadBody, Refused, Full, OutOfMemory, Moved}
+use Rattle.af_policy.specs.declared.refusal.Refusal.{Refusal}
+use Rattle.af_policy.specs.declared.refusal.Refusal.TheVariants.{NotFound, Unauthenticated, Denied, BadBody, Refused, Full, OutOfMemory, Moved}
 
 abbrev pub asked_kind : Ask → ChangeKind
 asked_kind (Made change) = kind_of change
 asked_kind (Bad kind input) = kind
 
 -- out of memory is told as such
-abbrev pub refused_by : ChangeFault → SubmitFault
+abbrev pub refused_by : ChangeFault → Refusal
 refused_by (change.BadAction text) = Refused (change.BadAction text)
 refused_by (change.PairNotAllowed text) = Refused (change.PairNotAllowed text)
 refused_by (change.UnknownRole name) = Refused (change.UnknownRole name)
@@ -33,25 +33,25 @@ refused_by change.LastAdmin = Refused change.LastAdmin
 refused_by change.TooMany = Refused change.TooMany
 refused_by change.OutOfMemory = OutOfMemory
 
-abbrev pub made_or_refused : Result PolicyRows ChangeFault → Result PolicyRows SubmitFault
+abbrev pub made_or_refused : Result PolicyRows ChangeFault → Result PolicyRows Refusal
 made_or_refused (Ok policy) = Ok policy
 made_or_refused (Err fault) = Err (refused_by fault)
 
-abbrev pub permitted : PolicyRows → Ask → Result PolicyRows SubmitFault
+abbrev pub permitted : PolicyRows → Ask → Result PolicyRows Refusal
 permitted policy (Bad kind input) = Err (BadBody input)
 permitted policy (Made change) = made_or_refused (changed policy change)
 
-abbrev pub unless_lacked : PolicyRows → Ask → Option Need → Result PolicyRows SubmitFault
+abbrev pub unless_lacked : PolicyRows → Ask → Option Need → Result PolicyRows Refusal
 unless_lacked policy ask (Some need) = Err (Denied need)
 unless_lacked policy ask None = permitted policy ask
 
-abbrev pub asked_by : PolicyRows → Ask → Option (List ℕ) → Result PolicyRows SubmitFault
+abbrev pub asked_by : PolicyRows → Ask → Option (List ℕ) → Result PolicyRows Refusal
 asked_by policy ask None = Err Unauthenticated
 asked_by policy ask (Some user) = unless_lacked policy ask (missing policy user (needs_of (asked_kind ask)) None [])
 
 -- what a change that is asked for under a policy comes to: nobody's token; the first requirement that its author lacks; a
 -- body that is none; the first fault of the change; or the next policy
-abbrev pub decided : PolicyRows → Option (List ℕ) → Ask → Result PolicyRows SubmitFault
+abbrev pub decided : PolicyRows → Option (List ℕ) → Ask → Result PolicyRows Refusal
 decided policy token ask = asked_by policy ask (bearer_of policy token)
 
 -- where out of memory may be told in the place of what follows: the author lacks nothing, the body is a change, and that
@@ -81,7 +81,7 @@ pub record Decides (policy : PolicyRows) (token : Option (List ℕ)) (ask : Ask)
   pub decided : decided policy token ask ≡ Ok d.policy
 
 -- a fault of deciding: one that is told whatever other versions there are
-abbrev pub IsDecided : SubmitFault → Type 0
+abbrev pub IsDecided : Refusal → Type 0
 IsDecided NotFound = ⊥
 IsDecided Unauthenticated = Unit {0}
 IsDecided (Denied need) = Unit {0}
@@ -117,18 +117,13 @@ unfoldable pub IsHistory : List PolicyRows → PolicyRows → Type 0
 IsHistory [] latest = Unit {0}
 IsHistory (policy ∷ policies) latest = Follows policy (first_of policies latest) × IsHistory policies latest
 
-abbrev pub within : VersionRows → Result PolicyRows SubmitFault → Result PolicyRows SubmitFault
+abbrev pub within : VersionRows → Result PolicyRows Refusal → Result PolicyRows Refusal
 within versions (Err fault) = Err fault
 within versions (Ok policy) = if nat_le versions.last (length versions.earlier) then Err Full else Ok policy
 
 -- what a change that is asked for comes to at the latest version: as decided there, or that no version is left
-abbrev pub submitted : VersionRows → Option (List ℕ) → Ask → Result PolicyRows SubmitFault
+abbrev pub submitted : VersionRows → Option (List ℕ) → Ask → Result PolicyRows Refusal
 submitted versions token ask = within versions (decided versions.latest token ask)
-
--- what is told of a call that ends with that latest policy
-abbrev pub told_as : Result ℕ SubmitFault → PolicyRows → Result PolicyRows SubmitFault
-told_as (Ok version) latest = Ok latest
-told_as (Err fault) latest = Err fault
 
 -- the versions with one more
 abbrev pub with_version : VersionRows → PolicyRows → VersionRows

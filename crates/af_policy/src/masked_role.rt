@@ -1,12 +1,13 @@
-ghost use Rattle.std.specs.Prelude.{◌≡◌, IfOk};
+ghost use Rattle.std.specs.Prelude.{◌≡◌, List, ℕ, IfOk};
 ghost use Rattle.af_role.specs.declared.action.Action.{Action};
 ghost use Rattle.af_role.specs.declared.resource.ResourceKind.{ResourceKind};
+ghost use Rattle.af_role.specs.DagMasks.{dag_has};
 ghost use Rattle.af_role.specs.KindMasks.{kind_has};
 ghost use Rattle.af_role.specs.Pairs.{on_dag, on_kind};
 ghost use Rattle.af_role.specs.Roles.{lists};
 
 use af_names::DagId;
-use af_role::{Action, KindMask, Mask, Permissions, Role};
+use af_role::{Action, DagMask, KindMask, Mask, Permissions, Role};
 use std::alloc::{AllocError, Global};
 use std::marker::Model;
 
@@ -58,6 +59,13 @@ impl MaskedRole {
         ensures { (kind : ResourceKind) (action : Action) → kind_has result.now kind action ≡ lists self.now (on_kind action kind) }
     {
         self.mask.kinds()
+    }
+
+    /// The actions on single DAGs that the role lists.
+    pub(crate) fn dags(&self) -> &DagMask
+        ensures { (dag : List ℕ) (action : Action) → dag_has result.now dag action ≡ lists self.now (on_dag action dag) }
+    {
+        self.mask.dags()
     }
 
     /// Whether the role lists an action on one DAG.

@@ -1,4 +1,4 @@
-ghost use Rattle.std.specs.Prelude.{◌≡◌, ◌||◌, [], length, map, not, IfOk, OnOk, OnErr};
+ghost use Rattle.std.specs.Prelude.{◌≡◌, ◌||◌, List, ℕ, [], length, map, not, IfOk, OnOk, OnErr};
 ghost use Rattle.std.specs.List.{AllByRecursion, find};
 ghost use Rattle.std.specs.Option.{option_copied};
 ghost use Rattle.af_role.specs.Access.{synced_role};
@@ -11,14 +11,18 @@ ghost use Rattle.af_policy.specs.Grants.{role_lists, some_role_lists};
 ghost use Rattle.af_policy.specs.Changes.{unknown_role, unknown_row};
 ghost use Rattle.af_role.specs.Pairs.{with_pairs};
 ghost use Rattle.af_policy.specs.Shown.{page_rows};
+ghost use Rattle.af_policy.specs.Views.{is_named};
+ghost use Rattle.af_role.specs.declared.action.Action.TheVariants.{Read};
 ghost use Rattle.af_policy.specs.Tables.{found_role, listed_of, pairs_of, permissions_of};
 
 use crate::masked_role::MaskedRole;
+use crate::named_dags::{NamedDag, add_readable};
 use crate::role_rows::{RoleByName, in_order};
 use crate::role_shown::roles_shown;
 use crate::role_sync::synced;
 use crate::shared::Table;
 use crate::{Page, RoleShown, Span};
+use af_base::Ordered;
 use af_names::{DagId, RoleName};
 use af_role::{AccessControl, AccessRow, Action, KindMask, Permissions, Role};
 use std::alloc::{AllocError, Global};
@@ -239,6 +243,37 @@ impl RoleTable {
         match self.masked(name) {
             Some(role) => kinds.add_all(role.kinds()),
             None => {}
+        }
+    }
+
+    /// Adds the DAGs that the roles of these names let one read by permissions on them alone.
+    pub(crate) fn add_named<'a>(
+        &'a self,
+        names: &[RoleName],
+        named: &mut Ordered<NamedDag<'a>>,
+    ) -> Result<(), AllocError>
+        ensures { OnOk result ((dag : List ℕ) → is_named named.new.rows dag ≡ (is_named named.old.rows dag || some_role_lists self.now names.now (on_dag Read dag))) }
+    {
+        for name in names {
+            self.add_named_of(name, named)?;
+        }
+        Ok(())
+    }
+
+    /// Adds the DAGs that the role of a name lets one read by permissions on them alone.
+    fn add_named_of<'a>(
+        &'a self,
+        name: &RoleName,
+        named: &mut Ordered<NamedDag<'a>>,
+    ) -> Result<(), AllocError>
+        ensures { OnOk result ((dag : List ℕ) → is_named named.new.rows dag ≡ (is_named named.old.rows dag || role_lists self.now name.now (on_dag Read dag))) }
+    {
+        match self.masked(name) {
+            Some(role) => {
+                add_readable(named, role.dags())?;
+                Ok(())
+            }
+            None => Ok(()),
         }
     }
 

@@ -1,6 +1,7 @@
 mod asserts;
 mod changes;
 mod grants;
+mod history;
 mod listing;
 mod openings;
 mod reads;

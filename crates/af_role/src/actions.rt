@@ -64,7 +64,7 @@ impl Actions {
     }
 
     /// The set with the actions of another.
-    pub fn and(self, more: Actions) -> Actions
+    pub fn with_all(self, more: Actions) -> Actions
         ensures { (action : Action) → has result action ≡ (has more action || has self action) }
     {
         self.union(more)

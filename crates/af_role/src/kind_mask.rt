@@ -45,7 +45,7 @@ impl KindMask {
         ensures { (kind : ResourceKind) (action : Action) → kind_has self.new kind action ≡ (kind_has more.now kind action || kind_has self.old kind action) }
     {
         for place in 0..KINDS {
-            self.sets[place] = self.sets[place].and(more.sets[place]);
+            self.sets[place] = self.sets[place].with_all(more.sets[place]);
         }
     }
 }

@@ -1,5 +1,6 @@
 //! Who is told what of a policy: one's own permissions, roles and users, or why not.
 use crate::tests::asserts::has_memory;
+use crate::tests::history::History;
 use crate::tests::openings::THE_FIVE;
 use crate::tests::steps::Step;
 use crate::tests::stories::Case::{self, Asks, IsSelf, Reads};
@@ -13,7 +14,7 @@ use crate::tests::words::{
     UNAUTHENTICATED, VERAS, VERSION_1,
 };
 use af_names::{RoleName, UserName};
-use af_policy::{BadInput, MeFault, Parameter, PolicyRead, ReadFault, ReadKind, Span, Versions};
+use af_policy::{BadInput, MeFault, Parameter, PolicyRead, ReadFault, ReadKind, Span};
 use std::alloc::Global;
 use std::process::Abort;
 
@@ -111,38 +112,36 @@ fn read_of(rt: &impl Abort, alloc: Global, asked: Asked) -> PolicyRead {
 pub fn is_read(
     rt: &impl Abort,
     alloc: Global,
-    versions: &Versions,
+    versions: &History,
     token: &str,
     asked: Asked,
     wanted: &str,
 ) -> bool {
     let read = read_of(rt, alloc, asked);
-    let told = versions.read(alloc, Some(token.as_bytes()), &read);
+    let answer = versions.latest().read(alloc, Some(token.as_bytes()), &read);
     drop(read);
-    let has_room = !matches!(&told.answer, Err(ReadFault::OutOfMemory));
+    let has_room = !matches!(&answer, Err(ReadFault::OutOfMemory));
     has_memory(rt, has_room, "a reading");
     let mut telling = Telling::of(wanted);
-    tell_answer(rt, alloc, &mut telling, &told.answer);
-    let is_first = told.version == 0;
-    drop(told);
-    telling.is_wanted() && is_first
+    tell_answer(rt, alloc, &mut telling, &answer);
+    drop(answer);
+    telling.is_wanted() && versions.current() == 0
 }
 
 /// Whether the bearer of a token is told to be this one, under this version.
 pub fn is_self(
     rt: &impl Abort,
     alloc: Global,
-    versions: &Versions,
+    versions: &History,
     token: &str,
     version: u32,
     wanted: &str,
 ) -> bool {
-    let told = versions.me(alloc, Some(token.as_bytes()));
-    let has_room = !matches!(&told.answer, Err(MeFault::OutOfMemory));
+    let answer = versions.latest().me(alloc, Some(token.as_bytes()));
+    let has_room = !matches!(&answer, Err(MeFault::OutOfMemory));
     has_memory(rt, has_room, "who one is");
     let mut telling = Telling::of(wanted);
-    tell_self(rt, alloc, &mut telling, &told.answer);
-    let is_under = told.version == version;
-    drop(told);
-    telling.is_wanted() && is_under
+    tell_self(rt, alloc, &mut telling, &answer);
+    drop(answer);
+    telling.is_wanted() && versions.current() == version as usize
 }

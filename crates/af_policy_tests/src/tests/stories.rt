@@ -2,13 +2,14 @@
 //! the function that plays the rows, and hands them to drop, which is proved once.
 use crate::tests::asserts::{has_memory, row_holds};
 use crate::tests::grants::{Granted, have, is_bearer, is_granted};
+use crate::tests::history::History;
 use crate::tests::openings::{Added, finished};
 use crate::tests::reads::{Asked, is_read, is_self};
 use crate::tests::steps::{Step, ask_of, copied};
 use crate::tests::telling::Telling;
 use crate::tests::told::{tell_fault, tell_outcome};
 use crate::tests::words::{DONE, VERAS};
-use af_policy::{ChangeFault, Policy, SubmitFault, Versions};
+use af_policy::{ChangeFault, Policy, Refusal};
 use std::alloc::{AllocGlobal, Global};
 use std::process::Abort;
 
@@ -55,14 +56,14 @@ pub fn play(rt: &(impl AllocGlobal + Abort), stories: &[Story]) {
     let alloc = rt.alloc();
     for story in stories {
         let policy = finished(rt, alloc, story.members).expect(rt, "a policy");
-        let mut versions = Versions::open(alloc, policy, story.left);
+        let mut versions = History::open(alloc, policy, story.left);
         play_parts(rt, alloc, &mut versions, story.parts);
         drop(versions);
     }
 }
 
 /// Plays the cases of each part on these versions.
-fn play_parts(rt: &impl Abort, alloc: Global, versions: &mut Versions, parts: &[Part]) {
+fn play_parts(rt: &impl Abort, alloc: Global, versions: &mut History, parts: &[Part]) {
     for (what, cases) in parts {
         for (row, case) in cases.iter().enumerate() {
             row_holds(rt, is_so(rt, alloc, versions, *case), what, row);
@@ -71,7 +72,7 @@ fn play_parts(rt: &impl Abort, alloc: Global, versions: &mut Versions, parts: &[
 }
 
 /// Whether a case is as it says.
-fn is_so(rt: &impl Abort, alloc: Global, versions: &mut Versions, case: Case) -> bool {
+fn is_so(rt: &impl Abort, alloc: Global, versions: &mut History, case: Case) -> bool {
     match case {
         Case::Makes(step, wanted) => is_made(rt, alloc, versions, step, wanted),
         Case::Asks(token, step, wanted) => is_outcome(rt, alloc, versions, token, step, wanted),
@@ -86,14 +87,14 @@ fn is_so(rt: &impl Abort, alloc: Global, versions: &mut Versions, case: Case) ->
         Case::Have(reads, edits, pat_reads) => {
             have(rt, alloc, versions.latest(), (reads, edits, pat_reads))
         }
-        Case::Latest(version) => versions.current() == version,
+        Case::Latest(version) => versions.current() == version as usize,
         Case::KnowsVera(version, wanted) => knows_vera(versions, version) == wanted,
     }
 }
 
 /// Whether vera is known under a version; none past the latest.
-fn knows_vera(versions: &Versions, version: u32) -> Option<bool> {
-    match versions.policy(version) {
+fn knows_vera(versions: &History, version: u32) -> Option<bool> {
+    match versions.policy(version as usize) {
         Some(policy) => Some(policy.bearer(Some(VERAS.as_bytes())).is_some()),
         None => None,
     }
@@ -103,15 +104,15 @@ fn knows_vera(versions: &Versions, version: u32) -> Option<bool> {
 fn is_outcome(
     rt: &impl Abort,
     alloc: Global,
-    versions: &mut Versions,
+    versions: &mut History,
     token: &str,
     step: Step,
     wanted: &str,
 ) -> bool {
     let ask = ask_of(rt, alloc, step);
-    let made = versions.submit(alloc, Some(token.as_bytes()), &ask);
+    let made = versions.make(rt, alloc, token, &ask);
     drop(ask);
-    let has_room = !matches!(&made, Err(SubmitFault::OutOfMemory));
+    let has_room = !matches!(&made, Err(Refusal::OutOfMemory));
     has_memory(rt, has_room, "what is asked for");
     let mut telling = Telling::of(wanted);
     tell_outcome(rt, alloc, &mut telling, &made);
@@ -123,7 +124,7 @@ fn is_outcome(
 fn is_made(
     rt: &impl Abort,
     alloc: Global,
-    versions: &mut Versions,
+    versions: &mut History,
     step: Step,
     wanted: &str,
 ) -> bool {
@@ -150,6 +151,6 @@ fn is_made(
 
 /// Opens versions anew, with this policy alone and none left. Those before are handed to `drop`, which is proved once, and not at each
 /// way out.
-fn put(alloc: Global, versions: &mut Versions, policy: Policy) {
-    drop(std::mem::replace(versions, Versions::open(alloc, policy, 0)));
+fn put(alloc: Global, versions: &mut History, policy: Policy) {
+    drop(std::mem::replace(versions, History::open(alloc, policy, 0)));
 }

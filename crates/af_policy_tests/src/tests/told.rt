@@ -6,7 +6,7 @@ use crate::tests::words::{
     SEMICOLON, TOO_MANY, UNAUTHENTICATED,
 };
 use af_policy::{
-    ChangeFault, Me, MeFault, Page, PolicyReply, ReadFault, RoleShown, SubmitFault, UserShown,
+    ChangeFault, Me, MeFault, Page, PolicyReply, ReadFault, Refusal, RoleShown, UserShown,
 };
 use std::alloc::Global;
 use std::process::Abort;
@@ -52,23 +52,23 @@ pub fn tell_outcome(
     rt: &impl Abort,
     alloc: Global,
     telling: &mut Telling<'_>,
-    made: &Result<u32, SubmitFault>,
+    made: &Result<usize, Refusal>,
 ) {
     match made {
-        Ok(version) => tell_number(rt, alloc, telling, "version ", *version as usize),
-        Err(SubmitFault::Refused(fault)) => tell_fault(telling, fault),
+        Ok(version) => tell_number(rt, alloc, telling, "version ", *version),
+        Err(Refusal::Refused(fault)) => tell_fault(telling, fault),
         Err(fault) => telling.tell(submit_word(fault)),
     }
 }
 
 /// A fault of what somebody asks for, but for that of the change.
-fn submit_word(fault: &SubmitFault) -> &'static str {
+fn submit_word(fault: &Refusal) -> &'static str {
     match fault {
-        SubmitFault::Unauthenticated => UNAUTHENTICATED,
-        SubmitFault::Denied(_) => DENIED,
-        SubmitFault::BadBody(_) => BAD_BODY,
-        SubmitFault::Full => FULL,
-        SubmitFault::OutOfMemory => OUT_OF_MEMORY,
+        Refusal::Unauthenticated => UNAUTHENTICATED,
+        Refusal::Denied(_) => DENIED,
+        Refusal::BadBody(_) => BAD_BODY,
+        Refusal::Full => FULL,
+        Refusal::OutOfMemory => OUT_OF_MEMORY,
         _ => NO_SUCH_ANSWER,
     }
 }

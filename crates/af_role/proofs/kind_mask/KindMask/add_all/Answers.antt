@@ -12,7 +12,7 @@ loop-place-preserved c =
     in let own_within : c.loop-place.place < length own = omega (arith, within, c.loop-place.invariant.eight)
     in record {
       joined =
-          joined_next own more c.args.self.now.sets c.loop-place.place c.and.result own_within c.loop-place.invariant.joined _ _ c.and.ensures
+          joined_next own more c.args.self.now.sets c.loop-place.place c.with_all.result own_within c.loop-place.invariant.joined _ _ c.with_all.ensures
           (λ a. has_at-get more c.loop-place.place _ a (omega (arith, within, eight))) (λ a. has_at-get own c.loop-place.place _ a own_within);
-      eight = length-set own c.loop-place.place c.and.result ∙ c.loop-place.invariant.eight;
+      eight = length-set own c.loop-place.place c.with_all.result ∙ c.loop-place.invariant.eight;
     }

@@ -4,7 +4,7 @@ use Rattle.af_role.specs.Roles.{RoleRow}
 use Rattle.af_policy.specs.Grants.{some_role_lists}
 use Rattle.af_policy.specs.Views.{first_lists, held}
 use Rattle.af_policy.proofs.ViewLemmas.{role_lists-found}
-use Rattle.af_policy.proofs.view.View.named.Goals as goal
+use Rattle.af_policy.proofs.view.View.of_names.Goals as goal
 
 pub returns-in-Some : goal.returns-in-Some
 returns-in-Some c pair =

@@ -2,7 +2,7 @@ use Rattle.std.proofs.Common.{ap, ◌==◌, ◌∙◌}
 use Rattle.std.specs.Int.RustNames.{bit_and}
 use Rattle.af_role.specs.ActionSets.{bit_of}
 use Rattle.af_role.proofs.MaskLemmas.{union_has}
-use Rattle.af_role.proofs.actions.Actions.and.Goals as goal
+use Rattle.af_role.proofs.actions.Actions.with_all.Goals as goal
 
 pub returns : goal.returns
 returns c action =
