@@ -10,10 +10,11 @@ mod KeyLemmas
 mod LawLemmas
 mod ListingLemmas
 mod MarkingLemmas
+mod NamedLemmas
 mod PageLemmas
 mod PlainLemmas
 mod PolicyLawLemmas
-mod PolicyRefusalLemmas
+pub mod PolicyUnderLemmas
 mod PoolLemmas
 pub mod ReadingLemmas
 mod RowLawLemmas

@@ -24,8 +24,8 @@ use Rattle.af_policy.specs.declared.policy_reply.PolicyReply.{PolicyReply}
 use Rattle.af_policy.specs.declared.read_fault.ReadFault.{ReadFault}
 use Rattle.af_policy.specs.declared.read_kind.ReadKind.{ReadKind}
 use Rattle.af_policy.specs.declared.read_kind.ReadKind.TheVariants as reading
-use Rattle.af_policy.specs.declared.submit_fault.SubmitFault.{SubmitFault}
-use Rattle.af_policy.specs.declared.submit_fault.SubmitFault.TheVariants.{Full}
+use Rattle.af_policy.specs.declared.refusal.Refusal.{Refusal}
+use Rattle.af_policy.specs.declared.refusal.Refusal.TheVariants.{Full}
 use Rattle.af_policy.specs.declared.bad_input.BadInput.TheVariants as input
 use Rattle.af_ops.specs.declared.method.Method.TheVariants.{Get}
 use Rattle.af_ops.specs.declared.policy_op.PolicyOp.{PolicyOp}
@@ -118,11 +118,11 @@ asked_parts policy later ask (Some author) is = lacking (missing policy author (
     lacking None lacked same = (author, refl, lacked, same)
 
 -- a version is left for what is made
-within_parts : (versions : VersionRows) (later : PolicyRows) (r : Result PolicyRows SubmitFault) → within versions r ≡ Ok later → (r ≡ Ok later) × (length versions.earlier < versions.last)
+within_parts : (versions : VersionRows) (later : PolicyRows) (r : Result PolicyRows Refusal) → within versions r ≡ Ok later → (r ≡ Ok later) × (length versions.earlier < versions.last)
 within_parts versions later (Err fault) is = absurd (err_ok is)
 within_parts versions later (Ok policy) is = left (nat_le versions.last (length versions.earlier)) refl is
   where
-    left : (full : Bool) → nat_le versions.last (length versions.earlier) ≡ full → (let r : Result PolicyRows SubmitFault = if full then Err Full else Ok policy in r ≡ Ok later) → (let r : Result PolicyRows SubmitFault = Ok policy in r ≡ Ok later) × (length versions.earlier < versions.last)
+    left : (full : Bool) → nat_le versions.last (length versions.earlier) ≡ full → (let r : Result PolicyRows Refusal = if full then Err Full else Ok policy in r ≡ Ok later) → (let r : Result PolicyRows Refusal = Ok policy in r ≡ Ok later) × (length versions.earlier < versions.last)
     left true is_full same = absurd (err_ok same)
     left false is_full same = (same, leb-false versions.last (length versions.earlier) is_full)
 
@@ -142,7 +142,7 @@ made_by versions token ask policy is =
     }
 
 -- what the verdict on a change makes is what was submitted
-published : (version : ℕ) (ask : Ask) (r : Result PolicyRows SubmitFault) (reply : Option (List ℕ)) (policy : PolicyRows) → change_verdict version ask r ≡ Publishes reply policy → r ≡ Ok policy
+published : (version : ℕ) (ask : Ask) (r : Result PolicyRows Refusal) (reply : Option (List ℕ)) (policy : PolicyRows) → change_verdict version ask r ≡ Publishes reply policy → r ≡ Ok policy
 published version ask (Ok later) reply policy is = ap Ok (ap made_policy is)
   where
     made_policy : PolicyVerdict → PolicyRows
@@ -163,7 +163,7 @@ read_makes_none : (asked : PolicyRead) (r : Result PolicyReply ReadFault) (reply
 read_makes_none asked (Ok it) reply policy is = cc
 read_makes_none asked (Err fault) reply policy is = cc
 
-unread_makes_none : (r : Result PolicyRows SubmitFault) (reply : Option (List ℕ)) (policy : PolicyRows) → unread_verdict r ≡ Publishes reply policy → ⊥
+unread_makes_none : (r : Result PolicyRows Refusal) (reply : Option (List ℕ)) (policy : PolicyRows) → unread_verdict r ≡ Publishes reply policy → ⊥
 unread_makes_none (Ok it) reply policy is = cc
 unread_makes_none (Err fault) reply policy is = cc
 
@@ -188,7 +188,7 @@ read_leaves : (versions : VersionRows) (asked : PolicyRead) (r : Result PolicyRe
 read_leaves versions asked (Ok it) = refl
 read_leaves versions asked (Err fault) = refl
 
-unread_leaves : (versions : VersionRows) (r : Result PolicyRows SubmitFault) → versions_after (unread_verdict r) versions ≡ versions
+unread_leaves : (versions : VersionRows) (r : Result PolicyRows Refusal) → versions_after (unread_verdict r) versions ≡ versions
 unread_leaves versions (Ok it) = refl
 unread_leaves versions (Err fault) = refl
 

@@ -17,9 +17,9 @@ pub mod PolicyBodies
 pub mod PolicyFaults
 pub mod PolicyLaws
 pub mod PolicyOps
-pub mod PolicyPerformed
 pub mod PolicyServed
 pub mod PolicyTexts
+pub mod PolicyUnder
 pub mod PolicyVerdicts
 pub mod PoolEffects
 pub mod PoolOps

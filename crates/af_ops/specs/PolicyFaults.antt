@@ -19,8 +19,8 @@ use Rattle.af_policy.specs.declared.policy_read.PolicyRead.{PolicyRead}
 use Rattle.af_policy.specs.declared.policy_read.PolicyRead.TheVariants as read
 use Rattle.af_policy.specs.declared.read_fault.ReadFault.{ReadFault}
 use Rattle.af_policy.specs.declared.read_fault.ReadFault.TheVariants as reading
-use Rattle.af_policy.specs.declared.submit_fault.SubmitFault.{SubmitFault}
-use Rattle.af_policy.specs.declared.submit_fault.SubmitFault.TheVariants as submit
+use Rattle.af_policy.specs.declared.refusal.Refusal.{Refusal}
+use Rattle.af_policy.specs.declared.refusal.Refusal.TheVariants as submit
 use Rattle.af_ops.specs.declared.status.Status.TheVariants as status
 use Rattle.af_ops.specs.Faults.{fault_of}
 use Rattle.af_ops.specs.Rows.{Problem}
@@ -105,7 +105,7 @@ change_problem name refused.LastAdmin = fault_of status.Conflict (codes "last ad
 change_problem name refused.TooMany = fault_of status.Conflict (codes "too many")
 change_problem name refused.OutOfMemory = None
 
-abbrev pub submit_problem : Ask → SubmitFault → Option Problem
+abbrev pub submit_problem : Ask → Refusal → Option Problem
 submit_problem ask submit.NotFound = no_policy
 submit_problem ask submit.Unauthenticated = nobody
 submit_problem ask (submit.Denied need) = denial need
@@ -116,7 +116,7 @@ submit_problem ask submit.OutOfMemory = None
 submit_problem ask (submit.Moved version) = fault_of status.Conflict (codes "policy moved to version " ++ decimal version)
 
 -- of a body that was not read nothing is told
-abbrev pub unread_problem : SubmitFault → Option Problem
+abbrev pub unread_problem : Refusal → Option Problem
 unread_problem submit.NotFound = no_policy
 unread_problem submit.Unauthenticated = nobody
 unread_problem (submit.Denied need) = denial need

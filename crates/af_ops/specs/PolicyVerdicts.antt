@@ -13,7 +13,7 @@ use Rattle.af_policy.specs.declared.me_fault.MeFault.{MeFault}
 use Rattle.af_policy.specs.declared.policy_read.PolicyRead.{PolicyRead}
 use Rattle.af_policy.specs.declared.policy_reply.PolicyReply.{PolicyReply}
 use Rattle.af_policy.specs.declared.read_fault.ReadFault.{ReadFault}
-use Rattle.af_policy.specs.declared.submit_fault.SubmitFault.{SubmitFault}
+use Rattle.af_policy.specs.declared.refusal.Refusal.{Refusal}
 use Rattle.af_ops.specs.declared.policy_op.PolicyOp.{PolicyOp}
 use Rattle.af_ops.specs.declared.policy_op.PolicyOp.TheVariants as asks
 use Rattle.af_ops.specs.Fields.{object_of}
@@ -47,12 +47,12 @@ asked_text version later (Made it) = change_text version later it
 asked_text version later (Bad kind input) = None
 
 -- a change that is asked for under a version
-abbrev pub change_verdict : ℕ → Ask → Result PolicyRows SubmitFault → PolicyVerdict
+abbrev pub change_verdict : ℕ → Ask → Result PolicyRows Refusal → PolicyVerdict
 change_verdict version ask (Ok later) = Publishes (asked_text (version + 1) later ask) later
 change_verdict version ask (Err fault) = Refuses (submit_problem ask fault)
 
 -- a change whose body was not read is refused as one whose body is none is, but for what is told of the body
-abbrev pub unread_verdict : Result PolicyRows SubmitFault → PolicyVerdict
+abbrev pub unread_verdict : Result PolicyRows Refusal → PolicyVerdict
 unread_verdict (Ok later) = Refuses None
 unread_verdict (Err fault) = Refuses (unread_problem fault)
 

@@ -1,4 +1,5 @@
 ghost use Rattle.std.specs.Prelude.{◌≡◌, ◌<◌, ◌≤◌, ◌↔◌, ℕ, List, Bool, false, true, Err, IfErr, IfOk, Ok, if◌then◌else◌};
+ghost use Rattle.af_policy.specs.Grants.{reads_dag};
 ghost use Rattle.af_policy.specs.Views.{held};
 ghost use Rattle.af_ops.specs.declared.answer.CallFault.{CallFault};
 ghost use Rattle.af_ops.specs.declared.answer.OpFault.TheVariants.{HistoryFull, OutOfMemory};
@@ -14,10 +15,10 @@ use crate::operations::dags::differs;
 use crate::operations::pools::would_change_pools;
 use crate::operations::variables::would_change_variables;
 use crate::prepared::Prepared;
-use crate::preparing::prepare;
+use crate::preparing::prepare_for;
 use crate::table::needs_for;
 use af_names::{DagId, Instant, RunId};
-use af_policy::{Reader, View};
+use af_policy::View;
 use af_runs::Mark;
 use af_sched::State;
 use std::alloc::Global;
@@ -47,22 +48,22 @@ pub fn decide_for(
 }
 
 /// Works out a permitted operation. A change is refused where there is no room for its entry.
-fn permitted<R: Reader>(
+fn permitted(
     alloc: Global,
-    reader: &R,
+    view: &View<'_>,
     state: &mut State,
     under: Under,
     limit: u32,
     op: &Op,
     now: Instant,
 ) -> Result<Prepared, CallFault>
-    ensures verdict { IsDecided op.now state.old.rows (done limit under (effect_of (R.reads reader.now) state.old.rows op.now now)) result }
+    ensures verdict { IsDecided op.now state.old.rows (done limit under (effect_of (reads_dag (held view.now)) state.old.rows op.now now)) result }
     ensures room { IfOk result (λ prepared. CanDo state.new prepared.edit) }
     ensures exact { IfOk result (λ prepared. IsExact state.old.rows prepared.edit) }
     ensures entries { IfOk result (λ prepared. is_edit prepared.edit ≡ true → under.seq < limit) }
     ensures rows { state.new.rows ≡ state.old.rows }
 {
-    match prepare(alloc, state, op, reader, now) {
+    match prepare_for(alloc, state, op, view, now) {
         Ok(prepared) => match with_room(prepared, under, limit) {
             Ok(prepared) => Ok(prepared),
             Err(fault) => Err(CallFault::Op(fault)),

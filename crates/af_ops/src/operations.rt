@@ -4,6 +4,7 @@ pub(crate) mod dags;
 pub(crate) mod deleting;
 pub(crate) mod instances;
 pub(crate) mod marking;
+pub(crate) mod named_dags;
 pub(crate) mod pools;
 pub(crate) mod runs;
 pub(crate) mod shared;

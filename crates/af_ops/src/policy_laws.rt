@@ -1,5 +1,6 @@
 // Laws about operations on the policy. Each is the contract of a function that does nothing.
 ghost use Rattle.std.specs.Prelude.{List};
+ghost use Rattle.af_ops.specs.PolicyUnder.{VerdictsAreUnderTheLatest};
 ghost use Rattle.af_ops.specs.PolicyLaws.{AnswersNameTheLatest, ChangesAddOneVersion, DenialsAreRefused, PolicyNeedsAreTheTables, PolicyPagesAreCut, ReadingsLeaveTheVersions, RefusalsLeaveTheVersions, StrangersAreRefused};
 
 /// The table requires of who reads or changes the policy what the policy does, and of who asks about oneself nothing but a token.
@@ -40,4 +41,9 @@ pub fn answers_name_the_latest()
 /// A page of roles or users is cut as every other listing is.
 pub fn policy_pages_are_cut<T>()
     ensures { (rows : List T) → PolicyPagesAreCut rows }
+{}
+
+/// The verdict under the latest of the versions is the one under that policy and its number.
+pub fn verdicts_are_under_the_latest()
+    ensures { VerdictsAreUnderTheLatest }
 {}

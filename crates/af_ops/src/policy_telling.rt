@@ -10,7 +10,7 @@ use crate::policy_details::{
 };
 use crate::shown_answer::Shown;
 use crate::status::Status;
-use af_policy::{Ask, ChangeFault, MeFault, PolicyRead, ReadFault, SubmitFault};
+use af_policy::{Ask, ChangeFault, MeFault, PolicyRead, ReadFault, Refusal};
 use std::alloc::{AllocError, Global};
 
 /// What is told of why nobody is told who the bearer of a token is.
@@ -57,41 +57,39 @@ pub(crate) fn shown_read_fault(
 pub fn shown_submit_fault(
     alloc: Global,
     ask: &Ask,
-    fault: &SubmitFault,
+    fault: &Refusal,
     version: u32,
 ) -> Result<Shown, AllocError>
     ensures { IfOk result (λ shown. Some shown ≡ option_map (problem_at version) (submit_problem ask.now fault.now)) }
 {
     match fault {
-        SubmitFault::NotFound => shown_no_policy(alloc, version),
-        SubmitFault::Unauthenticated => shown_nobody(alloc, version),
-        SubmitFault::Denied(need) => shown_denial(alloc, *need, version),
-        SubmitFault::BadBody(it) => shown_bad_input(alloc, *it, version),
-        SubmitFault::Refused(fault) => {
-            shown_change_fault(alloc, asked_name(ask), fault, version)
-        }
-        SubmitFault::Full => {
+        Refusal::NotFound => shown_no_policy(alloc, version),
+        Refusal::Unauthenticated => shown_nobody(alloc, version),
+        Refusal::Denied(need) => shown_denial(alloc, *need, version),
+        Refusal::BadBody(it) => shown_bad_input(alloc, *it, version),
+        Refusal::Refused(fault) => { shown_change_fault(alloc, asked_name(ask), fault, version) }
+        Refusal::Full => {
             shown_problem(alloc, version, Status::InsufficientStorage, "versions full")
         }
-        SubmitFault::OutOfMemory => Err(AllocError),
-        SubmitFault::Moved(other) => shown_moved(alloc, *other, version),
+        Refusal::OutOfMemory => Err(AllocError),
+        Refusal::Moved(other) => shown_moved(alloc, *other, version),
     }
 }
 
 /// What is told of why a change whose body was not read makes no version; of the body nothing is.
 pub(crate) fn shown_unread_fault(
     alloc: Global,
-    fault: &SubmitFault,
+    fault: &Refusal,
     version: u32,
 ) -> Result<Shown, AllocError>
     ensures { IfOk result (λ shown. Some shown ≡ option_map (problem_at version) (unread_problem fault.now)) }
 {
     match fault {
-        SubmitFault::NotFound => shown_no_policy(alloc, version),
-        SubmitFault::Unauthenticated => shown_nobody(alloc, version),
-        SubmitFault::Denied(need) => shown_denial(alloc, *need, version),
-        SubmitFault::BadBody(_) | SubmitFault::Refused(_) | SubmitFault::Full => Err(AllocError),
-        SubmitFault::OutOfMemory | SubmitFault::Moved(_) => Err(AllocError),
+        Refusal::NotFound => shown_no_policy(alloc, version),
+        Refusal::Unauthenticated => shown_nobody(alloc, version),
+        Refusal::Denied(need) => shown_denial(alloc, *need, version),
+        Refusal::BadBody(_) | Refusal::Refused(_) | Refusal::Full => Err(AllocError),
+        Refusal::OutOfMemory | Refusal::Moved(_) => Err(AllocError),
     }
 }
 

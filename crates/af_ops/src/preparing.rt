@@ -1,4 +1,6 @@
 ghost use Rattle.std.specs.Prelude.{◌≡◌, IfOk};
+ghost use Rattle.af_policy.specs.Grants.{reads_dag};
+ghost use Rattle.af_policy.specs.Views.{held};
 ghost use Rattle.af_ops.specs.declared.answer.OpFault.TheVariants.{OutOfMemory};
 ghost use Rattle.af_ops.specs.Effects.{effect_of};
 ghost use Rattle.af_ops.specs.Prepared.{CanDo, IsExact, MemoryLast, done_on};
@@ -12,6 +14,7 @@ use crate::operations::dags::{got_dag, listed_dags, paused_dag};
 use crate::operations::deleting::run_deleted;
 use crate::operations::instances::{got_instance, listed_instances};
 use crate::operations::marking::run_marked;
+use crate::operations::named_dags::dags_for;
 use crate::operations::pools::prepare_pools;
 use crate::operations::runs::{got_run, listed_runs};
 use crate::operations::tasks::listed_tasks;
@@ -21,7 +24,7 @@ use crate::prepared::Prepared;
 use crate::product::Product;
 use crate::row::row_text;
 use af_names::Instant;
-use af_policy::Reader;
+use af_policy::{Reader, View};
 use af_sched::State;
 use std::alloc::Global;
 
@@ -65,4 +68,24 @@ pub fn prepare<R: Reader>(
         Op::Pool(op) => prepare_pools(alloc, state, op),
         Op::Variable(op) => prepare_variables(alloc, state, op),
     }
+}
+
+/// The same for a user whom a policy grants this. Where the user does not read all DAGs, a listing of DAGs goes over those that
+/// the view names.
+pub(crate) fn prepare_for(
+    alloc: Global,
+    state: &mut State,
+    op: &Op,
+    view: &View<'_>,
+    now: Instant,
+) -> Result<Prepared, OpFault>
+    ensures told { MemoryLast OutOfMemory (effect_of (reads_dag (held view.now)) state.old.rows op.now now) (seen (done_on state.old.rows) result) }
+    ensures room { IfOk result (λ prepared. CanDo state.new prepared.edit) }
+    ensures exact { IfOk result (λ prepared. IsExact state.old.rows prepared.edit) }
+    ensures rows { state.new.rows ≡ state.old.rows }
+{
+    if let Op::ListDags(asked) = op {
+        return dags_for(alloc, state, asked, view);
+    }
+    prepare(alloc, state, op, view, now)
 }
