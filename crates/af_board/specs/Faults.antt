@@ -2,8 +2,8 @@
 use Rattle.std.specs.Prelude.{◌≡◌, ℕ, ◌+◌, ◌<◌, List, true, length, IsOk, Option, Some, None, Err}
 use Rattle.af_policy.specs.Versions.{decided, decided_wants}
 use Rattle.af_policy.specs.declared.ask.Ask.{Ask}
-use Rattle.af_policy.specs.declared.submit_fault.SubmitFault as refusal
-use Rattle.af_policy.specs.declared.submit_fault.SubmitFault.TheVariants as fault
+use Rattle.af_policy.specs.declared.refusal.Refusal as refusal
+use Rattle.af_policy.specs.declared.refusal.Refusal.TheVariants as fault
 use Rattle.af_word.specs.Places.{Sight}
 use Rattle.af_board.specs.Drafted.{Drafted}
 use Rattle.af_board.specs.Drafts.{FullBy}
@@ -12,7 +12,7 @@ use Rattle.af_board.specs.declared.submit_fault.SubmitFault.{SubmitFault}
 use Rattle.af_board.specs.declared.submit_fault.SubmitFault.TheVariants.{NotFound, Unauthenticated, Denied, BadBody, Refused, Full, OutOfMemory, Moved}
 
 -- under the last version that a pass has now seen, which this mark names, the decision on what was asked is this refusal
-abbrev pub RefusedUnder : Site → Option (List ℕ) → Ask → Sight → Marked → refusal.SubmitFault → Type 0
+abbrev pub RefusedUnder : Site → Option (List ℕ) → Ask → Sight → Marked → refusal.Refusal → Type 0
 RefusedUnder site token ask pass m why = IsLast site pass m × (decided (policy_of site m) token ask ≡ Err why)
 
 -- why there is no draft of what was asked; the pass is as the call leaves it
@@ -61,7 +61,7 @@ steps_of (OutOfMemory m) = 1
 steps_of (Moved version) = 2
 
 -- an error without its mark
-abbrev pub plain : SubmitFault → refusal.SubmitFault
+abbrev pub plain : SubmitFault → refusal.Refusal
 plain NotFound = fault.NotFound
 plain (Unauthenticated m) = fault.Unauthenticated
 plain (Denied m need) = fault.Denied need

@@ -1,6 +1,6 @@
 ghost use Rattle.std.specs.Prelude.{◌≡◌, ◌+◌, ◌<◌, ◌∷◌, [], length, None, IfOk, IfErr};
 ghost use mathlib.Core.List.{IsPrefix};
-ghost use Rattle.af_word.specs.Places.{Within};
+ghost use Rattle.af_word.specs.Calls.{Advanced, Looked};
 ghost use Rattle.af_board.specs.Marks.{HasSeen, IsLast, IsOf, place_of, policy_of};
 
 use crate::{Mark, NotFound, OutOfMemory};
@@ -39,7 +39,7 @@ impl Board {
     /// `OutOfMemory` if an allocation failed. Atomic step: the opening of the word.
     pub fn open(alloc: Global, policy: Policy, last: u32) -> Result<(Board, Pass), OutOfMemory>
         ensures board { IfOk result (λ r. (r.0.opening ≡ policy) × (r.0.word.last ≡ last)) }
-        ensures pass { IfOk result (λ r. r.1 ≡ record { word = r.0.word; places = 0 ∷ []; steps = 0 }) }
+        ensures pass { IfOk result (λ r. r.1 ≡ record { word = r.0.word; places = 0 ∷ []; steps = 0; deeds = 0 }) }
     {
         let Ok(opening) = Compiled::of(&policy) else {
             return Err(OutOfMemory);
@@ -71,12 +71,9 @@ impl Board {
     /// The last version, which the pass has then seen. It takes no memory and does not wait. Atomic step: one look.
     pub fn current(&self, pass: &mut Pass) -> Result<Mark, NotFound>
         requires { pass.old.word ≡ self.now.word }
-        ensures word { pass.new.word ≡ self.now.word }
-        ensures longer { IsPrefix pass.old.places pass.new.places }
-        ensures within { Within self.now.word.first self.now.word.last pass.new.places }
+        ensures looked { Looked pass.old pass.new }
         ensures mark { IfOk result (λ m. IsLast self.now pass.new m) }
         ensures not_found { IfErr result (λ _. 1 < length pass.new.places) }
-        ensures step { pass.new.steps ≡ pass.old.steps + 1 }
     {
         let seen = self.word.look(pass);
         if seen.index == 0 {
@@ -137,41 +134,39 @@ impl Board {
         self.agrees(a, b);
     }
 
-    /// A law: two marks of one version, which two passes of this board have seen, have one policy. Both passes stay as they were. Atomic
-    /// steps: two splits, one join and one look, by copies of the passes.
-    pub fn versions_agree(&self, one: &mut Pass, a: &Mark, other: &mut Pass, b: &Mark)
+    /// A law: two marks of one version, which two passes of this board have seen, have one policy. The first pass takes in the other, as
+    /// in `meet`: a pass that is still wanted is split before. Atomic steps: one join, then one look.
+    pub fn versions_agree(&self, one: &mut Pass, a: &Mark, other: Pass, b: &Mark)
         requires one { one.old.word ≡ self.now.word }
-        requires other { other.old.word ≡ self.now.word }
+        requires other { other.word ≡ self.now.word }
         requires a { IsOf self.now a.now × HasSeen one.old a.now }
-        requires b { IsOf self.now b.now × HasSeen other.old b.now }
+        requires b { IsOf self.now b.now × HasSeen other b.now }
         requires version { a.now.version ≡ b.now.version }
         ensures policy { policy_of self.now a.now ≡ policy_of self.now b.now }
-        ensures one { one.new ≡ one.old }
-        ensures other { other.new ≡ other.old }
+        ensures met { Advanced 1 other.deeds one.old one.new }
+        ensures other { IsPrefix other.places one.new.places }
     {
-        self.word.agree(one, other);
+        self.word.meet(one, other);
         self.agrees(a, b);
     }
 
-    /// Another pass, which has seen the same versions. The first stays as it was. Atomic step: one split.
+    /// Another pass, which has seen the same versions. The split is a deed of both, and the first stays as it was otherwise. Atomic step:
+    /// one split.
     pub fn split(&self, pass: &mut Pass) -> Pass
         requires { pass.old.word ≡ self.now.word }
-        ensures new { result ≡ pass.old }
-        ensures same { pass.new ≡ pass.old }
+        ensures new { result ≡ pass.new }
+        ensures same { pass.new ≡ record pass.old { deeds = pass.old.deeds + 1 } }
     {
         self.word.split(pass)
     }
 
-    /// Takes in what another pass has seen, and looks: the pass has then seen all versions that either had seen. Atomic steps: one
-    /// join, then one look.
+    /// Takes in what another pass has seen, and its deeds, and looks: the pass has then seen all versions that either had seen. Atomic
+    /// steps: one join, then one look.
     pub fn meet(&self, pass: &mut Pass, other: Pass)
         requires pass { pass.old.word ≡ self.now.word }
         requires other { other.word ≡ self.now.word }
-        ensures word { pass.new.word ≡ self.now.word }
-        ensures longer { IsPrefix pass.old.places pass.new.places }
+        ensures met { Advanced 1 other.deeds pass.old pass.new }
         ensures other { IsPrefix other.places pass.new.places }
-        ensures within { Within self.now.word.first self.now.word.last pass.new.places }
-        ensures step { pass.new.steps ≡ pass.old.steps + 1 }
     {
         self.word.meet(pass, other);
     }

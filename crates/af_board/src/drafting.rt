@@ -1,10 +1,9 @@
 ghost use Rattle.std.specs.Prelude.{◌≡◌, ◌+◌, Some, IfOk, IfErr};
 ghost use Rattle.std.specs.Option.{option_copied};
-ghost use mathlib.Core.List.{IsPrefix};
 ghost use Rattle.boxcar.specs.Table.{Shows};
 ghost use Rattle.af_policy.specs.Identity.{bearer_of};
 ghost use Rattle.af_policy.specs.declared.ask.Ask.TheVariants.{Made};
-ghost use Rattle.af_word.specs.Places.{Within};
+ghost use Rattle.af_word.specs.Calls.{Looked};
 ghost use Rattle.af_board.specs.Marks.{IsLast, policy_of};
 ghost use Rattle.af_board.specs.Drafts.{IsDraft};
 ghost use Rattle.af_board.specs.Faults.{Explains};
@@ -13,7 +12,7 @@ ghost use Rattle.af_board.specs.Pushes.{IsSpentBy};
 use crate::push_fault::PushFault;
 use crate::{Board, Draft, Spent, SubmitFault};
 use af_mask::Compiled;
-use af_policy::{Ask, Decision, Policy, SubmitFault as Refusal};
+use af_policy::{Ask, Decision, Policy, Refusal};
 use af_word::Pass;
 use boxcar::Pushed;
 use std::alloc::Global;
@@ -33,10 +32,7 @@ impl Board {
         ask: &Ask,
     ) -> Result<Draft, SubmitFault>
         requires { pass.old.word ≡ self.now.word }
-        ensures word { pass.new.word ≡ self.now.word }
-        ensures longer { IsPrefix pass.old.places pass.new.places }
-        ensures within { Within self.now.word.first self.now.word.last pass.new.places }
-        ensures step { pass.new.steps ≡ pass.old.steps + 1 }
+        ensures looked { Looked pass.old pass.new }
         ensures draft { IfOk result (λ d. IsDraft self.now d) }
         ensures base { IfOk result (λ d. IsLast self.now pass.new d.base) }
         ensures author { IfOk result (λ d. bearer_of (policy_of self.now d.base) (option_copied token.entry) ≡ Some d.author) }

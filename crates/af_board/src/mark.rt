@@ -27,4 +27,18 @@ impl Mark {
     {
         self.version
     }
+
+    /// The same mark once more. It takes no memory.
+    pub fn again(&self) -> Mark
+        ensures { result ≡ self.now }
+    {
+        let token = match &self.token {
+            Some(token) => Some(token.again()),
+            None => None,
+        };
+        Mark {
+            version: self.version,
+            token,
+        }
+    }
 }

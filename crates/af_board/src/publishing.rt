@@ -1,10 +1,9 @@
-ghost use Rattle.std.specs.Prelude.{◌≡◌, ◌+◌, ◌≤◌, ◌++◌, ◌∷◌, [], length, Some, IfOk, IfErr};
+ghost use Rattle.std.specs.Prelude.{◌≡◌, ◌+◌, ◌≤◌, length, Some, IfOk, IfErr};
 ghost use Rattle.std.specs.Option.{option_copied};
-ghost use mathlib.Core.List.{IsPrefix};
 ghost use Rattle.af_policy.specs.Identity.{bearer_of};
 ghost use Rattle.af_policy.specs.Versions.{Follows};
 ghost use Rattle.af_policy.specs.declared.ask.Ask.TheVariants.{Made};
-ghost use Rattle.af_word.specs.Places.{Within};
+ghost use Rattle.af_word.specs.Calls.{Added, Advanced, Looked};
 ghost use Rattle.af_board.specs.Marks.{HasSeen, IsLast, policy_of};
 ghost use Rattle.af_board.specs.Drafts.{IsDraft, IsReceipt, Publishes};
 ghost use Rattle.af_board.specs.Faults.{MovedOr, MovedPast, steps_of};
@@ -23,14 +22,11 @@ impl Board {
         requires word { pass.old.word ≡ self.now.word }
         requires draft { IsDraft self.now draft }
         requires seen { HasSeen pass.old draft.base }
-        ensures word { pass.new.word ≡ self.now.word }
-        ensures longer { IsPrefix pass.old.places pass.new.places }
-        ensures within { Within self.now.word.first self.now.word.last pass.new.places }
-        ensures step { pass.new.steps ≡ pass.old.steps + 1 }
         ensures receipt { IfOk result (λ r. Publishes self.now draft r) }
         ensures last { IfOk result (λ r. IsLast self.now pass.new r.mark) }
-        ensures was { IfOk result (λ r. length pass.old.places ≡ draft.base.version + 1) }
-        ensures places { IfOk result (λ r. pass.new.places ≡ pass.old.places ++ draft.place ∷ []) }
+        ensures was { IfOk result (λ _. length pass.old.places ≡ draft.base.version + 1) }
+        ensures added { IfOk result (λ _. Added draft.place pass.old pass.new) }
+        ensures looked { IfErr result (λ _. Looked pass.old pass.new) }
         ensures err { IfErr result (λ f. MovedPast draft pass.new f) }
     {
         let Draft {
@@ -67,9 +63,6 @@ impl Board {
         ask: &Ask,
     ) -> Result<Receipt, SubmitFault>
         requires { pass.old.word ≡ self.now.word }
-        ensures word { pass.new.word ≡ self.now.word }
-        ensures longer { IsPrefix pass.old.places pass.new.places }
-        ensures within { Within self.now.word.first self.now.word.last pass.new.places }
         ensures receipt { IfOk result (λ r. IsReceipt self.now r) }
         ensures follows { IfOk result (λ r. Follows (policy_of self.now r.base) (policy_of self.now r.mark)) }
         ensures last { IfOk result (λ r. IsLast self.now pass.new r.mark) }
@@ -77,9 +70,9 @@ impl Board {
         ensures change { IfOk result (λ r. ask.now ≡ Made r.change) }
         ensures base { IfOk result (λ r. HasSeen pass.new r.base) }
         ensures new { IfOk result (λ r. length pass.old.places ≤ r.base.version + 1) }
-        ensures steps { IfOk result (λ _. pass.new.steps ≡ pass.old.steps + 2) }
+        ensures added { IfOk result (λ _. Advanced 2 1 pass.old pass.new) }
+        ensures looked { IfErr result (λ f. Advanced (steps_of f) 0 pass.old pass.new) }
         ensures err { IfErr result (λ f. MovedOr self.now (option_copied token.entry) ask.now pass.old pass.new f) }
-        ensures err_steps { IfErr result (λ f. pass.new.steps ≡ pass.old.steps + steps_of f) }
     {
         let draft = self.draft(rt, alloc, pass, token, ask)?;
         Ok(self.publish(pass, draft)?)

@@ -1,8 +1,7 @@
-ghost use Rattle.std.specs.Prelude.{◌≡◌, ◌+◌, ◌<◌, length, IfOk, IfErr, Err, true};
+ghost use Rattle.std.specs.Prelude.{◌≡◌, ◌<◌, length, IfOk, IfErr, Err, true};
 ghost use Rattle.std.specs.Option.{option_copied};
-ghost use mathlib.Core.List.{IsPrefix};
 ghost use Rattle.af_policy.specs.Reads.{MemoryLast, me_of, read_of, reading_wants};
-ghost use Rattle.af_word.specs.Places.{Within};
+ghost use Rattle.af_word.specs.Calls.{Looked};
 ghost use Rattle.af_board.specs.Marks.{IsLast, policy_of};
 
 use crate::{Board, NotFound, Told};
@@ -20,10 +19,7 @@ impl Board {
         token: Option<&[u8]>,
     ) -> Result<Told<Result<Me<'_>, MeFault>>, NotFound>
         requires { pass.old.word ≡ self.now.word }
-        ensures word { pass.new.word ≡ self.now.word }
-        ensures longer { IsPrefix pass.old.places pass.new.places }
-        ensures within { Within self.now.word.first self.now.word.last pass.new.places }
-        ensures step { pass.new.steps ≡ pass.old.steps + 1 }
+        ensures looked { Looked pass.old pass.new }
         ensures mark { IfOk result (λ told. IsLast self.now pass.new told.mark) }
         ensures answer { IfOk result (λ told. MemoryLast MeFault.OutOfMemory (me_of (policy_of self.now told.mark) (option_copied token.entry)) told.answer) }
         ensures not_found { IfErr result (λ _. 1 < length pass.new.places) }
@@ -43,10 +39,7 @@ impl Board {
         read: &PolicyRead,
     ) -> Result<Told<Result<PolicyReply<'_>, ReadFault>>, NotFound>
         requires { pass.old.word ≡ self.now.word }
-        ensures word { pass.new.word ≡ self.now.word }
-        ensures longer { IsPrefix pass.old.places pass.new.places }
-        ensures within { Within self.now.word.first self.now.word.last pass.new.places }
-        ensures step { pass.new.steps ≡ pass.old.steps + 1 }
+        ensures looked { Looked pass.old pass.new }
         ensures mark { IfOk result (λ told. IsLast self.now pass.new told.mark) }
         ensures answer { IfOk result (λ told. MemoryLast ReadFault.OutOfMemory (read_of (policy_of self.now told.mark) (option_copied token.entry) read.now) told.answer) }
         ensures memory { IfOk result (λ told. told.answer ≡ Err ReadFault.OutOfMemory → reading_wants read.now ≡ true) }

@@ -3,7 +3,7 @@ ghost use Rattle.std.specs.Option.{option_copied};
 ghost use Rattle.af_board.specs.Faults.{mark_of, plain};
 
 use crate::{Mark, Spent};
-use af_policy::{BadInput, ChangeFault, SubmitFault as Refusal};
+use af_policy::{BadInput, ChangeFault, Refusal};
 use af_role::Need;
 
 /// Why a submitted change made no version, in the order in which the errors are reported. Each error of a decision carries the mark of

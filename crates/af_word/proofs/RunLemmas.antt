@@ -7,7 +7,7 @@ use Rattle.atomic_table.proofs.Lists.{at_set, at_snoc, at_longer, set_else}
 use Rattle.af_prefixes.proofs.PrefixLemmas.{prefix_self, prefix_empty, prefix_more, prefix_get, prefixes_agree, get_added}
 use Rattle.af_word.specs.declared.view.View.{View}
 use Rattle.af_word.specs.Places.{EndsAt, Names, word_of}
-use Rattle.af_word.specs.Steps.{Standing, IsSeat, sight, sees, informed, nobody, opened, looked, published, Kind, look, win, lose, split, join, Does, opening, further, Knows, IsKept}
+use Rattle.af_word.specs.Steps.{Standing, IsSeat, sight, sees, adds, parts, informed, nobody, opened, looked, published, Kind, look, win, lose, split, join, Does, opening, further, Knows, IsKept}
 use Rattle.af_word.specs.Laws.{EveryRunKeepsTheRule, NoStepFalls, SeatsKnowOnePlace, OthersKeepTheirView, NoSeatForgets}
 
 -- a word has its version above and its place below
@@ -20,6 +20,10 @@ names_word places version place small ends =
 -- a view that has seen the list and was told of none
 knows_all : (first last : ℕ) (places : List ℕ) (v : View) → (v.first ≡ first) × (v.last ≡ last) → Knows first last places (sees v places)
 knows_all first last places v of = record { seen = prefix_self places; told = prefix_empty places; of = λ _. of }
+
+-- a view that has published the last of the list
+knows_added : (first last : ℕ) (places : List ℕ) (v : View) → (v.first ≡ first) × (v.last ≡ last) → Knows first last places (adds v places)
+knows_added first last places v of = record { seen = prefix_self places; told = prefix_empty places; of = λ _. of }
 
 -- a view that knows nothing
 knows_nothing : (first last : ℕ) (places : List ℕ) → Knows first last places nobody
@@ -50,7 +54,7 @@ opened_kept first last small = record {
     at_zero : (k x : ℕ) → k ≡ 0 → x ≡ first → slice_get (first ∷ []) k ≡ Some x
     at_zero k x here same = rw (here, same) refl
 
-    one : (by : ℕ) (v : View) → get_elem? (sight first last (first ∷ []) [] 0 ∷ []) by ≡ some v → Knows first last (first ∷ []) v
+    one : (by : ℕ) (v : View) → get_elem? (sight first last (first ∷ []) [] 0 0 ∷ []) by ≡ some v → Knows first last (first ∷ []) v
     one zero v e = subst (Knows first last (first ∷ [])) (some-injective _ _ e) (record { seen = prefix_self (first ∷ []); told = prefix_empty (first ∷ []); of = λ _. (refl, refl) })
     one (suc by) v e = absurd (some-ne-none v (sym e))
 
@@ -71,18 +75,24 @@ published_kept first last s seat v place kept at all room small =
     record {
       within = record { begins = prefix_get s.places now 0 first (prefix_more s.places s.places place (prefix_self s.places)) kept.within.begins; short = omega (arith, grown, room) };
       names = names_word now (length s.places) place small (record { last = grown; place = get_added s.places (length s.places) place refl });
-      knows = knows_set first last now s.views seat (sees v now)
+      knows = knows_set first last now s.views seat (adds v now)
           (λ j u e. knows_more first last s.places place u (kept.knows j u e))
-          (knows_all first last now v ((kept.knows seat v at).of some_seen));
+          (knows_added first last now v ((kept.knows seat v at).of some_seen));
     }
 
 -- a seat is split
-split_kept : (first last : ℕ) (s : Standing) (seat : ℕ) (v : View) → IsKept first last s → IsSeat s seat v → IsKept first last (record s { views = s.views ++ v ∷ [] })
-split_kept first last s seat v kept at = record {
-  within = kept.within;
-  names = kept.names;
-  knows = λ j u e. ⊎_elim (λ was. kept.knows j u was) (λ (same : v ≡ u). subst (Knows first last s.places) same (kept.knows seat v at)) (at_snoc s.views v u j e);
-}
+split_kept : (first last : ℕ) (s : Standing) (seat : ℕ) (v : View) → IsKept first last s → IsSeat s seat v → IsKept first last (record s { views = set s.views seat (parts v) ++ parts v ∷ [] })
+split_kept first last s seat v kept at =
+    let mine = kept.knows seat v at in
+    let still : Knows first last s.places (parts v) = record { seen = mine.seen; told = mine.told; of = mine.of } in
+    record {
+      within = kept.within;
+      names = kept.names;
+      knows = λ j u e. ⊎_elim
+          (λ was. knows_set first last s.places s.views seat (parts v) kept.knows still j u was)
+          (λ (same : parts v ≡ u). subst (Knows first last s.places) same still)
+          (at_snoc (set s.views seat (parts v)) (parts v) u j e);
+    }
 
 -- two seats are joined
 joined_kept : (first last : ℕ) (s : Standing) (seat other : ℕ) (v u : View) → IsKept first last s → IsSeat s seat v → IsSeat s other u
@@ -139,9 +149,9 @@ seats_agree first last now one other v u run here there =
 -- the views of all other seats stay
 pub step_leaves : OthersKeepTheirView
 step_leaves last (look seat) was now by v (u, at, some_seen, is) apart here = subst (λ (s : Standing). IsSeat s by v) (sym is) (set_else was.views seat by (sees u was.places) apart ∙ here)
-step_leaves last (win seat place) was now by v (u, at, all, room, small, is) apart here = subst (λ (s : Standing). IsSeat s by v) (sym is) (set_else was.views seat by (sees u (was.places ++ place ∷ [])) apart ∙ here)
+step_leaves last (win seat place) was now by v (u, at, all, room, small, is) apart here = subst (λ (s : Standing). IsSeat s by v) (sym is) (set_else was.views seat by (adds u (was.places ++ place ∷ [])) apart ∙ here)
 step_leaves last (lose seat) was now by v (u, at, some_seen, less, is) apart here = subst (λ (s : Standing). IsSeat s by v) (sym is) (set_else was.views seat by (sees u was.places) apart ∙ here)
-step_leaves last (split seat) was now by v (u, at, is) apart here = subst (λ (s : Standing). IsSeat s by v) (sym is) (at_longer was.views (u ∷ []) by v here)
+step_leaves last (split seat) was now by v (u, at, is) apart here = subst (λ (s : Standing). IsSeat s by v) (sym is) (at_longer (set was.views seat (parts u)) (parts u ∷ []) by v (set_else was.views seat by (parts u) apart ∙ here))
 step_leaves last (join seat other) was now by v (u, t, at, there, distinct, is) apart here =
     subst
     (λ (s : Standing). IsSeat s by v)
@@ -160,17 +170,28 @@ seen_set views seat by u x v w at more here there =
     (λ (e : (by ≢ seat) × (get_elem? views by ≡ some w)). subst (λ (y : View). IsPrefix v.seen y.seen) (some-injective v w (sym here ∙ e.1)) (prefix_self v.seen))
     (at_set views seat by x w there)
 
+-- after one view has changed and another was added, a seat has seen what it had, if the seat of the changed view has
+seen_split : (views : List View) (seat by : ℕ) (u x y v w : View) → get_elem? views seat ≡ some u → IsPrefix u.seen x.seen → get_elem? views by ≡ some v
+    → get_elem? (set views seat x ++ y ∷ []) by ≡ some w → IsPrefix v.seen w.seen
+seen_split [] seat by u x y v w at more here there = absurd (some-ne-none v (sym here))
+seen_split (z ∷ zs) zero zero u x y v w at more here there =
+    subst (λ (p : View × View). IsPrefix p.0.seen p.1.seen) (λ i. (some-injective u v (sym at ∙ here) i, some-injective x w there i)) more
+seen_split (z ∷ zs) zero (suc by) u x y v w at more here there =
+    subst (λ (q : View). IsPrefix v.seen q.seen) (some-injective v w (sym (at_longer zs (y ∷ []) by v here) ∙ there)) (prefix_self v.seen)
+seen_split (z ∷ zs) (suc seat) zero u x y v w at more here there =
+    subst (λ (q : View). IsPrefix v.seen q.seen) (some-injective v w (sym here ∙ there)) (prefix_self v.seen)
+seen_split (z ∷ zs) (suc seat) (suc by) u x y v w at more here there = seen_split zs seat by u x y v w at more here there
+
 pub step_remembers : NoSeatForgets
 step_remembers first last (look seat) was now by v w run (u, at, some_seen, is) stays here there =
     let begins = ((run_kept first last was run).knows seat u at).seen in seen_set was.views seat by u (sees u was.places) v w at begins here (subst (λ (s : Standing). IsSeat s by w) is there)
 step_remembers first last (win seat place) was now by v w run (u, at, all, room, small, is) stays here there =
     let begins = ((run_kept first last was run).knows seat u at).seen in
-    seen_set was.views seat by u (sees u (was.places ++ place ∷ [])) v w at (prefix_more u.seen was.places place begins) here (subst (λ (s : Standing). IsSeat s by w) is there)
+    seen_set was.views seat by u (adds u (was.places ++ place ∷ [])) v w at (prefix_more u.seen was.places place begins) here (subst (λ (s : Standing). IsSeat s by w) is there)
 step_remembers first last (lose seat) was now by v w run (u, at, some_seen, less, is) stays here there =
     let begins = ((run_kept first last was run).knows seat u at).seen in seen_set was.views seat by u (sees u was.places) v w at begins here (subst (λ (s : Standing). IsSeat s by w) is there)
 step_remembers first last (split seat) was now by v w run (u, at, is) stays here there =
-    let still : get_elem? (was.views ++ u ∷ []) by ≡ some w = subst (λ (s : Standing). IsSeat s by w) is there in
-    subst (λ (y : View). IsPrefix v.seen y.seen) (some-injective v w (sym (at_longer was.views (u ∷ []) by v here) ∙ still)) (prefix_self v.seen)
+    seen_split was.views seat by u (parts u) (parts u) v w at (prefix_self u.seen) here (subst (λ (s : Standing). IsSeat s by w) is there)
 step_remembers first last (join seat other) was now by v w run (u, t, at, other_at, distinct, is) stays here there =
     let still : get_elem? (set (set was.views seat (informed u t)) other nobody) by ≡ some w = subst (λ (s : Standing). IsSeat s by w) is there in
     seen_set was.views seat by u (informed u t) v w at (prefix_self u.seen) here (sym (set_else (set was.views seat (informed u t)) other by nobody stays) ∙ still)

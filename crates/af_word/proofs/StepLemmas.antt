@@ -6,13 +6,13 @@ use lib.ListN.{get_elem?}
 use prog.Atomic.{either}
 use Rattle.atomic_table.specs.Table.{State, Me, Act, keeps, step, Valid, carried_after, Allows, Splits, Joins}
 use Rattle.atomic_table.specs.Table as table
-use Rattle.atomic_table.proofs.Lists.{at_set, set_again}
+use Rattle.atomic_table.proofs.Lists.{at_set}
 use Rattle.af_prefixes.specs.Beginnings.{IsLonger}
 use mathlib.Core.List.{IsPrefix}
 use Rattle.af_prefixes.proofs.PrefixLemmas.{prefix_whole}
 use Rattle.af_word.specs.declared.view.View.{View}
 use Rattle.af_word.specs.Places.{Names, Within, word_of}
-use Rattle.af_word.specs.Steps.{Standing, sight, sees, informed, nobody, looked, published, look, win, lose, split, join, Run, opening, further, Ruled}
+use Rattle.af_word.specs.Steps.{Standing, sight, sees, adds, parts, informed, nobody, looked, published, look, win, lose, split, join, opening, further, Ruled}
 use Rattle.af_word.specs.Tells.{Now, Looks, Publishes}
 use Rattle.af_word.proofs.RunLemmas.{run_kept}
 
@@ -25,12 +25,23 @@ abbrev standing_of : (first last : ℕ) (words : List ℕ) (views : List View) �
 standing_of first last words views kept = record { word = kept.word; places = kept.places; views = views }
 
 -- the opening
-pub opens : (first last : ℕ) → first < 2 ^ 32 → Rule first last (table.opening (first ∷ []) [] (sight first last (first ∷ []) [] 0))
+pub opens : (first last : ℕ) → first < 2 ^ 32 → Rule first last (table.opening (first ∷ []) [] (sight first last (first ∷ []) [] 0 0))
 opens first last small = record { word = first; places = first ∷ []; words_are = refl; run = opening small }
 
 -- what a seat's view says once it has seen a list
 told_now : (first last : ℕ) (v : View) (places : List ℕ) (word : ℕ) → (v.first ≡ first) × (v.last ≡ last) → Within first last places → Names word places → Now v (sees v places) word
 told_now first last v places word of within names = record {
+  first_is = refl;
+  last_is = refl;
+  told = refl;
+  counted = refl;
+  within = subst (λ (x : ℕ × ℕ). Within x.0 x.1 places) (λ i. (sym of.0 i, sym of.1 i)) within;
+  names = names;
+}
+
+-- what a seat's view says once it has published the last of a list
+told_added : (first last : ℕ) (v : View) (places : List ℕ) (word : ℕ) → (v.first ≡ first) × (v.last ≡ last) → Within first last places → Names word places → Now v (adds v places) word
+told_added first last v places word of within names = record {
   first_is = refl;
   last_is = refl;
   told = refl;
@@ -55,26 +66,18 @@ look_at first last slots id v carried s some_seen kept at words is =
       keeps,
       tt,
       record { word = kept.word; places = kept.places; words_are = refl; run = further (look id) was (looked was id v) kept.run (v, at, some_seen, refl) },
-      (told_now first last v kept.places kept.word (mine.of some_seen) all.within all.names, mine.seen, mine.told, refl),
+      (told_now first last v kept.places kept.word (mine.of some_seen) all.within all.names, mine.seen, mine.told, refl, refl),
     )
 
 pub looks : (first last slots id : ℕ) (me : Me ℕ View) → 0 < length me.0.seen → Allows (Rule first last) slots id me 0 (λ n. n) (Looks (step slots 0 0 0 none) me)
 looks first last slots id me some_seen s kept sized at small = look_at first last slots id me.0 me.1 s some_seen kept at s.words kept.words_are
 
 -- a split
-pub splits : (first last id : ℕ) (v : View) → Splits (Rule first last) id v v v
+pub splits : (first last id : ℕ) (v : View) → Splits (Rule first last) id v (parts v) (parts v)
 splits first last id v s kept at =
     let was = standing_of first last s.words s.views kept in
-    let now : Standing = record was { views = s.views ++ v ∷ [] } in
-    record {
-      word = kept.word;
-      places = kept.places;
-      words_are = kept.words_are;
-      run = subst
-          (λ (views : List View). Run first last (record { word = kept.word; places = kept.places; views = views ++ v ∷ [] }))
-          (sym (set_again s.views id v at))
-          (further (split id) was now kept.run (v, at, refl));
-    }
+    let now : Standing = record was { views = set s.views id (parts v) ++ parts v ∷ [] } in
+    record { word = kept.word; places = kept.places; words_are = kept.words_are; run = further (split id) was now kept.run (v, at, refl) }
 
 -- a join
 pub joins : (first last id : ℕ) (v : View) (other : ℕ) (u : View) → Joins (Rule first last) id v other u (informed v u) nobody
@@ -116,7 +119,7 @@ module _ (first last slots id : ℕ) (v : View) (carried : List (ℕ × ℕ)) (o
       let now = published was id v place in
       let run = further (win id place) was now kept.run (v, at, same, free, omega arith, refl) in
       let after = run_kept first last now run in
-      let w = sees v now.places in (
+      let w = adds v now.places in (
         w,
         keeps,
         tt,
@@ -124,9 +127,9 @@ module _ (first last slots id : ℕ) (v : View) (carried : List (ℕ × ℕ)) (o
         (
           refl,
           subst
-              (λ (t : Bool). MatchBool t (Now v w new × (now.places ≡ v.seen ++ place ∷ [])) (Now v w kept.word × IsLonger v.seen now.places))
+              (λ (t : Bool). MatchBool t (Now v w new × (now.places ≡ v.seen ++ place ∷ []) × (w.deeds ≡ v.deeds + 1)) (Now v w kept.word × IsLonger v.seen now.places × (w.deeds ≡ v.deeds)))
               (sym is)
-              (told_now first last v now.places new whose after.within (subst (λ (n : ℕ). Names n now.places) word after.names), ap (λ (l : List ℕ). l ++ place ∷ []) (sym same)),
+              (told_added first last v now.places new whose after.within (subst (λ (n : ℕ). Names n now.places) word after.names), ap (λ (l : List ℕ). l ++ place ∷ []) (sym same), refl),
         ),
       )
   publish_at ends next room kept at false is =
@@ -144,9 +147,9 @@ module _ (first last slots id : ℕ) (v : View) (carried : List (ℕ × ℕ)) (o
         (
           refl,
           subst
-              (λ (t : Bool). MatchBool t (Now v w new × (kept.places ≡ v.seen ++ new % 2 ^ 32 ∷ [])) (Now v w kept.word × IsLonger v.seen kept.places))
+              (λ (t : Bool). MatchBool t (Now v w new × (kept.places ≡ v.seen ++ new % 2 ^ 32 ∷ []) × (w.deeds ≡ v.deeds + 1)) (Now v w kept.word × IsLonger v.seen kept.places × (w.deeds ≡ v.deeds)))
               (sym is)
-              (told_now first last v kept.places kept.word (mine.of some_seen) all.within all.names, (mine.seen, less)),
+              (told_now first last v kept.places kept.word (mine.of some_seen) all.within all.names, (mine.seen, less), refl),
         ),
       )
 

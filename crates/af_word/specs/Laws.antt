@@ -22,7 +22,7 @@ abbrev pub TakesPart : Kind → ℕ → Type 0
 TakesPart (look seat) by = by ≡ seat
 TakesPart (win seat place) by = by ≡ seat
 TakesPart (lose seat) by = by ≡ seat
-TakesPart (split seat) by = ⊥
+TakesPart (split seat) by = by ≡ seat
 TakesPart (join seat other) by = (by ≡ seat) ⊎ (by ≡ other)
 
 -- a join that gives this seat up

@@ -26,9 +26,12 @@ pub record WordId : Type 0 where
   pub first : ℕ
   pub last : ℕ
 
--- what a pass has seen, of which word, and how many looks and exchanges it took, those of the pass that it was split from
--- before that among them
+-- What a pass has seen, and of which word. Its steps: how many looks and exchanges it took, those of the pass that it was split from
+-- before that among them. Its deeds: how many places it has published and how many splits it has been through, on either side, those
+-- of the pass that it was split from before that and of the passes that it has taken in among them. So a pass that has as many deeds
+-- as before was not split, and neither it nor a copy of it has published.
 pub record Sight : Type 0 where
   pub word : WordId
   pub places : List ℕ
   pub steps : ℕ
+  pub deeds : ℕ

@@ -18,24 +18,32 @@ abbrev pub IsSeat : Standing → ℕ → View → Type 0
 IsSeat s seat v = get_elem? s.views seat ≡ some v
 
 -- a view of a word with this first place and this last version
-abbrev pub sight : ℕ → ℕ → List ℕ → List ℕ → ℕ → View
-sight first last seen told steps = record { first = first; last = last; seen = seen; told = told; steps = steps }
+abbrev pub sight : ℕ → ℕ → List ℕ → List ℕ → ℕ → ℕ → View
+sight first last seen told steps deeds = record { first = first; last = last; seen = seen; told = told; steps = steps; deeds = deeds }
 
 -- the view of a seat that sees this list by one step more, and was told of no other since
 abbrev pub sees : View → List ℕ → View
-sees v places = sight v.first v.last places [] (v.steps + 1)
+sees v places = sight v.first v.last places [] (v.steps + 1) v.deeds
 
--- the view of a seat that is told of what another has seen, and keeps what it has seen itself
+-- the view of a seat that has published the last place of this list by one step and one deed more, and was told of no other since
+abbrev pub adds : View → List ℕ → View
+adds v places = sight v.first v.last places [] (v.steps + 1) (v.deeds + 1)
+
+-- the view of a seat after a split, and of the seat that was split from it, each by one deed more
+abbrev pub parts : View → View
+parts v = record v { deeds = v.deeds + 1 }
+
+-- the view of a seat that is told of what another has seen and done, and keeps what it has seen itself
 abbrev pub informed : View → View → View
-informed v u = sight v.first v.last v.seen u.seen v.steps
+informed v u = sight v.first v.last v.seen u.seen v.steps (v.deeds + u.deeds)
 
 -- the view of a seat that was given up: it knows nothing
 abbrev pub nobody : View
-nobody = sight 0 0 [] [] 0
+nobody = sight 0 0 [] [] 0 0
 
--- the opening: the list is the first place, which the word names at version 0, and the one seat has seen it without a step
+-- the opening: the list is the first place, which the word names at version 0, and the one seat has seen it without a step or a deed
 abbrev pub opened : ℕ → ℕ → Standing
-opened first last = record { word = first; places = first ∷ []; views = sight first last (first ∷ []) [] 0 ∷ [] }
+opened first last = record { word = first; places = first ∷ []; views = sight first last (first ∷ []) [] 0 0 ∷ [] }
 
 -- after a look of this seat: it has seen the whole list, and the word, the list and all other views stay
 abbrev pub looked : Standing → ℕ → View → Standing
@@ -46,7 +54,7 @@ abbrev pub published : Standing → ℕ → View → ℕ → Standing
 published s seat v place = record {
   word = word_of (length s.places) place;
   places = s.places ++ place ∷ [];
-  views = slice_set s.views seat (sees v (s.places ++ place ∷ []));
+  views = slice_set s.views seat (adds v (s.places ++ place ∷ []));
 }
 
 -- the kinds of step that follow an opening, each with the seat that takes it; a win has its place, and a join the seat that is given up
@@ -61,13 +69,13 @@ pub data Kind : Type 0 where
 -- * look: a seat that was not given up sees the list
 -- * win: a publishing where the list is the one that the seat had seen, and has not reached the last version
 -- * lose: a publishing where the list is longer than the seat had seen; the seat sees it
--- * split: a new seat has the view of this one, and all else stays
--- * join: a seat is told of what another had seen, and that one is given up; all else stays
+-- * split: a new seat has the view of this one; the split is a deed of both, and all else stays
+-- * join: a seat is told of what another had seen, and has its deeds too, and that one is given up; all else stays
 abbrev pub Does : ℕ → Kind → Standing → Standing → Type 0
 Does last (look seat) was now = (v : View) × IsSeat was seat v × (0 < length v.seen) × (now ≡ looked was seat v)
 Does last (win seat place) was now = (v : View) × IsSeat was seat v × (v.seen ≡ was.places) × (length was.places ≤ last) × (place < 2 ^ 32) × (now ≡ published was seat v place)
 Does last (lose seat) was now = (v : View) × IsSeat was seat v × (0 < length v.seen) × (length v.seen < length was.places) × (now ≡ looked was seat v)
-Does last (split seat) was now = (v : View) × IsSeat was seat v × (now ≡ record was { views = was.views ++ v ∷ [] })
+Does last (split seat) was now = (v : View) × IsSeat was seat v × (now ≡ record was { views = slice_set was.views seat (parts v) ++ parts v ∷ [] })
 Does last (join seat other) was now =
     (v : View) × (u : View) × IsSeat was seat v × IsSeat was other u × (¬ (other ≡ seat))
     × (now ≡ record was { views = slice_set (slice_set was.views seat (informed v u)) other nobody })

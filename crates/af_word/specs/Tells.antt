@@ -15,12 +15,12 @@ pub record Now (v w : View) (found : ℕ) : Type 0 where
   pub within : Within v.first v.last w.seen
   pub names : Names found w.seen
 
--- a look: the list begins with all that was known, and the word found names its end
+-- a look: the list begins with all that was known, the word found names its end, and no deed was done
 abbrev pub Looks : Step ℕ → Me ℕ View → ℕ → Me ℕ View → Type 0
-Looks s v found w = Now v.0 w.0 found × IsPrefix v.0.seen w.0.seen × IsPrefix v.0.told w.0.seen × (w.1 ≡ v.1)
+Looks s v found w = Now v.0 w.0 found × IsPrefix v.0.seen w.0.seen × IsPrefix v.0.told w.0.seen × (w.1 ≡ v.1) × (w.0.deeds ≡ v.0.deeds)
 
--- an exchange: the list was what was seen, and one place was added; or it was longer, and was seen
+-- an exchange: the list was what was seen, and one place was added, by a deed; or it was longer, and was seen
 abbrev pub Publishes : Step ℕ → Me ℕ View → ℕ → Me ℕ View → Type 0
 Publishes s v found w =
     (w.1 ≡ v.1)
-    × MatchBool (found == s.first) (Now v.0 w.0 s.second × (w.0.seen ≡ v.0.seen ++ s.second % 2 ^ 32 ∷ [])) (Now v.0 w.0 found × IsLonger v.0.seen w.0.seen)
+    × MatchBool (found == s.first) (Now v.0 w.0 s.second × (w.0.seen ≡ v.0.seen ++ s.second % 2 ^ 32 ∷ []) × (w.0.deeds ≡ v.0.deeds + 1)) (Now v.0 w.0 found × IsLonger v.0.seen w.0.seen × (w.0.deeds ≡ v.0.deeds))

@@ -20,13 +20,15 @@ impl Play<u8, View> for Publish {
     ghost then = { Publishes };
 }
 
-/// A split: both seats have seen the same list.
+/// A split: both seats have the same view.
 pub struct Same;
 
 impl Split<View> for Same {
-    ghost left = { λ v. v };
+    ghost use Rattle.af_word.specs.Steps.{parts};
 
-    ghost right = { λ v. v };
+    ghost left = { parts };
+
+    ghost right = { parts };
 }
 
 /// A join: one seat is told of what another has seen, and that one is spent.

@@ -14,6 +14,9 @@ pub struct View {
     pub told: LinkedList<u32>,
     /// How many looks and exchanges it took, those of the seat that it was split from before that among them.
     pub steps: u64,
+    /// How many places it has published and how many splits it has been through, on either side, those of the seat that it was split
+    /// from before that and of the seats that it has taken in among them.
+    pub deeds: u64,
 }
 
 /// The word and the views are those that some run of the six kinds of step leads to. The key is the first place and the last version.
@@ -25,5 +28,5 @@ impl TableRule<u8, View, (u32, u32)> for Law {
 
     ghost holds = { λ key s. Ruled key.0 key.1 s.words s.views };
 
-    ghost first = { λ key. sight key.0 key.1 (key.0 ∷ []) [] 0 };
+    ghost first = { λ key. sight key.0 key.1 (key.0 ∷ []) [] 0 0 };
 }

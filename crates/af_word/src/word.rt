@@ -1,7 +1,8 @@
-ghost use Rattle.std.specs.Prelude.{◌≡◌, ◌+◌, ◌<◌, ◌==◌, ◌++◌, ◌∷◌, [], ◌↔◌, length, IfOk, IfErr, if◌then◌else◌};
+ghost use Rattle.std.specs.Prelude.{◌≡◌, ◌+◌, ◌<◌, ◌∷◌, [], ◌↔◌, length, IfOk, IfErr};
 ghost use mathlib.Core.List.{IsPrefix};
 ghost use Rattle.af_prefixes.specs.Beginnings.{Agree};
 ghost use Rattle.af_word.specs.Places.{EndsAt, Within};
+ghost use Rattle.af_word.specs.Calls.{Added, Advanced, Looked};
 ghost use Rattle.af_word.specs.Faults.{Explains};
 
 use crate::fault::{OutOfMemory, PublishFault};
@@ -37,7 +38,7 @@ impl VersionWord {
     /// Without memory for its table it is an `OutOfMemory`; no other call takes memory.
     pub fn open(alloc: Global, index: u32, last: u32) -> Result<(VersionWord, Pass), OutOfMemory>
         ensures word { IfOk result (λ r. (r.0.first ≡ index) × (r.0.last ≡ last)) }
-        ensures pass { IfOk result (λ r. r.1 ≡ record { word = r.0; places = index ∷ []; steps = 0 }) }
+        ensures pass { IfOk result (λ r. r.1 ≡ record { word = r.0; places = index ∷ []; steps = 0; deeds = 0 }) }
     {
         let Ok((table, seat)) = Table::of_words(alloc, &[u64::from(index)], &(index, last)) else {
             return Err(OutOfMemory);
@@ -56,11 +57,8 @@ impl VersionWord {
     /// Sees the list as it is, by one load: the version that it ends at, and the place there.
     pub fn look(&self, pass: &mut Pass) -> Seen
         requires { pass.old.word ≡ self.now }
-        ensures word { pass.new.word ≡ self.now }
-        ensures longer { IsPrefix pass.old.places pass.new.places }
-        ensures within { Within self.now.first self.now.last pass.new.places }
+        ensures looked { Looked pass.old pass.new }
         ensures seen { EndsAt pass.new.places result.version result.index }
-        ensures step { pass.new.steps ≡ pass.old.steps + 1 }
     {
         let found = self.table.shared.load::<Look>(&mut pass.seat, 0);
         let current = Seen::unpacked(found);
@@ -77,10 +75,9 @@ impl VersionWord {
         ensures word { pass.new.word ≡ self.now }
         ensures longer { IsPrefix pass.old.places pass.new.places }
         ensures within { Within self.now.first self.now.last pass.new.places }
-        ensures ok { IfOk result (λ v. (v ≡ at + 1) × (length pass.old.places ≡ at + 1) × (pass.new.places ≡ pass.old.places ++ index ∷ []) × EndsAt pass.new.places v index) }
+        ensures ok { IfOk result (λ v. (v ≡ at + 1) × (length pass.old.places ≡ at + 1) × Added index pass.old pass.new × EndsAt pass.new.places v index) }
         ensures last { (result ≡ Err PublishFault.Last) ↔ (at ≡ self.now.last) }
         ensures err { IfErr result (λ f. Explains self.now.last at pass.old pass.new f) }
-        ensures step { pass.new.steps ≡ pass.old.steps + (if at == self.now.last then 0 else 1) }
     {
         let seen = pass.seen();
         if at == self.last {
@@ -107,11 +104,11 @@ impl VersionWord {
         Err(PublishFault::Moved { version, index })
     }
 
-    /// Another pass, which has seen the same list. The first stays as it was.
+    /// Another pass, which has seen the same list. The split is a deed of both, and the first stays as it was otherwise.
     pub fn split(&self, pass: &mut Pass) -> Pass
         requires { pass.old.word ≡ self.now }
-        ensures new { result ≡ pass.old }
-        ensures same { pass.new ≡ pass.old }
+        ensures new { result ≡ pass.new }
+        ensures same { pass.new ≡ record pass.old { deeds = pass.old.deeds + 1 } }
     {
         let seat = self.table.shared.split_seat::<Same>(&mut pass.seat);
         Pass {
@@ -120,32 +117,18 @@ impl VersionWord {
         }
     }
 
-    /// Takes in what another pass has seen, and looks: the list then begins with what either had seen.
+    /// Takes in what another pass has seen, and its deeds, and looks: the list then begins with what either had seen, and where both
+    /// have seen a version they know one place for it.
     pub fn meet(&self, pass: &mut Pass, other: Pass)
         requires pass { pass.old.word ≡ self.now }
         requires other { other.word ≡ self.now }
-        ensures word { pass.new.word ≡ self.now }
-        ensures longer { IsPrefix pass.old.places pass.new.places }
+        ensures met { Advanced 1 other.deeds pass.old pass.new }
         ensures other { IsPrefix other.places pass.new.places }
-        ensures within { Within self.now.first self.now.last pass.new.places }
-        ensures step { pass.new.steps ≡ pass.old.steps + 1 }
+        ensures places { Agree pass.old.places other.places }
     {
         let Pass { seat, .. } = other;
         self.table.shared.join_seat::<Inform>(&mut pass.seat, seat);
         let found = self.table.shared.load::<Look>(&mut pass.seat, 0);
         pass.seen = Seen::unpacked(found);
-    }
-
-    /// Two passes of this word that have seen one version know one place for it. Both stay as they were.
-    pub fn agree(&self, one: &mut Pass, other: &mut Pass)
-        requires one { one.old.word ≡ self.now }
-        requires other { other.old.word ≡ self.now }
-        ensures places { Agree one.old.places other.old.places }
-        ensures one { one.new ≡ one.old }
-        ensures other { other.new ≡ other.old }
-    {
-        let mut both = self.split(one);
-        let copy = self.split(other);
-        self.meet(&mut both, copy);
     }
 }

@@ -9,17 +9,16 @@ mod named;
 mod raced;
 
 /// A call on a word: a pass tells what it has seen, looks, or publishes a place behind a version; or the first pass takes in what a
-/// copy of the second has seen, or both find that they agree, and the pass tells what it has seen.
+/// copy of the second has seen, and tells what it has seen.
 #[derive(Clone, Copy, Debug, PartialEq, Eq)]
 enum Call {
     Tell,
     Look,
     Publish(u32, u32),
     Meet,
-    Agree,
 }
 
-use Call::{Agree, Look, Meet, Publish, Tell};
+use Call::{Look, Meet, Publish, Tell};
 
 /// The version and the place that a call answers, or why nothing was published.
 type Answer = Result<(u32, u32), PublishFault>;
@@ -39,7 +38,6 @@ fn called(word: &VersionWord, pass: &mut Pass, other: &mut Pass, call: Call) -> 
         }
         Publish(_, _) => {}
         Meet => word.meet(pass, word.split(other)),
-        Agree => word.agree(pass, other),
     }
     let Seen { version, index } = pass.seen();
     Ok((version, index))
@@ -138,7 +136,6 @@ fn who_has_seen_more_moves_to_the_last(rt: HostRuntime) -> Result<(), Fail> {
         (1, Publish(3, 50), Ok((4, 50))),
         (2, Look, Ok((4, 50))),
         (1, Publish(4, 60), Ok((5, 60))),
-        (1, Agree, Ok((5, 60))),
         (2, Tell, Ok((4, 50))),
         (2, Publish(0, 61), Err(moved())),
         (2, Tell, Ok((5, 60))),
@@ -150,7 +147,6 @@ fn who_has_seen_more_moves_to_the_last(rt: HostRuntime) -> Result<(), Fail> {
 fn a_pass_meets_another(rt: HostRuntime) -> Result<(), Fail> {
     let calls = [
         (2, Publish(0, 20), Ok((1, 20))),
-        (1, Agree, Ok((0, 10))),
         (2, Tell, Ok((1, 20))),
         (1, Meet, Ok((1, 20))),
         (1, Tell, Ok((1, 20))),

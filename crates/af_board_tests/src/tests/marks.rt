@@ -67,8 +67,8 @@ fn agree(rt: &impl Abort, alloc: Global, board: &Board, one: &mut Pass, two: &mu
         "one policy",
     );
     if a.version() == b.version() {
-        board.versions_agree(one, &a, two, &b);
         board.same_version(one, &a, &a);
+        board.versions_agree(one, &a, board.split(two), &b);
         board.agrees(&b, &b);
     }
 }

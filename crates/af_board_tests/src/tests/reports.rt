@@ -1,9 +1,7 @@
 //! What a call returns, reported piece by piece beside the text that is wanted, so that no text of the whole is made and owned.
 use crate::tests::asserts::has_memory;
 use af_board::{Receipt, SubmitFault};
-use af_policy::{
-    ChangeFault, Me, MeFault, PolicyReply, ReadFault, SubmitFault as Refusal, UserShown,
-};
+use af_policy::{ChangeFault, Me, MeFault, PolicyReply, ReadFault, Refusal, UserShown};
 use af_role::Permissions;
 use std::alloc::Global;
 use std::process::Abort;
