@@ -9,7 +9,6 @@ use Rattle.af_sched.specs.State.{StateRows}
 use Rattle.af_sched.specs.declared.dag_row.DagRow.{DagRow}
 use Rattle.af_ops.specs.declared.call.Call.TheVariants as call
 use Rattle.af_ops.specs.declared.op.Op.{Op}
-use Rattle.af_ops.specs.declared.shown_answer.Shown.{Shown}
 use Rattle.af_ops.specs.Endpoints.{endpoint_of}
 use Rattle.af_ops.specs.Served.{answer_of}
 use Rattle.af_ops.specs.Table.{is_open}
@@ -18,7 +17,7 @@ use Rattle.af_blind.specs.Blindness.{AlikeFor, reads_dags, status_and_body, unnu
 use Rattle.af_blind.proofs.HiddenLemmas.{hidden_absent}
 use Rattle.af_blind.proofs.VerdictLemmas.{blind, closed_of}
 use Rattle.af_world.specs.declared.step.Step.TheVariants as step
-use Rattle.af_world.specs.Acting.{acted, acting, holds}
+use Rattle.af_world.specs.Acting.{acted, holds}
 use Rattle.af_world.specs.Blind.{ActsAreBlind, AlikeByRoles, HiddenActsAsAbsent, world_without}
 use Rattle.af_world.specs.Moving.{Move, stays}
 use Rattle.af_world.specs.Rules.{MayRead}

@@ -5,6 +5,7 @@ pub mod VerdictLemmas
 pub mod ToldLemmas
 pub mod JudgedLemmas
 pub mod SubmitLemmas
+pub mod ServedLemmas
 pub mod AskedLemmas
 pub mod WorldLemmas
 pub mod SightLemmas

@@ -9,8 +9,8 @@ use Rattle.af_policy.specs.declared.me_fault.MeFault.{MeFault}
 use Rattle.af_policy.specs.declared.policy_read.PolicyRead.{PolicyRead}
 use Rattle.af_policy.specs.declared.policy_reply.PolicyReply.{PolicyReply}
 use Rattle.af_policy.specs.declared.read_fault.ReadFault.{ReadFault}
-use Rattle.af_policy.specs.declared.submit_fault.SubmitFault.{SubmitFault}
-use Rattle.af_policy.specs.declared.submit_fault.SubmitFault.TheVariants.{Full, Moved}
+use Rattle.af_policy.specs.declared.refusal.Refusal.{Refusal}
+use Rattle.af_policy.specs.declared.refusal.Refusal.TheVariants.{Full, Moved}
 use Rattle.af_policy.specs.Reads.{me_of, read_of}
 use Rattle.af_policy.specs.Rows.{PolicyRows}
 use Rattle.af_policy.specs.Versions.{VersionRows, all_versions, decided, with_version, within}
@@ -90,7 +90,7 @@ module _ (opening : StateRows) (w : World) (s : ℕ) (x : Step) (of : session_of
   goes_overtaken ask =
       goes_told opening w s (last_version w) x (told_of (last_version w) (Refuses (submit_problem ask (Moved (last_version w))))) of quiet (names_problem (last_version w) (submit_problem ask (Moved (last_version w)))) kept lt (omega arith) (kept.sights s)
 
-  goes_lost : (at : ℕ) (ask : Ask) → at ≤ last_version w → seen w.sessions s ≤ at → (comes : Result PolicyRows SubmitFault) → Goes opening w x (lost w s at ask comes)
+  goes_lost : (at : ℕ) (ask : Ask) → at ≤ last_version w → seen w.sessions s ≤ at → (comes : Result PolicyRows Refusal) → Goes opening w x (lost w s at ask comes)
   goes_lost at ask below le (Ok later) = goes_overtaken ask
   goes_lost at ask below le (Err fault) =
       goes_told opening w s at x (told_of at (Refuses (submit_problem ask fault))) of quiet (names_problem at (submit_problem ask fault)) kept lt below le
@@ -123,7 +123,7 @@ room_next : (versions : VersionRows) (version : ℕ) (ask : Ask) (later : Policy
 room_next versions version ask later next true = tt
 room_next versions version ask later next false = next
 
-change_next : (versions : VersionRows) (version : ℕ) (token : Option (List ℕ)) (ask : Ask) (comes : Result PolicyRows SubmitFault) → decided versions.latest token ask ≡ comes → MakesNext versions.latest (change_verdict version ask (within versions comes))
+change_next : (versions : VersionRows) (version : ℕ) (token : Option (List ℕ)) (ask : Ask) (comes : Result PolicyRows Refusal) → decided versions.latest token ask ≡ comes → MakesNext versions.latest (change_verdict version ask (within versions comes))
 change_next versions version token ask (Err fault) is = tt
 change_next versions version token ask (Ok later) is =
     room_next versions version ask later (follows_made versions.latest token ask later (decided_made versions.latest token later ask is)) (nat_le versions.last (length versions.earlier))

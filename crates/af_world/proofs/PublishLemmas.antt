@@ -8,8 +8,8 @@ use Rattle.af_policy.specs.declared.me_fault.MeFault.{MeFault}
 use Rattle.af_policy.specs.declared.policy_read.PolicyRead.{PolicyRead}
 use Rattle.af_policy.specs.declared.policy_reply.PolicyReply.{PolicyReply}
 use Rattle.af_policy.specs.declared.read_fault.ReadFault.{ReadFault}
-use Rattle.af_policy.specs.declared.submit_fault.SubmitFault.{SubmitFault}
-use Rattle.af_policy.specs.declared.submit_fault.SubmitFault.TheVariants.{Full, Moved}
+use Rattle.af_policy.specs.declared.refusal.Refusal.{Refusal}
+use Rattle.af_policy.specs.declared.refusal.Refusal.TheVariants.{Full, Moved}
 use Rattle.af_policy.specs.Changes.{kind_of, needs_of}
 use Rattle.af_policy.specs.Reads.{me_of, read_of}
 use Rattle.af_policy.specs.Rows.{PolicyRows}
@@ -134,7 +134,7 @@ module _ (w : World) (s at : ℕ) (token : Option (List ℕ)) (shown : Shown) wh
 
   module _ (ask : Ask) where
     -- told as a fault that decides nothing of who asks
-    quiet_says : (version : ℕ) (fault : SubmitFault) (m : Move) → IsOther shown.status → LeavesAll w m.next → told_of version (Refuses (submit_problem ask fault)) ≡ Some shown → PublishSays w at token (asks.Change ask) shown m
+    quiet_says : (version : ℕ) (fault : Refusal) (m : Move) → IsOther shown.status → LeavesAll w m.next → told_of version (Refuses (submit_problem ask fault)) ≡ Some shown → PublishSays w at token (asks.Change ask) shown m
     quiet_says version fault m other leaves e = record {
       judged = inr other;
       leaves = λ _. leaves;
@@ -148,18 +148,18 @@ module _ (w : World) (s at : ℕ) (token : Option (List ℕ)) (shown : Shown) wh
         (record { versions = refl; state = refl; audit = refl }) e
 
     -- a fault under a version
-    fault_says : (policy : PolicyRows) (version : ℕ) → policy_at w version ≡ Some policy → (fault : SubmitFault) → decided policy token ask ≡ Err fault → (m : Move) → LeavesAll w m.next → told_of version (Refuses (submit_problem ask fault)) ≡ Some shown → PublishSays w at token (asks.Change ask) shown m
+    fault_says : (policy : PolicyRows) (version : ℕ) → policy_at w version ≡ Some policy → (fault : Refusal) → decided policy token ask ≡ Err fault → (m : Move) → LeavesAll w m.next → told_of version (Refuses (submit_problem ask fault)) ≡ Some shown → PublishSays w at token (asks.Change ask) shown m
     fault_says policy version under fault is m leaves e = record {
       judged = inl (record {
         policy = policy;
         under = record { version = version; names = subst (Names version) e (names_problem version (submit_problem ask fault)); named = under };
-        judged = change_judged policy token version shown ask (subst (λ (comes : Result PolicyRows SubmitFault). fault_told version ask comes ≡ Some shown) (sym is) e);
+        judged = change_judged policy token version shown ask (subst (λ (comes : Result PolicyRows Refusal). fault_told version ask comes ≡ Some shown) (sym is) e);
       });
       leaves = λ _. leaves;
       done = λ done. fault_done shown (policy_fault version shown (submit_problem ask fault) (submit_status ask fault) e) done;
     }
 
-    lost_says : (policy : PolicyRows) → policy_at w at ≡ Some policy → (comes : Result PolicyRows SubmitFault) → decided policy token ask ≡ comes → HandsIn (asks.Change ask) (lost w s at ask comes)
+    lost_says : (policy : PolicyRows) → policy_at w at ≡ Some policy → (comes : Result PolicyRows Refusal) → decided policy token ask ≡ comes → HandsIn (asks.Change ask) (lost w s at ask comes)
     lost_says policy under (Ok later) is e = overtaken_says e
     lost_says policy under (Err fault) is e =
         fault_says policy at under fault is (lost w s at ask (Err fault)) (record { versions = refl; state = refl; audit = refl }) e
@@ -192,7 +192,7 @@ module _ (w : World) (s at : ℕ) (token : Option (List ℕ)) (shown : Shown) wh
           (policy_problem (last_version w) shown (submit_problem ask Full) (λ c. cc, λ c. cc) e) (record { versions = refl; state = refl; audit = refl }) e
       room_says later is false e = published_says later is e
 
-      last_says : (comes : Result PolicyRows SubmitFault) → decided w.versions.latest token ask ≡ comes → HandsIn (asks.Change ask) (made w s (change_verdict (last_version w) ask (within w.versions comes)))
+      last_says : (comes : Result PolicyRows Refusal) → decided w.versions.latest token ask ≡ comes → HandsIn (asks.Change ask) (made w s (change_verdict (last_version w) ask (within w.versions comes)))
       last_says (Err fault) is e =
           fault_says w.versions.latest (last_version w) (latest_got w.versions.earlier w.versions.latest) fault is (made w s (change_verdict (last_version w) ask (Err fault)))
           (record { versions = refl; state = refl; audit = refl }) e

@@ -13,8 +13,8 @@ use Rattle.af_policy.specs.declared.change_fault.ChangeFault.TheVariants as refu
 use Rattle.af_policy.specs.declared.policy_read.PolicyRead.{PolicyRead}
 use Rattle.af_policy.specs.declared.policy_read.PolicyRead.TheVariants.{Roles, Role, Users, User}
 use Rattle.af_policy.specs.declared.policy_read.PolicyRead.TheVariants as read
-use Rattle.af_policy.specs.declared.submit_fault.SubmitFault.{SubmitFault}
-use Rattle.af_policy.specs.declared.submit_fault.SubmitFault.TheVariants.{BadBody}
+use Rattle.af_policy.specs.declared.refusal.Refusal.{Refusal}
+use Rattle.af_policy.specs.declared.refusal.Refusal.TheVariants.{BadBody}
 use Rattle.af_policy.specs.Changes.{changed, kind_of, needs_of}
 use Rattle.af_policy.specs.Grants.{first_unmet, grants}
 use Rattle.af_policy.specs.Identity.{bearer_of, digest_user}
@@ -117,7 +117,7 @@ module _ (policy : PolicyRows) (token : Option (List ℕ)) (version : ℕ) (show
 -- ---- changes
 
 -- what is told of a change that makes no policy
-abbrev pub fault_told : ℕ → Ask → Result PolicyRows SubmitFault → Option Shown
+abbrev pub fault_told : ℕ → Ask → Result PolicyRows Refusal → Option Shown
 fault_told version ask (Ok later) = None
 fault_told version ask (Err fault) = told_of version (Refuses (submit_problem ask fault))
 

@@ -4,8 +4,8 @@ use Rattle.std.specs.Prelude.{⊤, Option, Some, None, option_map, unwrap_or}
 use Rattle.af_policy.specs.declared.ask.Ask.{Ask}
 use Rattle.af_policy.specs.declared.change_fault.ChangeFault.{ChangeFault}
 use Rattle.af_policy.specs.declared.change_fault.ChangeFault.TheVariants as change
-use Rattle.af_policy.specs.declared.submit_fault.SubmitFault.{SubmitFault}
-use Rattle.af_policy.specs.declared.submit_fault.SubmitFault.TheVariants as submit
+use Rattle.af_policy.specs.declared.refusal.Refusal.{Refusal}
+use Rattle.af_policy.specs.declared.refusal.Refusal.TheVariants as submit
 use Rattle.af_ops.specs.declared.answer.CallFault.TheVariants as why
 use Rattle.af_ops.specs.declared.answer.OpFault.{OpFault}
 use Rattle.af_ops.specs.declared.answer.OpFault.TheVariants as fault
@@ -107,7 +107,7 @@ change_status : (name : List ℕ) (it : ChangeFault) → IsFaultProblem (change_
 change_status name change.OutOfMemory = tt
 change_status name it = (λ e. cc, λ e. cc)
 
-pub submit_status : (ask : Ask) (it : SubmitFault) → IsFaultProblem (submit_problem ask it)
+pub submit_status : (ask : Ask) (it : Refusal) → IsFaultProblem (submit_problem ask it)
 submit_status ask (submit.Refused it) = change_status (asked_name ask) it
 submit_status ask submit.OutOfMemory = tt
 submit_status ask it = (λ e. cc, λ e. cc)

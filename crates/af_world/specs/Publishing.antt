@@ -2,8 +2,8 @@
 -- latest (this product's own rule).
 use Rattle.std.specs.Prelude.{ℕ, List, nat_lt, ◌==◌, Option, Some, None, Result, Ok, Err, if◌then◌else◌}
 use Rattle.af_policy.specs.declared.ask.Ask.{Ask}
-use Rattle.af_policy.specs.declared.submit_fault.SubmitFault.{SubmitFault}
-use Rattle.af_policy.specs.declared.submit_fault.SubmitFault.TheVariants.{Moved}
+use Rattle.af_policy.specs.declared.refusal.Refusal.{Refusal}
+use Rattle.af_policy.specs.declared.refusal.Refusal.TheVariants.{Moved}
 use Rattle.af_policy.specs.Rows.{PolicyRows}
 use Rattle.af_policy.specs.Versions.{decided}
 use Rattle.af_ops.specs.declared.policy_op.PolicyOp.{PolicyOp}
@@ -35,7 +35,7 @@ abbrev pub overtaken : World → ℕ → Ask → Move
 overtaken w session ask = tells w session (last_version w) (told_of (last_version w) (Refuses (submit_problem ask (Moved (last_version w)))))
 
 -- decided under an earlier version, which has no room for another: only a fault is told under it
-abbrev pub lost : World → ℕ → ℕ → Ask → Result PolicyRows SubmitFault → Move
+abbrev pub lost : World → ℕ → ℕ → Ask → Result PolicyRows Refusal → Move
 lost w session at ask (Err fault) = tells w session at (told_of at (Refuses (submit_problem ask fault)))
 lost w session at ask (Ok later) = overtaken w session ask
 

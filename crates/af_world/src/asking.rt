@@ -9,12 +9,14 @@ ghost use Rattle.af_ops.specs.Served.{answer_of};
 ghost use Rattle.af_audit.specs.Answered.{ledger_left, standing_of, verdict_on};
 ghost use Rattle.af_audit.specs.EventLogs.{entries_verdict, nameless};
 
+use crate::policy_answering::answer_policy;
+use crate::versions::Versions;
 use af_audit::Ledger;
 use af_audit::laws::verdicts_leave_one_ledger;
 use af_listing::Window;
 use af_names::Instant;
-use af_ops::{Op, PolicyOp, Served, Shown, answer_policy};
-use af_policy::{Parameter, Policy, Versions};
+use af_ops::{Op, PolicyOp, Served, Shown};
+use af_policy::{Parameter, Policy};
 use std::alloc::{AllocError, Global};
 
 /// Asks for an operation on the state with a token, at a moment.

@@ -4,8 +4,9 @@ ghost use Rattle.af_audit.specs.Ledgers.{opened};
 ghost use Rattle.af_world.specs.Worlds.{nothing_seen};
 
 use crate::session::Seen;
+use crate::versions::Versions;
 use af_audit::Ledger;
-use af_policy::{Policy, Versions};
+use af_policy::Policy;
 use af_sched::State;
 use std::alloc::{AllocError, Global};
 use std::marker::Model;

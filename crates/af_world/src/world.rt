@@ -9,9 +9,9 @@ use crate::opening::Opening;
 use crate::session::Seen;
 use crate::step::Step;
 use crate::token::bytes_of;
+use crate::versions::Versions;
 use af_audit::Ledger;
 use af_ops::Shown;
-use af_policy::Versions;
 use std::alloc::{AllocError, Global};
 use std::marker::Model;
 

@@ -2,7 +2,7 @@ ghost use Rattle.std.specs.Prelude.{◌≡◌, ◌<◌, Err, IfOk, IfSome, IsNon
 ghost use Rattle.std.specs.Option.{option_copied};
 ghost use Rattle.af_policy.specs.Rows.{PolicyRows};
 ghost use Rattle.af_policy.specs.Versions.{decided};
-ghost use Rattle.af_policy.specs.declared.submit_fault.SubmitFault.{SubmitFault};
+ghost use Rattle.af_policy.specs.declared.refusal.Refusal.{Refusal};
 ghost use Rattle.af_ops.specs.PolicyFaults.{submit_problem};
 ghost use Rattle.af_ops.specs.PolicyServed.{told_of};
 ghost use Rattle.af_ops.specs.PolicyVerdicts.{Refuses, policy_verdict};
@@ -13,7 +13,7 @@ ghost use Rattle.af_world.specs.Worlds.{has_session, policy_at};
 use crate::asking::ask_policy;
 use crate::world::World;
 use af_ops::{PolicyOp, Shown, shown_submit_fault};
-use af_policy::{Ask, Policy, SubmitFault};
+use af_policy::{Ask, Policy, Refusal};
 use std::alloc::{AllocError, Global};
 
 impl World {
@@ -123,7 +123,7 @@ impl World {
         ensures err { OnErr result (self.new ≡ self.old) }
     {
         let last = self.versions.current();
-        let shown = shown_submit_fault(alloc, ask, &SubmitFault::Moved(last), last)?;
+        let shown = shown_submit_fault(alloc, ask, &Refusal::Moved(last), last)?;
         Ok(self.tell(session, last, shown))
     }
 
@@ -158,7 +158,7 @@ fn refusal(
     ask: &Ask,
     version: u32,
 ) -> Result<Option<Shown>, AllocError>
-    ensures refused { IfOk result (λ told. IfSome told (λ shown. (fault : SubmitFault) × (decided policy.now (option_copied token.entry) ask.now ≡ Err fault) × (told_of version (Refuses (submit_problem ask.now fault)) ≡ Some shown))) }
+    ensures refused { IfOk result (λ told. IfSome told (λ shown. (fault : Refusal) × (decided policy.now (option_copied token.entry) ask.now ≡ Err fault) × (told_of version (Refuses (submit_problem ask.now fault)) ≡ Some shown))) }
     ensures permitted { IfOk result (λ told. IsNone told → (later : PolicyRows) × (decided policy.now (option_copied token.entry) ask.now ≡ Ok later)) }
 {
     match policy.decide(alloc, token, ask) {

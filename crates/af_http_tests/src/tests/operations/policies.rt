@@ -6,8 +6,9 @@ use super::user_rows::{SYNCS, USERS_CHANGED};
 use super::users::policy;
 use super::{shown_of, text, token_of};
 use crate::tests::asserts::{has_memory, holds, row_holds};
-use af_ops::{Call, Endpoint, PolicyOp, Served, Shown, Status, answer_policy};
-use af_policy::{ChangeKind, Versions};
+use af_ops::{Call, Endpoint, PolicyOp, Served, Shown, Status};
+use af_policy::ChangeKind;
+use af_world::{Versions, answer_policy};
 use std::alloc::{AllocGlobal, Global};
 use std::process::Abort;
 
