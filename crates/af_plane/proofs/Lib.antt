@@ -1,6 +1,10 @@
 pub mod PlaneLemmas
 pub mod ActLemmas
+pub mod BlindLemmas
+pub mod VersionLemmas
 pub mod PolicyLemmas
-mod BlindLemmas
-pub mod SoloLemmas
-pub mod ReachLemmas
+pub mod TurnLemmas
+pub mod AskedLemmas
+pub mod SessionLemmas
+pub mod EventLemmas
+pub mod NameLemmas

@@ -1,7 +1,6 @@
--- Looks, ticks, claims and reports of the plane are steps of the world.
-use Rattle.std.proofs.Common.{◌≡◌, ◌∙◌, refl, sym, ap, ℕ, Bool, true, false, length}
+-- Ticks, claims and reports of the plane are steps of the world.
+use Rattle.std.proofs.Common.{◌≡◌, ◌∙◌, refl, sym, ap, ℕ, Bool, true, false}
 use Rattle.std.specs.Prelude.{Option, Some, None, Result, Ok, Err, ok_or, option_map, unwrap_or, if◌then◌else◌}
-use Rattle.af_policy.specs.Versions.{VersionRows}
 use Rattle.af_runs.specs.Runs.{run_at}
 use Rattle.af_runs.specs.declared.run.Run.{Run}
 use Rattle.af_sched.specs.Reports.{report_fault}
@@ -22,17 +21,11 @@ use Rattle.af_audit.specs.Ticked.{IsTicked}
 use Rattle.af_audit.proofs.ReportedLemmas.{no_run}
 use Rattle.af_world.specs.declared.reporting.Reporting.{Reporting}
 use Rattle.af_world.specs.declared.reporting.Reporting.TheVariants.{Faulty, NoRoom, Takes}
-use Rattle.af_world.specs.Moving.{looked, move_of, stays}
+use Rattle.af_world.specs.Moving.{move_of}
 use Rattle.af_world.specs.Plane.{left_by_report, report_told, reporting, reporting_of, taken, try_claim}
 use Rattle.af_world.specs.Steps.{reports}
 use Rattle.af_world.specs.Worlds.{World}
-use Rattle.af_plane.specs.Planes.{ClaimIs, ClaimIn, LookIn, ReportIs, ReportIn, TickIs, TickIn, over, try_of}
-
-pub look_in : (versions : VersionRows) (old new : LedgerRows) → new ≡ record old { version = length versions.earlier } → LookIn versions old new
-look_in versions old new is holder sessions session there =
-    let w : World = over versions old holder sessions in
-    sym (ap (λ (b : Bool). if b then move_of None (looked w session) else stays w) there
-    ∙ ap (λ (l : LedgerRows). move_of None (record (looked w session) { ledger = l })) (sym is))
+use Rattle.af_plane.specs.Planes.{ClaimIs, ClaimIn, ReportIs, ReportIn, TickIs, TickIn, over, try_of}
 
 tick_in : (old new : LedgerRows) (t : ℕ) (told : Option Bool) → IsTicked t old new (ok_or told HistoryFull) → TickIn old t told new
 tick_in old new t told is versions holder sessions = record { told = told; ticked = is; answered = refl; rest = refl }

@@ -1,5 +1,11 @@
+pub mod Requests
+pub mod Visits
+pub mod Looks
 pub mod Planes
+pub mod Blind
+pub mod Turns
+pub mod Administered
 pub mod Solos
 pub mod Alone
+pub mod Events
 pub mod Laws
-pub mod Blind

@@ -1,5 +1,5 @@
--- The plane is the ledger of a world. What each of its calls tells and leaves is one step of every world over that ledger, whoever holds
--- the plane there and whatever the sessions have seen (this product's own rule).
+-- The ledger of the plane is the ledger of a world. What each call of the plane tells and leaves is one step of every world over that ledger,
+-- whoever holds the plane there and whatever the sessions have seen (this product's own rule).
 use Rattle.std.specs.Prelude.{◌≡◌, ℕ, List, Bool, true, false, Option, Some, None, Result, Ok, Err}
 use Rattle.af_policy.specs.Identity.{bearer_of}
 use Rattle.af_policy.specs.Rows.{PolicyRows}

@@ -1,10 +1,15 @@
-//! The plane, where calls on the state are decided; and a server for one thread over it. What each call tells and leaves is a step of every
-//! world that stands so.
+//! The plane, where calls on the state are decided under the versions of a board; sessions over it; and a server for one thread.
 #![tactic(auto)]
 
+mod grounds;
 pub mod laws;
 mod plane;
+mod request;
+mod session;
 mod solo;
 
+pub use grounds::Grounds;
 pub use plane::Plane;
+pub use request::Request;
+pub use session::Session;
 pub use solo::Solo;

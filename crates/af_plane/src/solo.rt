@@ -1,142 +1,132 @@
-ghost use Rattle.std.specs.Prelude.{◌≡◌};
-ghost use Rattle.std.specs.Option.{option_copied};
-ghost use Rattle.af_plane.specs.Alone.{IsAnswered};
-ghost use Rattle.af_plane.specs.Solos.{IsDecided, IsSolo, OnEntries, OnPolicy, OnState, alone, looked, opened};
+ghost use Rattle.std.specs.Prelude.{◌≡◌, ◌+◌, ◌≤◌, length, IfOk};
+ghost use Rattle.af_plane.specs.Looks.{Basis};
+ghost use Rattle.af_plane.specs.Solos.{IsAnswered, IsDecided, IsOpening, IsSolo, alone};
+ghost use Rattle.af_plane.specs.Turns.{IsOfPlane, IsPlaced};
+ghost use mathlib.Core.List.{IsPrefix};
 
 use crate::plane::Plane;
-use af_listing::Window;
-use af_names::Instant;
-use af_ops::{Call, Op, PolicyOp, Served, answer_policy, route_of};
-use af_policy::{Parameter, Policy, Versions};
+use crate::request::Request;
+use crate::session::Session;
+use af_board::{Board, OutOfMemory};
+use af_ops::{Call, Served};
+use af_policy::Policy;
 use af_sched::State;
 use std::alloc::Global;
 use std::marker::Model;
+use std::sync::Wait;
 
-/// A server for one thread. What is asked of the state and of the event logs is decided on the plane, under the latest version of the policy;
-/// what is asked of the policy on its versions.
+/// A server for one thread: a session over a plane without a lock. What is asked of the state and of the event logs is decided on the
+/// plane; what is asked of the policy on the board.
 #[derive(Drop)]
 pub struct Solo {
-    versions: Versions,
+    board: Board,
     plane: Plane,
+    session: Session,
 }
 
 impl Model for Solo {
-    ghost use Rattle.std.specs.Prelude.{◌≤◌, length};
-    ghost use Rattle.af_plane.specs.Solos.{SoloRows};
+    ghost use Rattle.std.specs.Prelude.{◌≡◌};
+    ghost use Rattle.af_plane.specs.Looks.{IsOn};
+    ghost use Rattle.af_plane.specs.Visits.{SoloRows};
 
     ghost Value = { SoloRows };
 
-    ghost view = { λ solo. record { versions = solo.versions; ledger = solo.plane } };
+    ghost view = { λ solo. record { site = solo.board; plane = solo.plane; session = solo.session } };
 
-    ghost invariant = { λ solo. solo.plane.version ≤ length solo.versions.earlier };
+    ghost invariant = { λ solo. (solo.plane.pass.word ≡ solo.board.word) × IsOn solo.board solo.session };
 }
 
 impl Solo {
     /// Opens with version 0 of the policy, the greatest number that a version may have, the state, and the most entries that there may
-    /// be. It takes no memory.
+    /// be. `OutOfMemory` if an allocation failed.
     pub fn open(
         alloc: Global,
         policy: Policy,
         version_limit: u32,
         state: State,
         history_limit: u32,
-    ) -> Solo
-        ensures { result ≡ opened (alone policy version_limit state.rows history_limit) }
+    ) -> Result<Solo, OutOfMemory>
+        ensures { IfOk result (λ solo. IsOpening (alone policy version_limit state.rows history_limit) solo) }
     {
-        Solo {
-            versions: Versions::open(alloc, policy, version_limit),
-            plane: Plane::open(alloc, state, history_limit),
-        }
+        let (board, mut pass) = Board::open(alloc, policy, version_limit)?;
+        let session = Session::open(board.split(&mut pass), board.opening());
+        let plane = Plane::open(alloc, state, history_limit, pass);
+        Ok(Solo {
+            board,
+            plane,
+            session,
+        })
     }
 
     /// The versions of the policy.
-    pub fn versions(&self) -> &Versions
-        ensures { result.now ≡ self.now.versions }
+    pub fn board(&self) -> &Board
+        ensures { result.now ≡ self.now.site }
     {
-        &self.versions
+        &self.board
     }
 
     /// The plane.
     pub fn plane(&self) -> &Plane
-        ensures { result.now ≡ self.now.ledger }
+        ensures { result.now ≡ self.now.plane }
     {
         &self.plane
     }
 
-    /// What holds at all times: the state is the replay of the entries, each version of the policy follows the one before it, and the plane's
-    /// version is one that there is.
+    /// What its one user has seen.
+    pub fn session(&self) -> &Session
+        ensures { result.now ≡ self.now.session }
+    {
+        &self.session
+    }
+
+    /// What holds at all times: the state is the replay of the entries, and the plane's version is one that its pass has seen.
     pub fn conditions(&self)
         ensures { IsSolo self.now }
     {
         self.plane.conditions();
-        self.versions.conditions();
+        self.session.conditions();
     }
 
-    /// Answers a call of who holds the token, at a moment. It is decided where its data live, under the latest version of the policy, and
-    /// that is a run of the world of one session: a look and an act, or one step on the policy. After `NothingDone`, out of memory, nothing
-    /// is done but that look; no clause says when memory runs out.
-    pub fn answer(
-        &mut self,
-        alloc: Global,
-        token: Option<&[u8]>,
-        call: &Call,
-        now: Instant,
-    ) -> Served
-        ensures { IsAnswered self.old (option_copied token.entry) call.now now result self.new }
+    /// Answers what is asked. It is decided where its data live, under the last version of the policy, of which the session then holds the
+    /// mark. The versions that its answers name never fall. Out of memory comes last, then nothing is done but a look; no reply of a change
+    /// is lost. Only a change of the policy may wait, for another thread that grows the board's table.
+    pub fn answer<R: Wait>(&mut self, rt: &R, alloc: Global, request: &Request<'_>) -> Served
+        ensures { (basis : Basis) × IsAnswered self.old request.now result self.new basis }
     {
-        self.conditions();
-        let served = self.decide(alloc, token, call, now);
+        let served = self.decide(rt, alloc, request);
         self.conditions();
         served
     }
 
     /// Decides a call, by its kind.
-    fn decide(&mut self, alloc: Global, token: Option<&[u8]>, call: &Call, now: Instant) -> Served
-        ensures decided { IsDecided self.old (option_copied token.entry) call.now now result self.new }
+    fn decide<R: Wait>(&mut self, rt: &R, alloc: Global, request: &Request<'_>) -> Served
+        ensures site { self.new.site ≡ self.old.site }
+        ensures longer { IsPrefix self.old.session.pass.places self.new.session.pass.places }
+        ensures decided { (basis : Basis) × IsDecided self.old request.now result self.new basis }
     {
-        match call {
-            Call::State(op) => self.operate(alloc, token, op, now),
-            Call::Entries(asked) => self.list_entries(alloc, token, asked),
-            Call::Policy(asked) => self.administer(alloc, token, asked),
+        match request.call {
+            Call::Policy(asked) => {
+                let board = &self.board;
+                self.session
+                    .administer(rt, alloc, board, request.token, asked)
+            }
+            Call::State(_) | Call::Entries(_) => self.take_turn(alloc, request),
         }
     }
 
-    /// From now on acts are decided under the latest version.
-    fn look(&mut self)
-        ensures { self.new ≡ record self.old { ledger = looked self.old } }
+    /// Takes a turn on the plane.
+    fn take_turn(&mut self, alloc: Global, request: &Request<'_>) -> Served
+        requires { IsOfPlane request.now.call }
+        ensures site { self.new.site ≡ self.old.site }
+        ensures longer { IsPrefix self.old.session.pass.places self.new.session.pass.places }
+        ensures decided { (basis : Basis) × IsPlaced self.old.site request.now self.old.plane self.old.session result self.new.plane self.new.session basis request.now.call }
     {
-        let _latest = self.plane.look(&self.versions);
-    }
-
-    /// Answers an operation on the state. One that is open looks at no version.
-    fn operate(&mut self, alloc: Global, token: Option<&[u8]>, op: &Op, now: Instant) -> Served
-        ensures decided { OnState self.old (option_copied token.entry) op.now now result self.new }
-    {
-        if !route_of(op.endpoint()).is_open {
-            self.look();
+        let turn = self
+            .plane
+            .turn(alloc, &self.board, &mut self.session, request);
+        match turn {
+            Some(served) => served,
+            None => unreachable!(),
         }
-        self.plane
-            .answer(alloc, self.versions.latest(), token, op, now)
-    }
-
-    /// Answers a request for a page of the event logs.
-    fn list_entries(
-        &mut self,
-        alloc: Global,
-        token: Option<&[u8]>,
-        asked: &Result<Window, Parameter>,
-    ) -> Served
-        ensures decided { OnEntries self.old (option_copied token.entry) asked.now result self.new }
-    {
-        self.look();
-        self.plane
-            .entries(alloc, self.versions.latest(), token, asked)
-    }
-
-    /// Answers an operation on the policy.
-    fn administer(&mut self, alloc: Global, token: Option<&[u8]>, asked: &PolicyOp) -> Served
-        ensures decided { OnPolicy self.old (option_copied token.entry) asked.now result self.new }
-    {
-        answer_policy(alloc, &mut self.versions, token, asked)
     }
 }

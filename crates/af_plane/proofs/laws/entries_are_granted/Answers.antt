@@ -1,4 +1,4 @@
-use Rattle.af_plane.proofs.ReachLemmas.{entries_granted}
+use Rattle.af_plane.proofs.EventLemmas.{entries_granted}
 use Rattle.af_plane.proofs.laws.entries_are_granted.Goals as goal
 
 pub returns : goal.returns

@@ -1,4 +1,4 @@
-use Rattle.af_plane.proofs.ReachLemmas.{versions_follow}
+use Rattle.af_plane.proofs.EventLemmas.{versions_follow}
 use Rattle.af_plane.proofs.laws.versions_follow.Goals as goal
 
 pub returns : goal.returns

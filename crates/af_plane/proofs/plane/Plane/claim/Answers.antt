@@ -1,10 +1,11 @@
-use Rattle.std.proofs.Common.{subst}
+use Rattle.std.proofs.Common.{ap, subst}
 use Rattle.af_audit.specs.Claimed.{IsClaimed}
 use Rattle.af_audit.specs.Ledgers.{LedgerRows}
+use Rattle.af_plane.specs.Visits.{PlaneRows}
 use Rattle.af_plane.proofs.PlaneLemmas.{claim_is}
 use Rattle.af_plane.proofs.plane.Plane.claim.Goals as goal
 
 pub returns-clause-step : goal.returns-clause-step
 returns-clause-step c =
-    claim_is c.args.self.now c.claim.new.self c.args.at c.claim.result
-    (subst (λ (l : LedgerRows). IsClaimed c.args.at l c.claim.new.self c.claim.result) c.self.view_is c.claim.ensures)
+    claim_is c.args.self.now.ledger c.claim.new.self c.args.at c.claim.result
+    (subst (λ (l : LedgerRows). IsClaimed c.args.at l c.claim.new.self c.claim.result) (ap (λ (p : PlaneRows). p.ledger) c.self.view_is) c.claim.ensures)

@@ -1,0 +1,59 @@
+-- Looks of the plane and of a session: what is decided then is decided under the version that was found (this product's own rule).
+use Rattle.std.specs.Prelude.{◌≡◌, ◌<◌, ℕ, length}
+use Rattle.af_ops.specs.declared.served.Served.{Served}
+use Rattle.af_ops.specs.PolicyUnder.{IsNoPolicyTold}
+use Rattle.af_audit.specs.Ledgers.{LedgerRows}
+use Rattle.af_board.specs.Marks.{HasSeen, IsOf, Marked, Site, policy_of}
+use Rattle.af_plane.specs.declared.grounds.Grounds.{Grounds}
+use Rattle.af_plane.specs.declared.grounds.Grounds.TheVariants.{Made, Overtaken, Spent, Under}
+use Rattle.af_plane.specs.Visits.{Visit}
+
+-- the ledger, whose acts are decided under this version from now on
+abbrev pub looked : ℕ → LedgerRows → LedgerRows
+looked version ledger = record ledger { version = version }
+
+-- What an answer rests on: an open operation is decided under no version; the policy of the last version may not be to be had, and then
+-- nothing is decided; else the session holds the marks of what decided it.
+pub data Basis : Type 0 where
+  Openly : Basis
+  Missed : Basis
+  On : (grounds : Grounds) → Basis
+
+-- the version under which it was decided
+abbrev pub base_of : Grounds → Marked
+base_of (Under m) = m
+base_of (Made r) = r.base
+base_of (Overtaken m) = m
+base_of (Spent m pushed) = m
+
+-- the last version of which a session holds the mark
+abbrev pub held : Grounds → Marked
+held (Under m) = m
+held (Made r) = r.mark
+held (Overtaken m) = m
+held (Spent m pushed) = m
+
+-- a session is on a board: its pass is of the board's word, and the last version of which it holds the mark is one of the board's, which it
+-- has seen
+pub record IsOn (site : Site) (visit : Visit) : Type 0 where
+  pub word : visit.pass.word ≡ site.word
+  pub mark : IsOf site (held visit.grounds)
+  pub seen : HasSeen visit.pass (held visit.grounds)
+
+-- where a version is the last one of which a session held the mark, both marks have one policy
+abbrev pub HasSame : Site → Grounds → Marked → Type 0
+HasSame site was m = m.version ≡ (held was).version → policy_of site m ≡ policy_of site (held was)
+
+-- how many versions a session made that holds this of its last answer
+abbrev pub versions_made : Grounds → ℕ
+versions_made (Under m) = 0
+versions_made (Made r) = 1
+versions_made (Overtaken m) = 0
+versions_made (Spent m pushed) = 0
+
+-- The policy of the last version was not to be had, and nothing was decided: that is reported under no version, or there was no memory. It
+-- never comes at version 0.
+pub record IsMissed (was : Visit) (gave : Served) (now : Visit) : Type 0 where
+  pub grounds : now.grounds ≡ was.grounds
+  pub later : 1 < length now.pass.places
+  pub told : IsNoPolicyTold gave

@@ -1,0 +1,162 @@
+ghost use Rattle.std.specs.Prelude.{◌≡◌, ◌<◌, length, true, IfErr, IfOk};
+ghost use Rattle.std.specs.Option.{option_copied};
+ghost use mathlib.Core.List.{IsPrefix};
+ghost use Rattle.af_ops.specs.Endpoints.{endpoint_of};
+ghost use Rattle.af_ops.specs.Table.{is_open};
+ghost use Rattle.af_ops.specs.declared.call.Call.TheVariants as call;
+ghost use Rattle.af_board.specs.Marks.{IsLast};
+ghost use Rattle.af_plane.specs.Looks.{Basis, HasSame, IsOn, On, looked};
+ghost use Rattle.af_plane.specs.Turns.{IsActed, IsOfPlane, IsOpenly, IsPlaced, IsTurn};
+
+use crate::grounds::Grounds;
+use crate::plane::Plane;
+use crate::request::Request;
+use crate::session::Session;
+use af_board::{Board, Mark, NotFound};
+use af_names::Instant;
+use af_ops::{Call, Op, Served, route_of, serve_no_policy};
+use std::alloc::Global;
+use std::mem;
+
+impl Plane {
+    /// One turn of a session: its pass meets the plane's, both look, and what is asked is decided under the version that is found, of which
+    /// the session keeps the mark. An open operation looks at nothing. None if the call is an operation on the policy, which is not the
+    /// plane's.
+    pub fn turn(
+        &mut self,
+        alloc: Global,
+        board: &Board,
+        session: &mut Session,
+        request: &Request<'_>,
+    ) -> Option<Served>
+        requires plane { self.old.pass.word ≡ board.now.word }
+        requires session { IsOn board.now session.old }
+        ensures plane_word { self.new.pass.word ≡ board.now.word }
+        ensures session { IsOn board.now session.new }
+        ensures plane_longer { IsPrefix self.old.pass.places self.new.pass.places }
+        ensures session_longer { IsPrefix session.old.pass.places session.new.pass.places }
+        ensures turn { IsTurn board.now request.now self.old session.old result self.new session.new }
+    {
+        match request.call {
+            Call::State(op) => Some(self.operate(alloc, board, session, request, op)),
+            Call::Entries(_) => Some(self.take_turn(alloc, board, session, request)),
+            Call::Policy(_) => None,
+        }
+    }
+
+    /// Answers an operation on the state.
+    fn operate(
+        &mut self,
+        alloc: Global,
+        board: &Board,
+        session: &mut Session,
+        request: &Request<'_>,
+        op: &Op,
+    ) -> Served
+        requires plane { self.old.pass.word ≡ board.now.word }
+        requires session { IsOn board.now session.old }
+        requires op { request.now.call ≡ call.State op.now }
+        ensures plane_word { self.new.pass.word ≡ board.now.word }
+        ensures session { IsOn board.now session.new }
+        ensures plane_longer { IsPrefix self.old.pass.places self.new.pass.places }
+        ensures session_longer { IsPrefix session.old.pass.places session.new.pass.places }
+        ensures placed { (basis : Basis) × IsPlaced board.now request.now self.old session.old result self.new session.new basis (call.State op.now) }
+    {
+        if route_of(op.endpoint()).is_open {
+            return self.openly(alloc, board, request.token, op, request.at);
+        }
+        self.take_turn(alloc, board, session, request)
+    }
+
+    /// Answers an open operation, under no version.
+    fn openly(
+        &mut self,
+        alloc: Global,
+        board: &Board,
+        token: Option<&[u8]>,
+        op: &Op,
+        now: Instant,
+    ) -> Served
+        requires { is_open (endpoint_of op.now) ≡ true }
+        ensures served { IsOpenly op.now now self.old.ledger result }
+        ensures same { self.new ≡ self.old }
+    {
+        let opening = board.opening();
+        self.ledger
+            .answer(alloc, board.policy(&opening), token, op, now)
+    }
+
+    /// Looks, and decides what is asked.
+    fn take_turn(
+        &mut self,
+        alloc: Global,
+        board: &Board,
+        session: &mut Session,
+        request: &Request<'_>,
+    ) -> Served
+        requires plane { self.old.pass.word ≡ board.now.word }
+        requires session { IsOn board.now session.old }
+        requires call { IsOfPlane request.now.call }
+        ensures plane_word { self.new.pass.word ≡ board.now.word }
+        ensures session { IsOn board.now session.new }
+        ensures plane_longer { IsPrefix self.old.pass.places self.new.pass.places }
+        ensures session_longer { IsPrefix session.old.pass.places session.new.pass.places }
+        ensures acted { (basis : Basis) × IsActed board.now request.now self.old session.old result self.new session.new basis }
+    {
+        match self.act(alloc, board, session, request) {
+            Ok(served) => served,
+            Err(_) => serve_no_policy(alloc),
+        }
+    }
+
+    /// Looks, and decides under the version that is found. `NotFound` if its policy is not to be had.
+    fn act(
+        &mut self,
+        alloc: Global,
+        board: &Board,
+        session: &mut Session,
+        request: &Request<'_>,
+    ) -> Result<Served, NotFound>
+        requires plane { self.old.pass.word ≡ board.now.word }
+        requires session { IsOn board.now session.old }
+        requires call { IsOfPlane request.now.call }
+        ensures plane_word { self.new.pass.word ≡ board.now.word }
+        ensures session { IsOn board.now session.new }
+        ensures plane_longer { IsPrefix self.old.pass.places self.new.pass.places }
+        ensures session_longer { IsPrefix session.old.pass.places session.new.pass.places }
+        ensures met { session.new.pass.places ≡ self.new.pass.places }
+        ensures acted { IfOk result (λ gave. IsActed board.now request.now self.old session.old gave self.new session.new (On session.new.grounds)) }
+        ensures missed { IfErr result (λ _. (session.new.grounds ≡ session.old.grounds) × (1 < length session.new.pass.places)) }
+        ensures stays { IfErr result (λ _. self.new.ledger ≡ self.old.ledger) }
+    {
+        let mark = self.look_with(board, session)?;
+        session.compare(board, &mark);
+        let Some(served) = self.apply(alloc, board, &mark, request) else {
+            unreachable!()
+        };
+        session.grounds = Grounds::Under(mark);
+        Ok(served)
+    }
+
+    /// The session's pass meets the plane's; then one look, and the session has seen what the plane has.
+    fn look_with(&mut self, board: &Board, session: &mut Session) -> Result<Mark, NotFound>
+        requires plane { self.old.pass.word ≡ board.now.word }
+        requires session { IsOn board.now session.old }
+        ensures word { self.new.pass.word ≡ board.now.word }
+        ensures plane_longer { IsPrefix self.old.pass.places self.new.pass.places }
+        ensures session_longer { IsPrefix session.old.pass.places self.new.pass.places }
+        ensures session_word { session.new.pass.word ≡ board.now.word }
+        ensures grounds { session.new.grounds ≡ session.old.grounds }
+        ensures met { session.new.pass.places ≡ self.new.pass.places }
+        ensures mark { IfOk result (λ m. IsLast board.now session.new.pass m) }
+        ensures looked { IfOk result (λ m. self.new.ledger ≡ looked m.version self.old.ledger) }
+        ensures not_found { IfErr result (λ _. 1 < length self.new.pass.places) }
+        ensures stays { IfErr result (λ _. self.new.ledger ≡ self.old.ledger) }
+    {
+        let pass = mem::replace(&mut session.pass, board.split(&mut self.pass));
+        board.meet(&mut self.pass, pass);
+        let found = self.look(board);
+        session.pass = board.split(&mut self.pass);
+        found
+    }
+}

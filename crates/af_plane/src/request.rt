@@ -1,0 +1,20 @@
+use af_names::Instant;
+use af_ops::Call;
+use std::marker::Model;
+
+/// What is asked: a call, the token that came with it, and the time at which it is decided.
+#[derive(Drop)]
+pub struct Request<'a> {
+    pub token: Option<&'a [u8]>,
+    pub call: &'a Call,
+    pub at: Instant,
+}
+
+impl<'a> Model for Request<'a> {
+    ghost use Rattle.std.specs.Option.{option_copied};
+    ghost use Rattle.af_plane.specs.Requests.{RequestRows};
+
+    ghost Value = { RequestRows };
+
+    ghost view = { λ request. record { token = option_copied request.token; call = request.call.now; at = request.at } };
+}

@@ -1,0 +1,115 @@
+ghost use Rattle.std.specs.Prelude.{◌≡◌, ◌<◌, length, IfErr, IfOk};
+ghost use Rattle.std.specs.Option.{option_copied};
+ghost use mathlib.Core.List.{IsPrefix};
+ghost use Rattle.af_ops.specs.declared.policy_op.PolicyOp.TheVariants as asks;
+ghost use Rattle.af_plane.specs.Administered.{IsAdministered, IsGivenOn};
+ghost use Rattle.af_plane.specs.Looks.{Basis, IsOn};
+
+use crate::grounds::Grounds;
+use crate::session::Session;
+use af_board::{Board, NotFound};
+use af_ops::{PolicyOp, Served, serve_me, serve_no_policy, serve_read, serve_unread};
+use af_policy::{ChangeKind, PolicyRead};
+use std::alloc::Global;
+use std::sync::Wait;
+
+impl Session {
+    /// Answers an operation on the policy for the token's owner, on the board that the session is on. It is decided under the last version,
+    /// which the session has then seen and of which it keeps the mark; a change makes the next version. The text of a change is made before
+    /// the version is, so no reply is lost. Only a change may wait, for another thread that grows the board's table.
+    pub fn administer<R: Wait>(
+        &mut self,
+        rt: &R,
+        alloc: Global,
+        board: &Board,
+        token: Option<&[u8]>,
+        asked: &PolicyOp,
+    ) -> Served
+        requires { IsOn board.now self.old }
+        ensures on { IsOn board.now self.new }
+        ensures longer { IsPrefix self.old.pass.places self.new.pass.places }
+        ensures administered { (basis : Basis) × IsAdministered board.now (option_copied token.entry) asked.now self.old result self.new basis }
+    {
+        match self.decide(rt, alloc, board, token, asked) {
+            Ok(served) => served,
+            Err(_) => serve_no_policy(alloc),
+        }
+    }
+
+    /// Decides an operation, by its kind. `NotFound` if the policy of the last version is not to be had.
+    fn decide<R: Wait>(
+        &mut self,
+        rt: &R,
+        alloc: Global,
+        board: &Board,
+        token: Option<&[u8]>,
+        asked: &PolicyOp,
+    ) -> Result<Served, NotFound>
+        requires { IsOn board.now self.old }
+        ensures on { IsOn board.now self.new }
+        ensures longer { IsPrefix self.old.pass.places self.new.pass.places }
+        ensures given { IfOk result (λ gave. IsGivenOn board.now (option_copied token.entry) asked.now self.old gave self.new self.new.grounds) }
+        ensures missed { IfErr result (λ _. (self.new.grounds ≡ self.old.grounds) × (1 < length self.new.pass.places) × (self.new.pass.deeds ≡ self.old.pass.deeds)) }
+    {
+        match asked {
+            PolicyOp::Me => self.me(alloc, board, token),
+            PolicyOp::Read(asked) => self.read(alloc, board, token, asked),
+            PolicyOp::Change(ask) => self.change(rt, alloc, board, token, ask),
+            PolicyOp::Unread(kind) => self.unread(alloc, board, token, *kind),
+        }
+    }
+
+    /// Reports who the token's owner is.
+    fn me(&mut self, alloc: Global, board: &Board, token: Option<&[u8]>) -> Result<Served, NotFound>
+        requires { IsOn board.now self.old }
+        ensures on { IsOn board.now self.new }
+        ensures longer { IsPrefix self.old.pass.places self.new.pass.places }
+        ensures given { IfOk result (λ gave. IsGivenOn board.now (option_copied token.entry) asks.Me self.old gave self.new self.new.grounds) }
+        ensures missed { IfErr result (λ _. (self.new.grounds ≡ self.old.grounds) × (1 < length self.new.pass.places) × (self.new.pass.deeds ≡ self.old.pass.deeds)) }
+    {
+        let mark = self.look(board)?;
+        let served = serve_me(alloc, board.policy(&mark), mark.version(), token);
+        self.grounds = Grounds::Under(mark);
+        Ok(served)
+    }
+
+    /// Reports roles or users.
+    fn read(
+        &mut self,
+        alloc: Global,
+        board: &Board,
+        token: Option<&[u8]>,
+        asked: &PolicyRead,
+    ) -> Result<Served, NotFound>
+        requires { IsOn board.now self.old }
+        ensures on { IsOn board.now self.new }
+        ensures longer { IsPrefix self.old.pass.places self.new.pass.places }
+        ensures given { IfOk result (λ gave. IsGivenOn board.now (option_copied token.entry) (asks.Read asked.now) self.old gave self.new self.new.grounds) }
+        ensures missed { IfErr result (λ _. (self.new.grounds ≡ self.old.grounds) × (1 < length self.new.pass.places) × (self.new.pass.deeds ≡ self.old.pass.deeds)) }
+    {
+        let mark = self.look(board)?;
+        let served = serve_read(alloc, board.policy(&mark), mark.version(), token, asked);
+        self.grounds = Grounds::Under(mark);
+        Ok(served)
+    }
+
+    /// Reports why a change of this kind, whose body was not read, makes no version.
+    fn unread(
+        &mut self,
+        alloc: Global,
+        board: &Board,
+        token: Option<&[u8]>,
+        kind: ChangeKind,
+    ) -> Result<Served, NotFound>
+        requires { IsOn board.now self.old }
+        ensures on { IsOn board.now self.new }
+        ensures longer { IsPrefix self.old.pass.places self.new.pass.places }
+        ensures given { IfOk result (λ gave. IsGivenOn board.now (option_copied token.entry) (asks.Unread kind) self.old gave self.new self.new.grounds) }
+        ensures missed { IfErr result (λ _. (self.new.grounds ≡ self.old.grounds) × (1 < length self.new.pass.places) × (self.new.pass.deeds ≡ self.old.pass.deeds)) }
+    {
+        let mark = self.look(board)?;
+        let served = serve_unread(alloc, board.policy(&mark), mark.version(), token, kind);
+        self.grounds = Grounds::Under(mark);
+        Ok(served)
+    }
+}
