@@ -8,7 +8,7 @@ use Rattle.af_policy.specs.Grants.{first_unmet, grants, missing}
 use Rattle.af_policy.specs.Changes.{needs_of}
 use Rattle.af_policy.specs.Identity.{bearer_of}
 use Rattle.af_policy.specs.Rows.{PolicyRows}
-use Rattle.af_policy.specs.Versions.{VersionRows, asked_by, asked_kind, decided, unless_lacked, within}
+use Rattle.af_policy.specs.Versions.{asked_by, asked_kind, decided, unless_lacked}
 use Rattle.af_policy.specs.declared.ask.Ask.{Ask}
 use Rattle.af_policy.specs.declared.ask.Ask.TheVariants.{Made, Bad}
 use Rattle.af_policy.specs.declared.bad_input.BadInput.TheVariants as input
@@ -25,8 +25,9 @@ use Rattle.af_ops.specs.Effects.{Effect, effect_of}
 use Rattle.af_ops.specs.Endpoints.{dag_of, endpoint_of, unread}
 use Rattle.af_ops.specs.Faults.{fault_of}
 use Rattle.af_ops.specs.PolicyOps as policies
-use Rattle.af_ops.specs.PolicyServed.{told_of, versions_after}
-use Rattle.af_ops.specs.PolicyVerdicts.{PolicyVerdict, change_verdict, current, policy_verdict, unread_verdict}
+use Rattle.af_ops.specs.PolicyServed.{told_of}
+use Rattle.af_ops.specs.PolicyUnder.{verdict_under, with_room}
+use Rattle.af_ops.specs.PolicyVerdicts.{PolicyVerdict, Publishes, Refuses, Tells, change_verdict, unread_verdict}
 use Rattle.af_ops.specs.Required.{at_named}
 use Rattle.af_ops.specs.Served.{answer_of, problem_told}
 use Rattle.af_ops.specs.Table as table
@@ -99,33 +100,39 @@ module _ {X : Type 0} (kept : LedgerRows → X) (policy : PolicyRows) (ledger : 
       → told_op asked (verdict_on policy ledger token asked t) ≡ Some p
   unread_told asked = without asked (unread asked) (unread_is asked)
 
--- ---- operations on the policy; kept: what is left where these versions are
-module _ {X : Type 0} (kept : VersionRows → X) (versions : VersionRows) where
+-- ---- operations on the policy; kept: what is left where this policy was made a version, or none was
+-- the policy that a verdict makes a version
+abbrev pub made_by : PolicyVerdict → Option PolicyRows
+made_by (Refuses problem) = None
+made_by (Tells reply) = None
+made_by (Publishes reply policy) = Some policy
+
+module _ {X : Type 0} (kept : Option PolicyRows → X) (version last : ℕ) (policy : PolicyRows) where
   abbrev pub told_policy : PolicyVerdict → Option (Shown × X)
-  told_policy it = option_map (with_left (kept (versions_after it versions))) (told_of (current versions) it)
+  told_policy it = option_map (with_left (kept (made_by it))) (told_of version it)
 
   module _ (token : Option (List ℕ)) (p : Shown × X) where
     module _ (ask : Ask) where
       change_by_need : (need : Option Need)
-          → told_policy (unread_verdict (unless_lacked versions.latest (Bad (asked_kind ask) input.Body) need)) ≡ Some p
-          → told_policy (change_verdict (current versions) ask (within versions (unless_lacked versions.latest ask need))) ≡ Some p
+          → told_policy (unread_verdict (unless_lacked policy (Bad (asked_kind ask) input.Body) need)) ≡ Some p
+          → told_policy (change_verdict version ask (with_room version last (unless_lacked policy ask need))) ≡ Some p
       change_by_need (Some need) told = told
       change_by_need None told = absurd (cc told)
 
       change_by_user : (user : Option (List ℕ))
-          → told_policy (unread_verdict (asked_by versions.latest (Bad (asked_kind ask) input.Body) user)) ≡ Some p
-          → told_policy (change_verdict (current versions) ask (within versions (asked_by versions.latest ask user))) ≡ Some p
+          → told_policy (unread_verdict (asked_by policy (Bad (asked_kind ask) input.Body) user)) ≡ Some p
+          → told_policy (change_verdict version ask (with_room version last (asked_by policy ask user))) ≡ Some p
       change_by_user None told = told
-      change_by_user (Some user) told = change_by_need (missing versions.latest user (needs_of (asked_kind ask)) None []) told
+      change_by_user (Some user) told = change_by_need (missing policy user (needs_of (asked_kind ask)) None []) told
 
       pub change_unread :
-          told_policy (unread_verdict (decided versions.latest token (Bad (asked_kind ask) input.Body))) ≡ Some p
-          → told_policy (change_verdict (current versions) ask (within versions (decided versions.latest token ask))) ≡ Some p
-      change_unread told = change_by_user (bearer_of versions.latest token) told
+          told_policy (unread_verdict (decided policy token (Bad (asked_kind ask) input.Body))) ≡ Some p
+          → told_policy (change_verdict version ask (with_room version last (decided policy token ask))) ≡ Some p
+      change_unread told = change_by_user (bearer_of policy token) told
 
     pub policy_unread : (asked : PolicyOp)
-        → told_policy (policy_verdict versions token (policies.unread asked)) ≡ Some p
-        → told_policy (policy_verdict versions token asked) ≡ Some p
+        → told_policy (verdict_under version last policy token (policies.unread asked)) ≡ Some p
+        → told_policy (verdict_under version last policy token asked) ≡ Some p
     policy_unread asks.Me told = told
     policy_unread (asks.Read asked) told = told
     policy_unread (asks.Change (Made (AddRole role))) told = change_unread (Made (AddRole role)) told

@@ -1,8 +1,8 @@
-pub mod VersionLemmas
 pub mod WorldRunLemmas
 pub mod DeskLemmas
 pub mod AnswerLemmas
-pub mod OneWayLemmas
+pub mod AloneLemmas
+pub mod AloneRunLemmas
 pub mod LawLemmas
 pub mod VerifiedLemmas
 pub mod VariableLemmas

@@ -1,108 +1,89 @@
--- The steps of all requests of a connection are one run of the world.
-use Rattle.std.proofs.Common.{◌≡◌, refl, ap, subst, ℕ, List, [], ◌∷◌, ◌++◌, Bool, true, false}
-use Rattle.std.specs.Prelude.{Option, None, if◌then◌else◌}
-use Rattle.af_ops.specs.declared.call.Call.{Call}
-use Rattle.af_ops.specs.declared.call.Call.TheVariants as call
-use Rattle.af_ops.specs.declared.op.Op.{Op}
-use Rattle.af_ops.specs.declared.policy_op.PolicyOp.{PolicyOp}
+-- The calls of a connection, with what others publish between them, are one run of the world.
+use Rattle.std.proofs.Common.{◌≡◌, ◌∙◌, refl, sym, ap, subst, ℕ, List, [], ◌∷◌, ◌++◌}
 use Rattle.af_ops.specs.declared.served.Served.{Served}
-use Rattle.af_ops.specs.declared.served.Served.TheVariants as served
-use Rattle.af_ops.specs.Endpoints.{endpoint_of}
-use Rattle.af_ops.specs.Table.{is_open}
 use Rattle.af_audit.specs.Acts.{IsState}
-use Rattle.af_world.specs.Runs.{IsRun, Reaches}
-use Rattle.af_world.specs.Worlds.{World}
-use Rattle.af_plane.specs.Alone.{Administers, AreSteps, LooksAndActs, Runs, world_of}
-use Rattle.af_plane.specs.Solos.{SoloRows}
+use Rattle.af_audit.specs.Ledgers.{Climb}
+use Rattle.af_plane.specs.Events as events
+use Rattle.af_plane.specs.Events.{AreAnswered, named_by}
+use Rattle.af_plane.specs.Laws as plane
+use Rattle.af_plane.proofs.EventLemmas.{events_are_one_run}
 use Rattle.af_http.specs.Requests.{Asked}
 use Rattle.af_http.specs.Run.{Answered, Exchange, Makes}
 use Rattle.af_http.specs.declared.reply.Reply.{Reply}
 use Rattle.af_http.specs.declared.reply.Reply.TheVariants as reply
 use Rattle.af_server.specs.Configurations.{ConfigurationRows}
-use Rattle.af_server.specs.Desks.{Decides, DeskRows, opened}
-use Rattle.af_server.specs.Openings.{opening_of}
-use Rattle.af_server.specs.WorldRuns.{AnsweredStep, AreOneRun, IsTurns, answers_in, steps_in, turns_of, turns_on_plane, turns_on_policy}
+use Rattle.af_server.specs.Desks.{Decides, DeskRows, IsOpened, asked_at}
+use Rattle.af_server.specs.Laws.{AnsweredVersionsClimb, named_in, named_to}
+use Rattle.af_server.specs.WorldRuns.{AnsweredCall, AreCalls, AreOneRun, IsCalls, call_at}
 
--- a run goes on where another ended
-run_join : (w mid last : World) (first later : List AnsweredStep) → IsRun w (steps_in first) (answers_in first) mid → IsRun mid (steps_in later) (answers_in later) last → IsRun w (steps_in (first ++ later)) (answers_in (first ++ later)) last
-run_join w mid last [] later run more = subst (λ (from : World). IsRun from (steps_in later) (answers_in later) last) run more
-run_join w mid last (turn ∷ first) later run more =
-    (run.0, run.1, run.2, run_join run.0 mid last first later run.3 more)
+-- ---- the calls
 
--- ---- of one call
+-- what a request was
+pub record Called (old : DeskRows) (asked : Asked) (it : Reply) (new : DeskRows) : Type 0 where
+  pub calls : List AnsweredCall
+  pub told : IsCalls old asked it calls new
 
--- these steps lead from the world of one to that of another, and are answered so, whoever holds the plane
-abbrev Leads : SoloRows → List AnsweredStep → SoloRows → Type 0
-Leads old turns new = Runs old (steps_in turns) (answers_in turns) new
-
-module _ (old new : SoloRows) (token : Option (List ℕ)) (t : ℕ) where
-  no_turn : new ≡ old → Leads old [] new
-  no_turn same = λ holder. (holder, ap (λ (solo : SoloRows). world_of solo holder) same)
-
-  on_plane : (asked : Call) (gave : Served) → LooksAndActs old token asked t gave new → Leads old (turns_on_plane token asked t gave) new
-  on_plane asked (served.Shown shown) runs = runs
-  on_plane asked served.NothingDone runs = runs
-
-  on_policy : (asked : PolicyOp) (gave : Served) → Administers old token asked gave new → Leads old (turns_on_policy old token asked gave) new
-  on_policy asked (served.Shown shown) runs = runs
-  on_policy asked served.NothingDone same = no_turn same
-
-  by_open : (asked : Op) (gave : Served) (b : Bool) → is_open (endpoint_of asked) ≡ b → AreSteps old token (call.State asked) t gave new → Leads old (if b then [] else turns_on_plane token (call.State asked) t gave) new
-  by_open asked gave true is steps = no_turn (steps.1 is)
-  by_open asked gave false is steps = on_plane (call.State asked) gave (steps.0 is)
-
-  call_leads : (asked : Call) (gave : Served) → AreSteps old token asked t gave new → Leads old (turns_of old token asked t gave) new
-  call_leads (call.State asked) gave steps = by_open asked gave (is_open (endpoint_of asked)) refl steps
-  call_leads (call.Entries window) gave steps = on_plane (call.Entries window) gave steps
-  call_leads (call.Policy asked) gave steps = on_policy asked gave steps
-
--- ---- of all exchanges
-
--- the steps of one request
-pub record IsTurn (old : DeskRows) (asked : Asked) (it : Reply) (new : DeskRows) : Type 0 where
-  pub turns : List AnsweredStep
-  pub told : IsTurns old asked it turns new
-  pub leads : Leads old.solo turns new.solo
-
-turn_of : (old : DeskRows) (asked : Asked) (it : Reply) (new : DeskRows) → Makes Decides old asked it new → IsTurn old asked it new
-turn_of old asked (reply.Fault fault) new (routed, same) = record {
-  turns = [];
-  told = (refl, same);
-  leads = no_turn old.solo new.solo asked.token old.now (ap (λ (d : DeskRows). d.solo) same);
-}
-turn_of old asked (reply.Served gave) new (it, routed, decides) = record {
-  turns = turns_of old.solo asked.token it old.now gave;
-  told = (it, routed, decides, refl);
-  leads = call_leads old.solo new.solo asked.token old.now it gave decides.0.steps;
+called : (old : DeskRows) (asked : Asked) (it : Reply) (new : DeskRows) → Makes Decides old asked it new → Called old asked it new
+called old asked (reply.Fault fault) new (routed, same) = record { calls = []; told = (refl, same) }
+called old asked (reply.Served gave) new (it, routed, (basis, answered, moment)) = record {
+  calls = call_at old asked.token it gave basis ∷ [];
+  told = (it, routed, (basis, answered, moment, refl));
 }
 
--- and then those of the others
-and_then : (old mid : DeskRows) (x : Exchange) (xs : List Exchange) (left : DeskRows) (holder : Option ℕ) → (first : IsTurn old x.asked x.reply mid) → AreOneRun (IsRun (world_of mid.solo (first.leads holder).0)) mid xs left → AreOneRun (IsRun (world_of old.solo holder)) old (x ∷ xs) left
-and_then old mid x xs left holder first rest = record {
-  turns = first.turns ++ rest.turns;
-  told = (mid, (first.turns, (rest.turns, first.told, rest.told, refl)));
-  holder = rest.holder;
-  leads = run_join (world_of old.solo holder) (world_of mid.solo (first.leads holder).0) (world_of left.solo rest.holder) first.turns rest.turns (first.leads holder).1 rest.leads;
-}
+-- what all requests were
+pub record AllCalled (old : DeskRows) (exchanges : List Exchange) (left : DeskRows) : Type 0 where
+  pub calls : List AnsweredCall
+  pub told : AreCalls old exchanges calls left
 
--- they are one run
-pub one_run : (old : DeskRows) (exchanges : List Exchange) (left : DeskRows) (holder : Option ℕ) → Answered Decides old exchanges left → AreOneRun (IsRun (world_of old.solo holder)) old exchanges left
-one_run old [] left holder same = record {
-  turns = [];
-  told = (refl, same);
-  holder = holder;
-  leads = ap (λ (d : DeskRows). world_of d.solo holder) same;
-}
-one_run old (x ∷ xs) left holder (mid, made, later) =
-    let first = turn_of old x.asked x.reply mid made in
-    and_then old mid x xs left holder first (one_run mid xs left (first.leads holder).0 later)
-
--- from what a configuration says on
-pub run_from : (configuration : ConfigurationRows) (now : ℕ) (exchanges : List Exchange) (left : DeskRows) → IsState configuration.state → Answered Decides (opened configuration now) exchanges left → AreOneRun (Reaches (opening_of configuration 1)) (opened configuration now) exchanges left
-run_from configuration now exchanges left state answered =
-    let one = one_run (opened configuration now) exchanges left None answered in record {
-      turns = one.turns;
-      told = one.told;
-      holder = one.holder;
-      leads = (state, one.leads);
+pub all_called : (old : DeskRows) (exchanges : List Exchange) (left : DeskRows) → Answered Decides old exchanges left → AllCalled old exchanges left
+all_called old [] left same = record { calls = []; told = (refl, same) }
+all_called old (x ∷ xs) left (mid, made, later) =
+    let first = called old x.asked x.reply mid made in
+    let rest = all_called mid xs left later in record {
+      calls = first.calls ++ rest.calls;
+      told = (mid, (first.calls, (rest.calls, first.told, rest.told, refl)));
     }
+
+-- ---- one run
+
+pub one_run : (configuration : ConfigurationRows) (now : ℕ) (old : DeskRows) (exchanges : List Exchange) (left : DeskRows) → IsState configuration.state → IsOpened configuration now old → Answered Decides old exchanges left → AreOneRun configuration old exchanges left
+one_run configuration now old exchanges left state opens answered =
+    let all = all_called old exchanges left answered in record {
+      calls = all.calls;
+      told = all.told;
+      leads = λ them turns versions happens. events_are_one_run configuration.policy configuration.limits.versions configuration.state configuration.limits.history old.solo them turns versions left.solo state opens.solo happens.are_events;
+    }
+
+-- ---- the versions that are named
+
+-- the calls as those of a server for one thread, which name the same versions
+pub record Answers (old : DeskRows) (exchanges : List Exchange) (left : DeskRows) : Type 0 where
+  pub calls : List events.Exchange
+  pub answered : AreAnswered old.solo calls left.solo
+  pub named : events.named_in calls ≡ named_in exchanges
+
+-- a request was no call
+unasked : (old mid left : DeskRows) (asked : Asked) (fault : Reply) (xs : List Exchange) → mid ≡ old → named_to fault ≡ [] → Answers mid xs left → Answers old (record { asked = asked; reply = fault } ∷ xs) left
+unasked old mid left asked fault xs same none rest = record {
+  calls = rest.calls;
+  answered = subst (λ (d : DeskRows). AreAnswered d.solo rest.calls left.solo) same rest.answered;
+  named = rest.named ∙ sym (ap (λ (l : List ℕ). l ++ named_in xs) none);
+}
+
+-- a request and those after it
+and_then : (old mid left : DeskRows) (asked : Asked) (it : Reply) (xs : List Exchange) → Makes Decides old asked it mid → Answers mid xs left → Answers old (record { asked = asked; reply = it } ∷ xs) left
+and_then old mid left asked (reply.Fault fault) xs (routed, same) rest = unasked old mid left asked (reply.Fault fault) xs same refl rest
+and_then old mid left asked (reply.Served gave) xs (it, routed, (basis, answered, moment)) rest = record {
+  calls = record { asked = asked_at old.now asked.token it; served = gave } ∷ rest.calls;
+  answered = (mid.solo, (basis, answered, rest.answered));
+  named = ap (λ (l : List ℕ). named_by gave ++ l) rest.named;
+}
+
+answers_of : (old : DeskRows) (exchanges : List Exchange) (left : DeskRows) → Answered Decides old exchanges left → Answers old exchanges left
+answers_of old [] left same = record { calls = []; answered = ap (λ (d : DeskRows). d.solo) same; named = refl }
+answers_of old (x ∷ xs) left (mid, made, later) = and_then old mid left x.asked x.reply xs made (answers_of mid xs left later)
+
+pub named_versions_climb : plane.NamedVersionsNeverFall → AnsweredVersionsClimb
+named_versions_climb law old exchanges left seen had answered =
+    let all = answers_of old exchanges left answered in
+    subst (Climb seen) all.named (law old.solo all.calls left.solo seen had all.answered)

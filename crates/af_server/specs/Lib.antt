@@ -10,6 +10,7 @@ pub mod DagRows
 pub mod Configurations
 pub mod Openings
 pub mod Desks
+pub mod Alone
 pub mod WorldRuns
 pub mod Files
 pub mod Once

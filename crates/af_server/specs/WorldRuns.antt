@@ -1,75 +1,91 @@
--- A connection is a run of the world of one session: request by request the steps that it makes there, answered as the request was (this
+-- A connection is a run of the world of two sessions: its own, which calls, and another, which may publish between its calls (this
 -- product's own rule).
-use Rattle.std.specs.Prelude.{◌≡◌, ℕ, List, [], ◌∷◌, ◌++◌, map, Option, Some, None, Ok, if◌then◌else◌}
+use Rattle.std.specs.Prelude.{◌≡◌, ℕ, List, [], ◌∷◌, ◌++◌, Option, Ok}
+use Rattle.af_policy.specs.Versions.{VersionRows}
 use Rattle.af_ops.specs.declared.call.Call.{Call}
-use Rattle.af_ops.specs.declared.call.Call.TheVariants as call
-use Rattle.af_ops.specs.declared.policy_op.PolicyOp.{PolicyOp}
 use Rattle.af_ops.specs.declared.served.Served.{Served}
-use Rattle.af_ops.specs.declared.served.Served.TheVariants as served
-use Rattle.af_ops.specs.declared.shown_answer.Shown.{Shown}
-use Rattle.af_ops.specs.Endpoints.{endpoint_of}
-use Rattle.af_ops.specs.Table.{is_open}
-use Rattle.af_world.specs.declared.step.Step.{Step}
-use Rattle.af_world.specs.declared.step.Step.TheVariants as step
-use Rattle.af_world.specs.Worlds.{World}
-use Rattle.af_plane.specs.Alone.{policy_step, world_of}
-use Rattle.af_plane.specs.Solos.{SoloRows}
+use Rattle.af_plane.specs.Events as events
+use Rattle.af_plane.specs.Events.{AnsweredStep, AreEvents, Called, Event, Published, turns_of}
+use Rattle.af_plane.specs.Looks.{Basis}
+use Rattle.af_plane.specs.Solos.{IsAnswered}
 use Rattle.af_http.specs.Requests.{Asked}
 use Rattle.af_http.specs.Routes.{IsRouted, call_of}
 use Rattle.af_http.specs.Run.{Exchange}
 use Rattle.af_http.specs.declared.reply.Reply.{Reply}
 use Rattle.af_http.specs.declared.reply.Reply.TheVariants as reply
-use Rattle.af_server.specs.Desks.{Decides, DeskRows}
+use Rattle.af_server.specs.Configurations.{ConfigurationRows}
+use Rattle.af_server.specs.Desks.{DeskRows, asked_at}
+use Rattle.af_server.specs.Openings.{opening_of}
 
--- a step, and what it answers, if anything
-abbrev pub AnsweredStep : Type 0
-AnsweredStep = Step × Option Shown
+-- ---- the calls of a connection
 
-abbrev pub steps_in : List AnsweredStep → List Step
-steps_in turns = map (λ turn. turn.0) turns
+-- what was asked of the desk and what was served, with what that rests on
+abbrev pub AnsweredCall : Type 0
+AnsweredCall = events.Exchange × Basis
 
-abbrev pub answers_in : List AnsweredStep → List (Option Shown)
-answers_in turns = map (λ turn. turn.1) turns
+-- a call at a desk
+abbrev pub call_at : DeskRows → Option (List ℕ) → Call → Served → Basis → AnsweredCall
+call_at old token it gave basis = (record { asked = asked_at old.now token it; served = gave }, basis)
 
--- ---- of one call
-
--- the session looks, and acts; where there was no memory it has looked
-abbrev pub turns_on_plane : Option (List ℕ) → Call → ℕ → Served → List AnsweredStep
-turns_on_plane token asked t (served.Shown shown) = (step.Look 0, None) ∷ (step.Act 0 token asked t, Some shown) ∷ []
-turns_on_plane token asked t served.NothingDone = (step.Look 0, None) ∷ []
-
--- the step of an operation on the policy; where there was no memory there is none
-abbrev pub turns_on_policy : SoloRows → Option (List ℕ) → PolicyOp → Served → List AnsweredStep
-turns_on_policy old token asked (served.Shown shown) = (policy_step old token asked, Some shown) ∷ []
-turns_on_policy old token asked served.NothingDone = []
-
--- what a call is in the world, where this was served of it; an open operation is no step
-abbrev pub turns_of : SoloRows → Option (List ℕ) → Call → ℕ → Served → List AnsweredStep
-turns_of old token (call.State asked) t gave =
-    if is_open (endpoint_of asked) then [] else turns_on_plane token (call.State asked) t gave
-turns_of old token (call.Entries window) t gave = turns_on_plane token (call.Entries window) t gave
-turns_of old token (call.Policy asked) t gave = turns_on_policy old token asked gave
-
--- ---- of all exchanges
-
--- what a request is in the world, between two desks: one that asks for nothing is no step
-abbrev pub IsTurns : DeskRows → Asked → Reply → List AnsweredStep → DeskRows → Type 0
-IsTurns old asked (reply.Fault fault) turns new = (turns ≡ []) × (new ≡ old)
-IsTurns old asked (reply.Served gave) turns new =
-    (it : Call) × IsRouted (call_of asked.method asked.target asked.body) (Ok it) × Decides old asked.token it gave new
-    × (turns ≡ turns_of old.solo asked.token it old.now gave)
+-- what a request is between two desks: one that asks for nothing is no call
+abbrev pub IsCalls : DeskRows → Asked → Reply → List AnsweredCall → DeskRows → Type 0
+IsCalls old asked (reply.Fault fault) calls new = (calls ≡ []) × (new ≡ old)
+IsCalls old asked (reply.Served gave) calls new =
+    (it : Call) × IsRouted (call_of asked.method asked.target asked.body) (Ok it)
+    × ((basis : Basis) × IsAnswered old.solo (asked_at old.now asked.token it) gave new.solo basis × (new.now ≡ old.now)
+    × (calls ≡ call_at old asked.token it gave basis ∷ []))
 
 -- what these requests are there, one after another
-abbrev pub AreTurns : DeskRows → List Exchange → List AnsweredStep → DeskRows → Type 0
-AreTurns old [] turns new = (turns ≡ []) × (new ≡ old)
-AreTurns old (x ∷ xs) turns new =
-    (mid : DeskRows) × ((first : List AnsweredStep) × ((later : List AnsweredStep) × IsTurns old x.asked x.reply first mid × AreTurns mid xs later new
-    × (turns ≡ first ++ later)))
+abbrev pub AreCalls : DeskRows → List Exchange → List AnsweredCall → DeskRows → Type 0
+AreCalls old [] calls new = (calls ≡ []) × (new ≡ old)
+AreCalls old (x ∷ xs) calls new =
+    (mid : DeskRows) × ((first : List AnsweredCall) × ((later : List AnsweredCall) × IsCalls old x.asked x.reply first mid × AreCalls mid xs later new
+    × (calls ≡ first ++ later)))
 
--- Steps that lead so to the world that is left, whose answers are those told: they are what the requests are there, one after another.
-pub record AreOneRun (Leads : List Step → List (Option Shown) → World → Type 0) (old : DeskRows) (exchanges : List Exchange) (left : DeskRows) : Type 0 where
-  pub turns : List AnsweredStep
-  pub told : AreTurns old exchanges turns left
-  -- the session holds the plane where it looked, and there was no memory to act
-  pub holder : Option ℕ
-  pub leads : Leads (steps_in turns) (answers_in turns) (world_of left.solo holder)
+-- ---- what else happens
+
+-- the calls among all events
+abbrev pub calls_in : List Event → List AnsweredCall
+calls_in [] = []
+calls_in (Called x basis ∷ events) = (x, basis) ∷ calls_in events
+calls_in (Published token ask policy ∷ events) = calls_in events
+
+-- the versions that a configuration opens with: its policy alone
+abbrev pub first_versions : ConfigurationRows → VersionRows
+first_versions configuration = record { earlier = []; latest = configuration.policy; last = configuration.limits.versions }
+
+-- From a desk under a configuration to another, and to these versions, this is all that happens: these calls, and what others publish between
+-- them. The world takes these steps then, with these answers.
+pub record Happens (configuration : ConfigurationRows) (old : DeskRows) (calls : List AnsweredCall) (all : List Event) (turns : List AnsweredStep) (versions : VersionRows) (left : DeskRows) : Type 0 where
+  pub are_calls : calls_in all ≡ calls
+  pub are_events : AreEvents (first_versions configuration) old.solo all turns versions left.solo
+
+-- ---- calls alone
+
+-- the calls, where others publish nothing between them
+abbrev pub events_of : List AnsweredCall → List Event
+events_of [] = []
+events_of (it ∷ calls) = Called it.0 it.1 ∷ events_of calls
+
+-- the steps of calls, with the answers that were given
+abbrev pub turns_in : List AnsweredCall → List AnsweredStep
+turns_in [] = []
+turns_in (it ∷ calls) = turns_of it.0.asked it.0.served it.1 ++ turns_in calls
+
+-- The exchanges are calls of the desk; and these are all that happens: each step of the world is one of theirs.
+pub record AreAll (configuration : ConfigurationRows) (old : DeskRows) (exchanges : List Exchange) (left : DeskRows) : Type 0 where
+  pub calls : List AnsweredCall
+  pub told : AreCalls old exchanges calls left
+  pub versions : VersionRows
+  pub happens : Happens configuration old calls (events_of calls) (turns_in calls) versions left
+
+-- ---- one run
+
+-- The exchanges are calls of the desk; and these are one run of the world, whatever others publish between them: its steps are those of the
+-- calls and of the publications, and its answers those that were given.
+pub record AreOneRun (configuration : ConfigurationRows) (old : DeskRows) (exchanges : List Exchange) (left : DeskRows) : Type 0 where
+  pub calls : List AnsweredCall
+  pub told : AreCalls old exchanges calls left
+  pub leads :
+      (all : List Event) (turns : List AnsweredStep) (versions : VersionRows) → Happens configuration old calls all turns versions left
+      → events.AreOneRun (opening_of configuration 2) turns versions left.solo

@@ -1,24 +1,27 @@
-ghost use Rattle.std.specs.Prelude.{◌≡◌};
+ghost use Rattle.std.specs.Prelude.{◌≡◌, IfOk};
 ghost use Rattle.af_plane.specs.Solos.{IsSolo};
-ghost use Rattle.af_server.specs.Desks.{Decides, opened};
+ghost use Rattle.af_server.specs.Desks.{Decides, IsOpened};
 
 use crate::config::Configuration;
+use af_board::OutOfMemory;
 use af_http::Service;
 use af_names::Instant;
 use af_ops::{Call, Served};
-use af_plane::Solo;
+use af_plane::{Request, Solo};
 use std::alloc::Global;
 use std::marker::Model;
+use std::sync::Wait;
 
 /// Answers calls at one moment: a server for one thread.
 #[derive(Drop)]
-pub struct Desk {
+pub struct Desk<'a, H: Wait> {
+    rt: &'a H,
     alloc: Global,
     solo: Solo,
     now: Instant,
 }
 
-impl Model for Desk {
+impl<'a, H: Wait> Model for Desk<'a, H> {
     ghost use Rattle.af_server.specs.Desks.{DeskRows};
 
     ghost Value = { DeskRows };
@@ -26,11 +29,16 @@ impl Model for Desk {
     ghost view = { λ desk. record { solo = desk.solo; now = desk.now } };
 }
 
-impl Desk {
-    /// The desk under a configuration, at a moment, with room for as many entries and versions as the configuration lets. It takes no
-    /// memory.
-    pub fn open(alloc: Global, configuration: Configuration, now: Instant) -> Desk
-        ensures { result ≡ opened configuration now }
+impl<'a, H: Wait> Desk<'a, H> {
+    /// The desk under a configuration, at a moment, with room for as many entries and versions as the configuration lets. `OutOfMemory` if
+    /// an allocation failed.
+    pub fn open(
+        rt: &'a H,
+        alloc: Global,
+        configuration: Configuration,
+        now: Instant,
+    ) -> Result<Desk<'a, H>, OutOfMemory>
+        ensures { IfOk result (λ desk. IsOpened configuration now desk) }
     {
         let Configuration {
             policy,
@@ -38,8 +46,13 @@ impl Desk {
             limits,
             ..
         } = configuration;
-        let solo = Solo::open(alloc, policy, limits.versions, state, limits.history);
-        Desk { alloc, solo, now }
+        let solo = Solo::open(alloc, policy, limits.versions, state, limits.history)?;
+        Ok(Desk {
+            rt,
+            alloc,
+            solo,
+            now,
+        })
     }
 
     /// The conditions that a desk meets at all times.
@@ -50,10 +63,15 @@ impl Desk {
     }
 }
 
-impl Service for Desk {
+impl<'a, H: Wait> Service for Desk<'a, H> {
     ghost answers = { λ old token call served new. Decides old token call served new };
 
     fn answer(&mut self, token: Option<&[u8]>, call: &Call) -> Served {
-        self.solo.answer(self.alloc, token, call, self.now)
+        let request = Request {
+            token,
+            call,
+            at: self.now,
+        };
+        self.solo.answer(self.rt, self.alloc, &request)
     }
 }

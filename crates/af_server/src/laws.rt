@@ -1,25 +1,14 @@
-ghost use Rattle.af_http.specs.Laws.{IsFunction};
-ghost use Rattle.af_server.specs.Desks.{Decides};
-ghost use Rattle.af_server.specs.Laws.{AnsweredVersionsClimb, EntriesAreGranted, OneReading, VersionsFollow};
+ghost use Rattle.af_server.specs.Laws.{AnsweredVersionsClimb, CallsAreAll, DesksAnswerAlike, DesksOpenAlike, EntriesAreGranted, ExchangesAreOneRun, OneReading, VersionsFollow};
 
-use crate::desk::Desk;
-use af_http::laws::one_reading;
-use af_world::laws;
+use af_plane::laws;
 
-/// A desk answers in one way, where it has the memory to: also where there was none to read the body of a request.
-pub fn desks_answer_in_one_way()
-    ensures { IsFunction Decides }
+/// All exchanges from a desk under a configuration on are one run of the world, whatever others publish between them: its steps are those of
+/// the calls and of the publications, and its answers those that were given.
+pub fn exchanges_are_one_run()
+    ensures { ExchangesAreOneRun }
 {}
 
-/// The text of a connection has one reading: how the connection ends, what it writes, and the desk that it leaves.
-pub fn a_text_has_one_reading()
-    ensures { OneReading }
-{
-    desks_answer_in_one_way();
-    one_reading::<Desk>();
-}
-
-/// After a connection under a configuration, each user's entry stands under a version in which that user's roles list a permission for each
+/// After exchanges under a configuration, each user's entry stands under a version in which that user's roles list a permission for each
 /// requirement, on the state before it.
 pub fn entries_are_granted()
     ensures { EntriesAreGranted }
@@ -27,17 +16,40 @@ pub fn entries_are_granted()
     laws::entries_are_granted();
 }
 
-/// After a connection under a configuration, each later version of the policy is made of the one before it by an author whose roles there
-/// list all that the change requires.
+/// After exchanges under a configuration, each later version of the policy is made of the one before it by an author whose roles there list
+/// all that the change requires.
 pub fn versions_follow()
     ensures { VersionsFollow }
 {
     laws::versions_follow();
 }
 
-/// The versions that a connection under a configuration is told never fall.
+/// The versions that the answers of a connection name never fall, and none is before the last that its session had seen.
 pub fn answered_versions_climb()
     ensures { AnsweredVersionsClimb }
 {
-    laws::answered_versions_climb();
+    laws::named_versions_never_fall();
 }
+
+/// Two desks under one configuration are alike.
+pub fn desks_open_alike()
+    ensures { DesksOpenAlike }
+{}
+
+/// Where the session of a connection sees no version but those that it makes, its calls can be all that happens: the steps of its run of the
+/// world are then those of its calls.
+pub fn calls_are_all()
+    ensures { CallsAreAll }
+{}
+
+/// Desks that are alike answer alike, where they have the memory to, and see no version but those that they make: also where there was none to
+/// read the body of a request.
+pub fn desks_answer_alike()
+    ensures { DesksAnswerAlike }
+{}
+
+/// The text of a connection has one reading, where its session sees no version but those that it makes: how the connection ends, what it
+/// writes, and, but for what it can't see, the desk that it leaves.
+pub fn a_text_has_one_reading()
+    ensures { OneReading }
+{}

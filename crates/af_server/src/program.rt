@@ -11,11 +11,13 @@ use crate::verdict::{conclude, verified};
 use af_http::{Ended, Sink, Source};
 use af_names::Instant;
 use std::alloc::Global;
+use std::sync::Wait;
 
 /// Does what the words ask for, with files found there, and gives the status. `once`: 0 where the connection ended as connections do, 1 where
 /// it was cut short. `verify`: 0 where the answers agree, 1 where they differ. Of wrong words 2; where the configuration or the trace is
 /// refused, also where its file can't be opened, 3.
-pub fn run<F: Files, R: Source, W: Sink, E: Sink>(
+pub fn run<H: Wait, F: Files, R: Source, W: Sink, E: Sink>(
+    rt: &H,
     alloc: Global,
     files: &F,
     command: Command,
@@ -25,14 +27,15 @@ pub fn run<F: Files, R: Source, W: Sink, E: Sink>(
         (W.taken console.old.output) (W.taken console.new.output) (E.taken console.old.errors) (E.taken console.new.errors) result }
 {
     match command {
-        Command::Once { config, now } => once_at(alloc, files, config.as_str(), now, console),
+        Command::Once { config, now } => once_at(rt, alloc, files, config.as_str(), now, console),
         Command::Verify { trace } => verify_at(alloc, files, trace.as_str(), console),
         Command::Usage => usage(&mut console.errors),
     }
 }
 
 /// One connection under the configuration at a path; why it is refused is told on standard error.
-fn once_at<F: Files, R: Source, W: Sink, E: Sink>(
+fn once_at<H: Wait, F: Files, R: Source, W: Sink, E: Sink>(
+    rt: &H,
     alloc: Global,
     files: &F,
     path: &str,
@@ -43,6 +46,7 @@ fn once_at<F: Files, R: Source, W: Sink, E: Sink>(
         (W.taken console.old.output) (W.taken console.new.output) (E.taken console.old.errors) (E.taken console.new.errors) result }
 {
     let outcome = connection_at(
+        rt,
         alloc,
         files,
         path,
@@ -54,7 +58,8 @@ fn once_at<F: Files, R: Source, W: Sink, E: Sink>(
 }
 
 /// One connection under the configuration at a path.
-fn connection_at<F: Files, R: Source, W: Sink>(
+fn connection_at<H: Wait, F: Files, R: Source, W: Sink>(
+    rt: &H,
     alloc: Global,
     files: &F,
     path: &str,
@@ -66,7 +71,7 @@ fn connection_at<F: Files, R: Source, W: Sink>(
         (W.taken writer.old) (W.taken writer.new) result }
 {
     match files.open(path) {
-        Ok(mut file) => connection(alloc, &mut file, now, reader, writer),
+        Ok(mut file) => connection(rt, alloc, &mut file, now, reader, writer),
         Err(reason) => Err(reason),
     }
 }

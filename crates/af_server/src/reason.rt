@@ -2,6 +2,7 @@ ghost use Rattle.std.specs.Prelude.{◌≡◌};
 ghost use Rattle.af_server.specs.declared.reason.Reason.TheVariants.{Memory};
 ghost use Rattle.af_server.specs.Reasons.{change_reason, name_reason, reason_text, row_reason, dag_reason, graph_reason, pool_reason, trace_reason, variable_reason};
 
+use af_board::OutOfMemory;
 use af_graph::DagFault;
 use af_names::NameError;
 use af_policy::{ChangeFault, RowFault};
@@ -83,6 +84,14 @@ impl<T: Drop> From<AllocFailed<T>> for Reason {
     ghost from_gives = { λ _ reason. reason ≡ Memory };
 
     fn from(_error: AllocFailed<T>) -> Reason {
+        Reason::Memory
+    }
+}
+
+impl From<OutOfMemory> for Reason {
+    ghost from_gives = { λ _ reason. reason ≡ Memory };
+
+    fn from(_error: OutOfMemory) -> Reason {
         Reason::Memory
     }
 }

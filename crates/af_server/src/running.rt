@@ -12,10 +12,12 @@ use crate::telling::ended;
 use af_http::{Ended, Sink, Source};
 use af_names::Instant;
 use std::alloc::Global;
+use std::sync::Wait;
 
 /// One connection under the configuration that a file holds, at a moment. Where there is none, why is told. The status is that
 /// of the connection that was served: 0 where it ended as connections do, 1 where it was cut short, 3 where there was none.
-pub fn run_once<F: Source, R: Source, W: Sink, E: Sink>(
+pub fn run_once<H: Wait, F: Source, R: Source, W: Sink, E: Sink>(
+    rt: &H,
     alloc: Global,
     file: &mut F,
     now: Instant,
@@ -27,12 +29,20 @@ pub fn run_once<F: Source, R: Source, W: Sink, E: Sink>(
         × Tells (E.taken console.old.errors) (E.taken console.new.errors) (said_of outcome)
         × (result ≡ status_of outcome) }
 {
-    let outcome = connection(alloc, file, now, &mut console.input, &mut console.output);
+    let outcome = connection(
+        rt,
+        alloc,
+        file,
+        now,
+        &mut console.input,
+        &mut console.output,
+    );
     ended(&mut console.errors, outcome)
 }
 
 /// One connection under the configuration that a file holds.
-pub fn connection<F: Source, R: Source, W: Sink>(
+pub fn connection<H: Wait, F: Source, R: Source, W: Sink>(
+    rt: &H,
     alloc: Global,
     file: &mut F,
     now: Instant,
@@ -43,7 +53,7 @@ pub fn connection<F: Source, R: Source, W: Sink>(
         (W.taken writer.old) (W.taken writer.new) result }
 {
     match read_whole(alloc, file) {
-        Ok(bytes) => once(alloc, bytes.as_slice(), now, reader, writer),
+        Ok(bytes) => once(rt, alloc, bytes.as_slice(), now, reader, writer),
         Err(reason) => Err(reason),
     }
 }
