@@ -30,6 +30,7 @@ use af_names::Instant;
 use af_server::once::once;
 use std::alloc::Global;
 use std::io::{self, ErrorKind, Read};
+use std::sync::Wait;
 
 /// The sample configuration: eight users, three roles of its own, three DAGs.
 const BASE: &str = r#"{"roles":[
@@ -89,6 +90,7 @@ fn now() -> Option<Instant> {
 /// How a connection with this input, of which at most so many bytes come at once, ends under a configuration, or none where that is
 /// refused. What is told in it is written here.
 fn ended(
+    rt: &impl Wait,
     alloc: Global,
     config: &str,
     input: &[u8],
@@ -98,13 +100,21 @@ fn ended(
     let now = now()?;
     let mut reader = in_pieces(input, size);
     let mut writer = Counted::new(written);
-    once(alloc, config.as_bytes(), now, &mut reader, &mut writer).ok()
+    once(rt, alloc, config.as_bytes(), now, &mut reader, &mut writer).ok()
 }
 
 /// Whether this is what is written in a connection with this input under a configuration, and how it ends.
-fn is_told(alloc: Global, config: &str, input: &[u8], size: usize, told: &str, end: Ended) -> bool {
+fn is_told(
+    rt: &impl Wait,
+    alloc: Global,
+    config: &str,
+    input: &[u8],
+    size: usize,
+    told: &str,
+    end: Ended,
+) -> bool {
     let mut written = Vec::new(alloc);
-    let ended = ended(alloc, config, input, size, &mut written);
+    let ended = ended(rt, alloc, config, input, size, &mut written);
     let is_written = written.as_slice() == told.as_bytes();
     drop(written);
     is_written && ended == Some(end)

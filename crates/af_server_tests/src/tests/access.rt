@@ -133,7 +133,7 @@ const GRANTED: [Row; 4] = [
 
 #[test]
 fn who_is_granted_what(rt: HostRuntime) {
-    let fault = fault_in(rt.alloc(), CONFIG, Story::Rows(&GRANTED));
+    let fault = fault_in(&rt, rt.alloc(), CONFIG, Story::Rows(&GRANTED));
     all_go(
         &rt,
         fault,

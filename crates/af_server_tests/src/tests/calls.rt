@@ -5,6 +5,7 @@ use super::{BASE, Pieces};
 use af_http::Counted;
 use af_server::{Command, Reason, read_whole};
 use std::alloc::{AllocError, Global};
+use std::sync::Wait;
 
 /// Adds a word to those of a call.
 fn add_word(alloc: Global, all: &mut Vec<String>, word: &str) -> Result<(), AllocError> {
@@ -143,15 +144,29 @@ const CALLS: [Call; 6] = [
 ];
 
 /// Whether a call goes as it should.
-fn goes(alloc: Global, call: &Call) -> Result<bool, AllocError> {
+fn goes(rt: &impl Wait, alloc: Global, call: &Call) -> Result<bool, AllocError> {
     let (config, input, status, answered, errors) = *call;
     let output = if answered { None } else { Some("") };
-    Ok(does(alloc, Act::Once(config), input, (status, output, errors)))
+    Ok(does(
+        rt,
+        alloc,
+        Act::Once(config),
+        input,
+        (status, output, errors),
+    ))
 }
 
 #[test]
 fn what_the_program_says(rt: HostRuntime) {
-    all_go(&rt, first_fault(rt.alloc(), &CALLS, goes), "call");
+    all_go(
+        &rt,
+        first_fault(
+            rt.alloc(),
+            &CALLS,
+            |alloc, call: &Call| goes(&rt, alloc, call),
+        ),
+        "call",
+    );
 }
 
 /// How many spaces a file holds, how many of them a read gives at most, whether it fails behind them, and why it is refused.
@@ -184,8 +199,11 @@ fn files_that_fail_are_refused(rt: HostRuntime) {
     all_go(&rt, first_fault(rt.alloc(), &SPACES, is_refused), "spaces");
 }
 
-/// Each reason, and its word.
-const WORDS: [(Reason, &str); 15] = [
+/// A reason, and its word.
+type Word = (Reason, &'static str);
+
+/// Each reason.
+const WORDS: [Word; 15] = [
     (Reason::Unreadable, "unreadable"),
     (Reason::Syntax, "syntax"),
     (Reason::Shape, "shape"),
@@ -204,23 +222,31 @@ const WORDS: [(Reason, &str); 15] = [
 ];
 
 /// Whether a reason is told by this word.
-fn is_word(alloc: Global, word: &(Reason, &'static str)) -> Result<bool, AllocError> {
+fn is_word(rt: &impl Wait, alloc: Global, word: &Word) -> Result<bool, AllocError> {
     let line = ["afplane: configuration refused: ", word.1, "\n"].concat(alloc)?;
     let told = (3, Some(""), line.as_str());
-    let is_word = does(alloc, Act::End(word.0), "", told);
+    let is_word = does(rt, alloc, Act::End(word.0), "", told);
     drop(line);
     Ok(is_word)
 }
 
 #[test]
 fn each_line(rt: HostRuntime) {
-    all_go(&rt, first_fault(rt.alloc(), &WORDS, is_word), "word");
+    all_go(
+        &rt,
+        first_fault(
+            rt.alloc(),
+            &WORDS,
+            |alloc, word: &Word| is_word(&rt, alloc, word),
+        ),
+        "word",
+    );
 }
 
 const USAGE: &str = "usage: afplane once CONFIG NOW | serve CONFIG PORT WORKERS | verify TRACE\n";
 
 #[test]
 fn the_line_of_the_usage(rt: HostRuntime) {
-    let is_told = does(rt.alloc(), Act::Usage, "", (2, Some(""), USAGE));
+    let is_told = does(&rt, rt.alloc(), Act::Usage, "", (2, Some(""), USAGE));
     holds(&rt, is_told, "the status and the line");
 }

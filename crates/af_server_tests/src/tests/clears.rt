@@ -133,6 +133,12 @@ const CLEARS: [Exchange; 31] = [
 
 #[test]
 fn instances_are_cleared(rt: HostRuntime) {
-    let fault = fault_in_pieces(rt.alloc(), BASE, Story::Exchanges(&CLEARS), &[1, 4_096]);
+    let fault = fault_in_pieces(
+        &rt,
+        rt.alloc(),
+        BASE,
+        Story::Exchanges(&CLEARS),
+        &[1, 4_096],
+    );
     all_go(&rt, fault, "the answers, in pieces of");
 }

@@ -4,6 +4,7 @@ use super::{BASE, is_told};
 use af_http::Ended;
 use af_ops::Status;
 use std::alloc::Global;
+use std::sync::Wait;
 
 const LIST: &str =
     "HTTP/1.1 200 OK\r\nContent-Type: application/json\r\nContent-Length: 321\r\nX-Policy-Version: 0\r\nX-Plane-Seq: 0\r\n\r\n{\"dags\":[{\"dag_id\":\"a\",\"is_paused\":true,\"max_active_runs\":16,\"next_dagrun\":null,\"schedule_interval\":null},{\"dag_id\":\"b\",\"is_paused\":false,\"max_active_runs\":16,\"next_dagrun\":null,\"schedule_interval\":null},{\"dag_id\":\"c\",\"is_paused\":false,\"max_active_runs\":16,\"next_dagrun\":null,\"schedule_interval\":null}],\"total_entries\":3}";
@@ -49,7 +50,7 @@ const LISTS: [Exchange; 10] = [
 
 #[test]
 fn what_each_user_is_told(rt: HostRuntime) {
-    let fault = fault_alone(rt.alloc(), BEFORE_TOKEN, &LISTS, BEHIND_TOKEN);
+    let fault = fault_alone(&rt, rt.alloc(), BEFORE_TOKEN, &LISTS, BEHIND_TOKEN);
     all_go(&rt, fault, "the user of the token");
 }
 
@@ -62,14 +63,14 @@ const OPEN: [Exchange; 3] = [
 
 #[test]
 fn without_a_token_or_a_method(rt: HostRuntime) {
-    let fault = fault_alone(rt.alloc(), "", &OPEN, "");
+    let fault = fault_alone(&rt, rt.alloc(), "", &OPEN, "");
     all_go(&rt, fault, "the request");
 }
 
 /// The first size of pieces in which this is not what is told of an input.
-fn first_size(alloc: Global, input: &str, told: &str) -> Option<usize> {
+fn first_size(rt: &impl Wait, alloc: Global, input: &str, told: &str) -> Option<usize> {
     for size in 1..=input.len() {
-        if !is_told(alloc, BASE, input.as_bytes(), size, told, Ended::Closed) {
+        if !is_told(rt, alloc, BASE, input.as_bytes(), size, told, Ended::Closed) {
             return Some(size);
         }
     }
@@ -77,9 +78,9 @@ fn first_size(alloc: Global, input: &str, told: &str) -> Option<usize> {
 }
 
 /// The same of the viewer's two requests.
-fn first_size_of_two(alloc: Global) -> Fault {
+fn first_size_of_two(rt: &impl Wait, alloc: Global) -> Fault {
     let told = [LIST, VERSION].concat(alloc)?;
-    let fault = first_size(alloc, TWO, told.as_str());
+    let fault = first_size(rt, alloc, TWO, told.as_str());
     drop(told);
     Ok(fault)
 }
@@ -91,22 +92,22 @@ const TWO: &str =
 /// On one connection, however they are cut.
 #[test]
 fn in_pieces_of_any_size(rt: HostRuntime) {
-    all_go(&rt, first_size_of_two(rt.alloc()), "in pieces of");
+    all_go(&rt, first_size_of_two(&rt, rt.alloc()), "in pieces of");
 }
 
 /// Whether a request of which only the first so many bytes come is refused.
-fn is_incomplete(alloc: Global, length: usize) -> bool {
+fn is_incomplete(rt: &impl Wait, alloc: Global, length: usize) -> bool {
     let end = Ended::Refused(Status::BadRequest);
     match ASKS_VERSION.as_bytes().get(..length) {
-        Some(front) => is_told(alloc, BASE, front, 4_096, INCOMPLETE, end),
+        Some(front) => is_told(rt, alloc, BASE, front, 4_096, INCOMPLETE, end),
         None => false,
     }
 }
 
 /// The first length at which a request of 41 bytes is not refused where it is cut.
-fn first_complete(alloc: Global) -> Option<usize> {
+fn first_complete(rt: &impl Wait, alloc: Global) -> Option<usize> {
     for length in 1..41usize {
-        if !is_incomplete(alloc, length) {
+        if !is_incomplete(rt, alloc, length) {
             return Some(length);
         }
     }
@@ -116,12 +117,12 @@ fn first_complete(alloc: Global) -> Option<usize> {
 /// A request of 41 bytes.
 #[test]
 fn cut_after_each_byte(rt: HostRuntime) {
-    all_go(&rt, Ok(first_complete(rt.alloc())), "cut after");
+    all_go(&rt, Ok(first_complete(&rt, rt.alloc())), "cut after");
     holds(&rt, ASKS_VERSION.len() == 41, "the request");
 }
 
 #[test]
 fn nothing_is_asked(rt: HostRuntime) {
-    let fault = fault_in(rt.alloc(), BASE, Story::Exchanges(&[]));
+    let fault = fault_in(&rt, rt.alloc(), BASE, Story::Exchanges(&[]));
     all_go(&rt, fault, "no answer, and it closes, in pieces of");
 }

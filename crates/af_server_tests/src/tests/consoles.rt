@@ -5,6 +5,7 @@ use super::{Pieces, in_pieces, now};
 use af_http::Counted;
 use af_server::{Console, Reason, ended, run, run_once, run_verify, usage};
 use std::alloc::Global;
+use std::sync::Wait;
 
 /// What the program is to do.
 #[derive(Clone, Copy)]
@@ -33,16 +34,22 @@ fn file(text: &str) -> Counted<Pieces<'_>> {
 }
 
 /// The status of what words say, where there is one file, which holds this; none where there is no memory.
-fn run_words(alloc: Global, text: &'static str, words: &[&str], desk: &mut Desk<'_>) -> Option<u8> {
+fn run_words(
+    rt: &impl Wait,
+    alloc: Global,
+    text: &'static str,
+    words: &[&str],
+    desk: &mut Desk<'_>,
+) -> Option<u8> {
     let command = command_of(alloc, words).ok()?;
-    Some(run(alloc, &Shelf { path: "it", text }, command, desk))
+    Some(run(rt, alloc, &Shelf { path: "it", text }, command, desk))
 }
 
 /// The status of what is done, or none where there is no memory or no moment.
-fn status_of(alloc: Global, what: Act<'_>, desk: &mut Desk<'_>) -> Option<u8> {
+fn status_of(rt: &impl Wait, alloc: Global, what: Act<'_>, desk: &mut Desk<'_>) -> Option<u8> {
     match what {
-        Act::Once(config) => Some(run_once(alloc, &mut file(config), now()?, desk)),
-        Act::Run(text, words) => run_words(alloc, text, words, desk),
+        Act::Once(config) => Some(run_once(rt, alloc, &mut file(config), now()?, desk)),
+        Act::Run(text, words) => run_words(rt, alloc, text, words, desk),
         Act::Verify(trace) => Some(run_verify(
             alloc,
             &mut file(trace),
@@ -56,6 +63,7 @@ fn status_of(alloc: Global, what: Act<'_>, desk: &mut Desk<'_>) -> Option<u8> {
 
 /// The same with this input, where this is written.
 fn done(
+    rt: &impl Wait,
     alloc: Global,
     what: Act<'_>,
     input: &str,
@@ -67,7 +75,7 @@ fn done(
         output: Counted::new(output),
         errors: Counted::new(errors),
     };
-    status_of(alloc, what, &mut desk)
+    status_of(rt, alloc, what, &mut desk)
 }
 
 /// Whether this status, what is printed and what is told on standard error are those wanted.
@@ -80,10 +88,10 @@ fn is_told(status: Option<u8>, output: &[u8], errors: &[u8], told: Told<'_>) -> 
 }
 
 /// Whether what the program does with this input is told of so.
-pub fn does(alloc: Global, what: Act<'_>, input: &str, told: Told<'_>) -> bool {
+pub fn does(rt: &impl Wait, alloc: Global, what: Act<'_>, input: &str, told: Told<'_>) -> bool {
     let mut output = Vec::new(alloc);
     let mut errors = Vec::new(alloc);
-    let status = done(alloc, what, input, &mut output, &mut errors);
+    let status = done(rt, alloc, what, input, &mut output, &mut errors);
     let is_told = is_told(status, output.as_slice(), errors.as_slice(), told);
     drop(output);
     drop(errors);

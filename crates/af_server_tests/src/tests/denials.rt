@@ -20,6 +20,12 @@ const DENIALS: [Exchange; 3] = [
 
 #[test]
 fn a_denial_comes_before_a_bad_body(rt: HostRuntime) {
-    let fault = fault_in_pieces(rt.alloc(), BASE, Story::Exchanges(&DENIALS), &[1, 4_096]);
+    let fault = fault_in_pieces(
+        &rt,
+        rt.alloc(),
+        BASE,
+        Story::Exchanges(&DENIALS),
+        &[1, 4_096],
+    );
     all_go(&rt, fault, "the answers, in pieces of");
 }

@@ -96,8 +96,18 @@ const K: &str = r#"{"key":"k","value":"2"}"#;
 
 #[test]
 fn a_hidden_dag_is_answered_as_an_absent_one(rt: HostRuntime) {
-    let fault = fault_in(rt.alloc(), BASE, Story::After(&RUNS_OF_THREE, &READINGS));
+    let fault = fault_in(
+        &rt,
+        rt.alloc(),
+        BASE,
+        Story::After(&RUNS_OF_THREE, &READINGS),
+    );
     all_go(&rt, fault, "the answers with the DAGs, in pieces of");
-    let fault = fault_in(rt.alloc(), WITHOUT, Story::After(&RUNS_OF_ONE, &READINGS));
+    let fault = fault_in(
+        &rt,
+        rt.alloc(),
+        WITHOUT,
+        Story::After(&RUNS_OF_ONE, &READINGS),
+    );
     all_go(&rt, fault, "the answers without the DAGs, in pieces of");
 }

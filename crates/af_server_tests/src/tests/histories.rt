@@ -100,7 +100,7 @@ const FILLED: [Row; 9] = [
 
 #[test]
 fn a_full_history_takes_no_change(rt: HostRuntime) {
-    let fault = fault_in(rt.alloc(), THREE, Story::Rows(&FILLED));
+    let fault = fault_in(&rt, rt.alloc(), THREE, Story::Rows(&FILLED));
     all_go(&rt, fault, "the answers, one after another, in pieces of");
 }
 
@@ -166,6 +166,6 @@ const LOGS: [Row; 7] = [
 
 #[test]
 fn event_logs_after_changes(rt: HostRuntime) {
-    let fault = fault_in(rt.alloc(), BASE, Story::Rows(&LOGS));
+    let fault = fault_in(&rt, rt.alloc(), BASE, Story::Rows(&LOGS));
     all_go(&rt, fault, "the answers, one after another, in pieces of");
 }

@@ -120,7 +120,7 @@ const INSTANCES: [Row; 14] = [
 
 #[test]
 fn what_is_told_of_instances(rt: HostRuntime) {
-    let fault = fault_in(rt.alloc(), BASE, Story::Rows(&INSTANCES));
+    let fault = fault_in(&rt, rt.alloc(), BASE, Story::Rows(&INSTANCES));
     all_go(&rt, fault, "the answers, one after another, in pieces of");
 }
 
@@ -140,6 +140,12 @@ const NOWHERE: [Exchange; 4] = [
 
 #[test]
 fn where_there_is_no_instance(rt: HostRuntime) {
-    let fault = fault_alone(rt.alloc(), "", &NOWHERE, " HTTP/1.1\r\nHost: h\r\n\r\n");
+    let fault = fault_alone(
+        &rt,
+        rt.alloc(),
+        "",
+        &NOWHERE,
+        " HTTP/1.1\r\nHost: h\r\n\r\n",
+    );
     all_go(&rt, fault, "where nobody asks");
 }

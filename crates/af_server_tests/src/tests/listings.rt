@@ -168,6 +168,6 @@ const OTHERS: [Row; 20] = [
 
 #[test]
 fn pages_of_other_listings(rt: HostRuntime) {
-    let fault = fault_in(rt.alloc(), BASE, Story::Rows(&OTHERS));
+    let fault = fault_in(&rt, rt.alloc(), BASE, Story::Rows(&OTHERS));
     all_go(&rt, fault, "the answers, one after another, in pieces of");
 }

@@ -77,6 +77,12 @@ const MARKS: [Exchange; 17] = [
 
 #[test]
 fn a_run_is_marked(rt: HostRuntime) {
-    let fault = fault_in_pieces(rt.alloc(), BASE, Story::Exchanges(&MARKS), &[1, 16, 4_096]);
+    let fault = fault_in_pieces(
+        &rt,
+        rt.alloc(),
+        BASE,
+        Story::Exchanges(&MARKS),
+        &[1, 16, 4_096],
+    );
     all_go(&rt, fault, "the answers, in pieces of");
 }

@@ -201,6 +201,6 @@ const RUNS: [Row; 24] = [
 
 #[test]
 fn pages_of_runs(rt: HostRuntime) {
-    let fault = fault_in(rt.alloc(), BASE, Story::Rows(&RUNS));
+    let fault = fault_in(&rt, rt.alloc(), BASE, Story::Rows(&RUNS));
     all_go(&rt, fault, "the answers, one after another, in pieces of");
 }

@@ -2,11 +2,13 @@
 //! entries say of them, as rows that loops play.
 mod asserts;
 mod audit;
+mod boards;
 mod calls;
 mod due;
 mod opening;
 mod planes;
 mod playing;
 mod solos;
+mod told;
 mod users;
 mod world;

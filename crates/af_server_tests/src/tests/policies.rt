@@ -69,7 +69,7 @@ const SHOWN: [Step; 7] = [
 
 #[test]
 fn roles_and_users_are_shown(rt: HostRuntime) {
-    let fault = fault_in(rt.alloc(), BASE, Story::Steps(&SHOWN));
+    let fault = fault_in(&rt, rt.alloc(), BASE, Story::Steps(&SHOWN));
     all_go(&rt, fault, "the answers, one after another, in pieces of");
 }
 
@@ -159,6 +159,6 @@ const CHANGED: [Step; 10] = [
 
 #[test]
 fn roles_and_users_change(rt: HostRuntime) {
-    let fault = fault_in(rt.alloc(), BASE, Story::Steps(&CHANGED));
+    let fault = fault_in(&rt, rt.alloc(), BASE, Story::Steps(&CHANGED));
     all_go(&rt, fault, "the answers, one after another, in pieces of");
 }

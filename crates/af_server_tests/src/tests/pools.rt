@@ -145,6 +145,6 @@ const POOLS: [Row; 17] = [
 
 #[test]
 fn what_is_told_of_pools(rt: HostRuntime) {
-    let fault = fault_in(rt.alloc(), BASE, Story::Rows(&POOLS));
+    let fault = fault_in(&rt, rt.alloc(), BASE, Story::Rows(&POOLS));
     all_go(&rt, fault, "the answers, one after another, in pieces of");
 }

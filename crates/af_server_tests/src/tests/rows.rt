@@ -3,6 +3,7 @@ use super::asserts::Fault;
 use super::is_told;
 use af_http::Ended;
 use std::alloc::{AllocError, Global};
+use std::sync::Wait;
 
 /// A request, and what is told of it.
 pub type Exchange = (&'static str, &'static str);
@@ -157,6 +158,7 @@ fn add_story(input: &mut String, told: &mut String, story: Story) -> Result<(), 
 
 /// The first of these sizes of pieces in which this is not what is told of an input under a configuration.
 fn first_size(
+    rt: &impl Wait,
     alloc: Global,
     config: &str,
     input: &str,
@@ -164,7 +166,15 @@ fn first_size(
     sizes: &[usize],
 ) -> Option<usize> {
     for size in sizes {
-        if !is_told(alloc, config, input.as_bytes(), *size, told, Ended::Closed) {
+        if !is_told(
+            rt,
+            alloc,
+            config,
+            input.as_bytes(),
+            *size,
+            told,
+            Ended::Closed,
+        ) {
             return Some(*size);
         }
     }
@@ -172,11 +182,17 @@ fn first_size(
 }
 
 /// The first of these sizes of pieces in which a story does not go as it should, in one connection under a configuration.
-pub fn fault_in_pieces(alloc: Global, config: &str, story: Story, sizes: &[usize]) -> Fault {
+pub fn fault_in_pieces(
+    rt: &impl Wait,
+    alloc: Global,
+    config: &str,
+    story: Story,
+    sizes: &[usize],
+) -> Fault {
     let mut input = String::new(alloc);
     let mut told = String::new(alloc);
     let fault = match add_story(&mut input, &mut told, story) {
-        Ok(()) => Ok(first_size(alloc, config, input.as_str(), told.as_str(), sizes)),
+        Ok(()) => Ok(first_size(rt, alloc, config, input.as_str(), told.as_str(), sizes)),
         Err(error) => Err(error),
     };
     drop(input);
@@ -185,14 +201,20 @@ pub fn fault_in_pieces(alloc: Global, config: &str, story: Story, sizes: &[usize
 }
 
 /// The same, in pieces of 4,096 bytes.
-pub fn fault_in(alloc: Global, config: &str, story: Story) -> Fault {
-    fault_in_pieces(alloc, config, story, &[4_096])
+pub fn fault_in(rt: &impl Wait, alloc: Global, config: &str, story: Story) -> Fault {
+    fault_in_pieces(rt, alloc, config, story, &[4_096])
 }
 
 /// Whether this is told where it is asked alone, in a connection of its own.
-fn is_told_alone(alloc: Global, parts: &[&str], told: &str) -> Result<bool, AllocError> {
+fn is_told_alone(
+    rt: &impl Wait,
+    alloc: Global,
+    parts: &[&str],
+    told: &str,
+) -> Result<bool, AllocError> {
     let input = parts.concat(alloc)?;
     let is_told = is_told(
+        rt,
         alloc,
         super::BASE,
         input.as_bytes(),
@@ -207,13 +229,14 @@ fn is_told_alone(alloc: Global, parts: &[&str], told: &str) -> Result<bool, Allo
 /// The number of the first of these exchanges, each in a connection of its own, that does not go as it should; what is asked stands
 /// between these two.
 pub fn fault_alone(
+    rt: &impl Wait,
     alloc: Global,
     before: &'static str,
     exchanges: &[Exchange],
     after: &'static str,
 ) -> Fault {
     for (number, (asked, told)) in exchanges.iter().enumerate() {
-        if !is_told_alone(alloc, &[before, *asked, after], *told)? {
+        if !is_told_alone(rt, alloc, &[before, *asked, after], *told)? {
             return Ok(Some(number));
         }
     }

@@ -260,6 +260,6 @@ const VARIABLES: [Row; 17] = [
 
 #[test]
 fn what_is_told_of_variables(rt: HostRuntime) {
-    let fault = fault_in(rt.alloc(), BASE, Story::Rows(&VARIABLES));
+    let fault = fault_in(&rt, rt.alloc(), BASE, Story::Rows(&VARIABLES));
     all_go(&rt, fault, "the answers, one after another, in pieces of");
 }

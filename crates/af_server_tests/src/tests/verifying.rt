@@ -3,6 +3,7 @@ use super::asserts::{all_go, first_fault};
 use super::calls::{Asked, asks};
 use super::consoles::{Act, does};
 use std::alloc::{AllocError, Global};
+use std::sync::Wait;
 
 /// The sample configuration's world of one session: who may read no DAG looks, and asks for them.
 const DENIED: &str =
@@ -38,7 +39,7 @@ fn the_words_that_ask_for_a_check(rt: HostRuntime) {
 }
 
 /// Whether a trace is told of as it should.
-fn is_told(alloc: Global, told: &Told) -> Result<bool, AllocError> {
+fn is_told(rt: &impl Wait, alloc: Global, told: &Told) -> Result<bool, AllocError> {
     let (config, steps, status, printed, refused) = *told;
     let trace = [
         "{\"config\":",
@@ -49,12 +50,20 @@ fn is_told(alloc: Global, told: &Told) -> Result<bool, AllocError> {
     ]
     .concat(alloc)?;
     let wanted = (status, Some(printed), refused);
-    let is_told = does(alloc, Act::Verify(trace.as_str()), "", wanted);
+    let is_told = does(rt, alloc, Act::Verify(trace.as_str()), "", wanted);
     drop(trace);
     Ok(is_told)
 }
 
 #[test]
 fn what_is_told_of_traces(rt: HostRuntime) {
-    all_go(&rt, first_fault(rt.alloc(), &TOLD, is_told), "row");
+    all_go(
+        &rt,
+        first_fault(
+            rt.alloc(),
+            &TOLD,
+            |alloc, told: &Told| is_told(&rt, alloc, told),
+        ),
+        "row",
+    );
 }

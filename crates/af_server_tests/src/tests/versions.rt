@@ -75,7 +75,7 @@ const SYNCED: [Step; 8] = [
 
 #[test]
 fn a_dag_is_synced(rt: HostRuntime) {
-    let fault = fault_in(rt.alloc(), BASE, Story::Steps(&SYNCED));
+    let fault = fault_in(&rt, rt.alloc(), BASE, Story::Steps(&SYNCED));
     all_go(&rt, fault, "the answers, one after another, in pieces of");
 }
 
@@ -142,7 +142,7 @@ const TAKEN: [Step; 7] = [
 
 #[test]
 fn what_is_taken_is_denied_next(rt: HostRuntime) {
-    let fault = fault_in(rt.alloc(), BASE, Story::Steps(&TAKEN));
+    let fault = fault_in(&rt, rt.alloc(), BASE, Story::Steps(&TAKEN));
     all_go(&rt, fault, "the answers, one after another, in pieces of");
 }
 
@@ -199,6 +199,6 @@ const LIMITED: [Step; 5] = [
 
 #[test]
 fn versions_end(rt: HostRuntime) {
-    let fault = fault_in(rt.alloc(), TWO, Story::Steps(&LIMITED));
+    let fault = fault_in(&rt, rt.alloc(), TWO, Story::Steps(&LIMITED));
     all_go(&rt, fault, "the answers, one after another, in pieces of");
 }

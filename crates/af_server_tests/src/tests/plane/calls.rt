@@ -1,10 +1,10 @@
 //! What is read of the requests of the rows.
-use af_ops::{Call, Endpoint, PolicyOp, read_row};
+use af_ops::{Call, Endpoint, Method, PolicyOp, read_row, route_of};
 use json::Scratch;
 use std::alloc::Global;
 use std::test::Fail;
 
-/// Who asks for what, with which parts of the path and which body.
+/// Who asks for what, with which parts of the path and which body; of what is only read, with which query.
 pub type Asked = (
     &'static str,
     Endpoint,
@@ -29,17 +29,21 @@ fn read(
     alloc: Global,
     endpoint: Endpoint,
     parts: &[String],
-    body: &[u8],
+    text: &[u8],
 ) -> Result<Option<Call>, Fail> {
     let mut scratch = Scratch::new(alloc);
-    Ok(read_row(alloc, endpoint, parts, b"", body, &mut scratch)?)
+    let (query, body): (&[u8], &[u8]) = match route_of(endpoint).method {
+        Method::Get => (text, b""),
+        _ => (b"", text),
+    };
+    Ok(read_row(alloc, endpoint, parts, query, body, &mut scratch)?)
 }
 
 /// What is asked for; nothing where a part is no name.
 fn read_asked(alloc: Global, asked: Asked) -> Result<Option<Call>, Fail> {
-    let (_, endpoint, texts, body) = asked;
+    let (_, endpoint, texts, text) = asked;
     let parts = parts_of(alloc, texts)?;
-    read(alloc, endpoint, parts.as_slice(), body.as_bytes())
+    read(alloc, endpoint, parts.as_slice(), text.as_bytes())
 }
 
 /// What is asked for.

@@ -1,7 +1,7 @@
 //! Runs of a DAG that is due each month: with catchup for all points that have passed, without it for the last alone.
 use crate::tests::plane::asserts::{holds, story_holds};
 use crate::tests::plane::opening::{Due, MONTHLY};
-use crate::tests::plane::playing::{Player, Row, Step, make_player, played};
+use crate::tests::plane::playing::{By, Player, Row, Step, make_player, played};
 use af_graph::{Points, TaskState};
 use af_names::{Instant, Preset};
 use af_runs::{Run, RunState};
@@ -85,7 +85,7 @@ fn made_by(
 
 /// What that is of a player that is due so.
 fn made(alloc: Global, due: Due, rows: &[Row], made: Made) -> Result<(usize, bool), Fail> {
-    let mut player = make_player(alloc, 1_000_000, due)?;
+    let mut player = make_player(alloc, By::Turn, 1_000_000, due)?;
     let told = made_by(alloc, &mut player, rows, made);
     drop(player);
     told

@@ -2,11 +2,12 @@
 use crate::tests::plane::asserts::story_holds;
 use crate::tests::plane::calls::Asked;
 use crate::tests::plane::opening::MONTHLY;
-use crate::tests::plane::playing::{Row, Step, make_player, played};
+use crate::tests::plane::playing::{By, Row, Step, make_player, played};
 use af_audit::{AuditFault, ReportRefusal};
 use af_ops::{Endpoint, Status};
 use af_sched::{Outcome, ReportFault};
 use std::alloc::Global;
+use std::process::Abort;
 use std::test::Fail;
 
 const JANUARY: &str = "2024-01-01T00:00:00Z";
@@ -166,19 +167,29 @@ const STORIES: &[Story] = &[
     },
 ];
 
-/// How many rows of a story go as they should.
-fn told_of(alloc: Global, story: &Story) -> Result<usize, Fail> {
-    let mut player = make_player(alloc, story.limit, MONTHLY)?;
+/// How many rows of a story go as they should, where what is asked is decided so.
+fn told_of(alloc: Global, by: By, story: &Story) -> Result<usize, Fail> {
+    let mut player = make_player(alloc, by, story.limit, MONTHLY)?;
     let told = played(alloc, &mut player, story.rows);
     drop(player);
     told
 }
 
-#[test]
-fn a_plane_goes_as_its_stories_say(rt: HostRuntime) -> Result<(), Fail> {
+/// Ends the test at the first story that does not go as it says, where what is asked is decided so.
+fn stories_go(rt: &impl Abort, alloc: Global, by: By) -> Result<(), Fail> {
     for story in STORIES {
-        let told = told_of(rt.alloc(), story)?;
-        story_holds(&rt, told, story.rows.len(), story.name);
+        let told = told_of(alloc, by, story)?;
+        story_holds(rt, told, story.rows.len(), story.name);
     }
     Ok(())
+}
+
+#[test]
+fn a_plane_that_looks_goes_as_its_stories_say(rt: HostRuntime) -> Result<(), Fail> {
+    stories_go(&rt, rt.alloc(), By::Apply)
+}
+
+#[test]
+fn a_plane_in_turns_goes_as_its_stories_say(rt: HostRuntime) -> Result<(), Fail> {
+    stories_go(&rt, rt.alloc(), By::Turn)
 }

@@ -1,21 +1,23 @@
-//! A plane beside the versions of a policy, and rows of what is done there. Who owns a player, a call or what is told lends it, and
-//! hands it to `drop`, which is proved once, and not at each way out.
+//! A plane beside a board of versions of a policy and a session, and rows of what is done there. Who owns a player, a call or what is told
+//! lends it, and hands it to `drop`, which is proved once, and not at each way out.
 use crate::tests::plane::calls::{Asked, call};
 use crate::tests::plane::opening::{Dags, Due, opened};
+use crate::tests::plane::told::is_text;
 use crate::tests::plane::users::OF_PLANES;
 use af_audit::{AuditFault, ReportRefusal};
+use af_board::{Board, NotFound};
 use af_names::Instant;
-use af_ops::{Call, Served, Shown, Status};
-use af_plane::Plane;
-use af_policy::Versions;
+use af_ops::{Served, Status};
+use af_plane::{Plane, Request, Session};
 use af_sched::{Claim, Outcome};
 use std::alloc::Global;
+use std::marker::Model;
 use std::test::Fail;
 
 /// What is done, and what is told of it.
 #[derive(Clone, Copy)]
 pub enum Step {
-    /// A user looks and asks: the status and the body.
+    /// A user asks: the status and the body.
     Ask(Asked, Status, &'static str),
     /// Whether a tick changes the state.
     Tick(Result<bool, AuditFault>),
@@ -28,20 +30,47 @@ pub enum Step {
 /// A step, its moment, and how many entries there then are.
 pub type Row = (Step, &'static str, u32);
 
-/// A plane with the versions that it looks at, and the claims so far.
+/// How what is asked is decided.
+#[derive(Clone, Copy)]
+pub enum By {
+    /// The plane looks, and applies what is asked.
+    Apply,
+    /// The session takes a turn on the plane.
+    Turn,
+}
+
+/// A plane with the board that it looks at and a session over it, how it decides what is asked, and the claims so far.
 #[derive(Drop)]
 pub struct Player {
     pub plane: Plane,
-    versions: Versions,
+    board: Board,
+    session: Session,
+    by: By,
     claims: Vec<Claim>,
 }
 
-/// A plane with room for so many entries, and one DAG that is due so.
-pub fn make_player(alloc: Global, limit: u32, due: Due) -> Result<Player, Fail> {
+impl Model for Player {
+    ghost use Rattle.std.specs.Prelude.{◌≡◌};
+    ghost use Rattle.af_plane.specs.Looks.{IsOn};
+    ghost use Rattle.af_plane.specs.Visits.{SoloRows};
+
+    ghost Value = { SoloRows };
+
+    ghost view = { λ player. record { site = player.board; plane = player.plane; session = player.session } };
+
+    ghost invariant = { λ player. (player.plane.pass.word ≡ player.board.word) × IsOn player.board player.session };
+}
+
+/// A plane that decides so, with room for so many entries, and one DAG that is due so.
+pub fn make_player(alloc: Global, by: By, limit: u32, due: Due) -> Result<Player, Fail> {
     let (policy, state) = opened(alloc, OF_PLANES, Dags::AndDue(due))?;
+    let (board, mut pass) = Board::open(alloc, policy, 9)?;
+    let session = Session::open(board.split(&mut pass), board.opening());
     Ok(Player {
-        plane: Plane::open(alloc, state, limit),
-        versions: Versions::open(alloc, policy, 9),
+        plane: Plane::open(alloc, state, limit, pass),
+        board,
+        session,
+        by,
         claims: Vec::new(alloc),
     })
 }
@@ -56,26 +85,31 @@ pub fn token(who: &str) -> Option<&[u8]> {
 }
 
 /// What a look and an apply give.
-fn served(
+fn applied(
     alloc: Global,
-    plane: &mut Plane,
-    versions: &Versions,
-    who: &str,
-    call: &Call,
-    at: Instant,
-) -> Option<Served> {
-    if plane.ledger().version() > versions.current() {
-        return None;
-    }
-    let version = plane.look(versions);
-    plane.apply(alloc, versions, version, token(who), call, at)
+    player: &mut Player,
+    request: &Request<'_>,
+) -> Result<Option<Served>, NotFound> {
+    let mark = player.plane.look(&player.board)?;
+    Ok(player.plane.apply(alloc, &player.board, &mark, request))
 }
 
-/// Whether what is told has this body.
-pub fn is_text(shown: &Shown, text: &str) -> bool {
-    match &shown.body {
-        Some(body) => body.as_bytes() == text.as_bytes(),
-        None => false,
+/// What a turn of the session gives.
+fn turned(alloc: Global, player: &mut Player, request: &Request<'_>) -> Option<Served> {
+    player
+        .plane
+        .turn(alloc, &player.board, &mut player.session, request)
+}
+
+/// What is given for a request.
+fn served(
+    alloc: Global,
+    player: &mut Player,
+    request: &Request<'_>,
+) -> Result<Option<Served>, Fail> {
+    match player.by {
+        By::Apply => Ok(applied(alloc, player, request)?),
+        By::Turn => Ok(turned(alloc, player, request)),
     }
 }
 
@@ -106,16 +140,14 @@ fn given(
     at: Instant,
 ) -> Result<Option<Served>, Fail> {
     let call = call(alloc, what)?;
-    let gave = served(
-        alloc,
-        &mut player.plane,
-        &player.versions,
-        what.0,
-        &call,
+    let request = Request {
+        token: token(what.0),
+        call: &call,
         at,
-    );
+    };
+    let gave = served(alloc, player, &request);
     drop(call);
-    Ok(gave)
+    gave
 }
 
 /// Whether what is asked for is told so, with the number of entries.

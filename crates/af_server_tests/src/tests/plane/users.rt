@@ -1,87 +1,132 @@
 //! Who asks.
 use af_names::{DagId, RoleName, UserName};
 use af_policy::{Policy, PolicyDraft, User};
-use af_role::{Action, Pair, Permissions, Resource, Role};
+use af_role::{Action, Pair, Permissions, Resource, ResourceKind, Role};
 use sha2::{Digest, Sha256};
 use std::alloc::Global;
 use std::test::Fail;
 
-/// A user's name, token and role.
-type Named = (&'static str, &'static str, &'static str);
+/// A user's name, token and roles.
+type Named = (&'static str, &'static str, &'static [&'static str]);
 
-/// Who there is, and whether there is the role OnlyB.
+/// A role's name, what it does to the DAG b, and whether it reads all runs.
+type OnB = (&'static str, Action, bool);
+
+/// Who there is, and the roles beside the default ones.
 #[derive(Clone, Copy)]
 pub struct Users {
     named: &'static [Named],
-    has_only_b: bool,
+    roles: &'static [OnB],
 }
 
 /// Who asks a plane, or the server for one thread: each user's name is the token.
 pub const OF_PLANES: Users = Users {
     named: &[
-        ("adam", "adam", "Admin"),
-        ("pat", "pat", "Public"),
-        ("uma", "uma", "User"),
-        ("vera", "vera", "Viewer"),
+        ("adam", "adam", &["Admin"]),
+        ("pat", "pat", &["Public"]),
+        ("uma", "uma", &["User"]),
+        ("vera", "vera", &["Viewer"]),
     ],
-    has_only_b: false,
+    roles: &[],
 };
 
 /// Who asks in a world.
 pub const OF_WORLDS: Users = Users {
     named: &[
-        ("adam", "admin", "Admin"),
-        ("zoe", "password", "Admin"),
-        ("vera", "test", "Viewer"),
-        ("bob", "foo", "OnlyB"),
-        ("pat", "bar", "Public"),
-        ("uma", "abc", "User"),
+        ("adam", "admin", &["Admin"]),
+        ("zoe", "password", &["Admin"]),
+        ("vera", "test", &["Viewer"]),
+        ("bob", "foo", &["OnlyB"]),
+        ("pat", "bar", &["Public"]),
+        ("uma", "abc", &["User"]),
     ],
-    has_only_b: true,
+    roles: &[("OnlyB", Action::Read, false)],
 };
 
-/// The permission to read the DAG b.
-fn reading_b(alloc: Global) -> Result<Pair, Fail> {
-    let b = DagId::parse(alloc, "b")?;
-    match Pair::new(Action::Read, Resource::Dag(b)) {
-        Some(pair) => Ok(pair),
-        None => Err(Fail::new("no DAG to read")),
+/// Who asks under the sample configuration.
+pub const OF_SAMPLE: Users = Users {
+    named: &[
+        ("adam", "admin", &["Admin"]),
+        ("zoe", "password", &["Admin"]),
+        ("vera", "test", &["Viewer"]),
+        ("bob", "foo", &["OnlyB"]),
+        ("pat", "bar", &["Public"]),
+        ("edna", "hello", &["Viewer", "EditB"]),
+        ("uma", "abc", &["User"]),
+        ("ron", "secret", &["RunsB"]),
+    ],
+    roles: &[
+        ("OnlyB", Action::Read, false),
+        ("EditB", Action::Edit, false),
+        ("RunsB", Action::Read, true),
+    ],
+};
+
+fn add_pair(permissions: &mut Permissions, pair: Option<Pair>) -> Result<(), Fail> {
+    match pair {
+        Some(pair) => Ok(permissions.add(pair)?),
+        None => Err(Fail::new("no permission")),
     }
 }
 
-fn add_reading_b(alloc: Global, permissions: &mut Permissions) -> Result<(), Fail> {
-    let pair = reading_b(alloc)?;
-    Ok(permissions.add(pair)?)
+/// Adds the permission to do this to the DAG b.
+fn add_on_b(alloc: Global, permissions: &mut Permissions, action: Action) -> Result<(), Fail> {
+    let b = DagId::parse(alloc, "b")?;
+    add_pair(permissions, Pair::new(action, Resource::Dag(b)))
 }
 
-fn permissions(alloc: Global) -> Result<Permissions, Fail> {
+/// Adds the permission to read all runs.
+fn add_runs(permissions: &mut Permissions) -> Result<(), Fail> {
+    let runs = Resource::Kind(ResourceKind::DagRuns);
+    add_pair(permissions, Pair::new(Action::Read, runs))
+}
+
+fn permissions(alloc: Global, action: Action, reads_runs: bool) -> Result<Permissions, Fail> {
     let mut permissions = Permissions::new(alloc);
-    add_reading_b(alloc, &mut permissions)?;
+    add_on_b(alloc, &mut permissions, action)?;
+    if reads_runs {
+        add_runs(&mut permissions)?;
+    }
     Ok(permissions)
 }
 
-/// The role OnlyB, which reads the DAG b.
-fn only_b(alloc: Global) -> Result<Role, Fail> {
-    let name = RoleName::parse(alloc, "OnlyB")?;
-    Ok(Role::new(name, permissions(alloc)?))
+fn role(alloc: Global, on_b: OnB) -> Result<Role, Fail> {
+    let (name, action, reads_runs) = on_b;
+    let name = RoleName::parse(alloc, name)?;
+    Ok(Role::new(name, permissions(alloc, action, reads_runs)?))
 }
 
-fn add_only_b(alloc: Global, draft: &mut PolicyDraft) -> Result<(), Fail> {
-    let role = only_b(alloc)?;
+fn add_role(alloc: Global, draft: &mut PolicyDraft, on_b: OnB) -> Result<(), Fail> {
+    let role = role(alloc, on_b)?;
     Ok(draft.add_role(role)?)
 }
 
-/// The name of a role, alone in a list.
-fn names_of(alloc: Global, role: &str) -> Result<Vec<RoleName>, Fail> {
-    let role = RoleName::parse(alloc, role)?;
-    Ok(vec![in alloc; role]?)
+fn add_roles(alloc: Global, draft: &mut PolicyDraft, roles: &[OnB]) -> Result<(), Fail> {
+    for on_b in roles {
+        add_role(alloc, draft, *on_b)?;
+    }
+    Ok(())
+}
+
+fn add_name(alloc: Global, names: &mut Vec<RoleName>, role: &str) -> Result<(), Fail> {
+    let name = RoleName::parse(alloc, role)?;
+    Ok(names.push(name)?)
+}
+
+/// The names of roles.
+fn names_of(alloc: Global, roles: &[&str]) -> Result<Vec<RoleName>, Fail> {
+    let mut names = Vec::new(alloc);
+    for role in roles {
+        add_name(alloc, &mut names, role)?;
+    }
+    Ok(names)
 }
 
 fn user(alloc: Global, named: Named) -> Result<User, Fail> {
-    let (name, token, role) = named;
+    let (name, token, roles) = named;
     let digest = Sha256::digest(token.as_bytes());
     let name = UserName::parse(alloc, name)?;
-    Ok(User::new(name, digest, names_of(alloc, role)?))
+    Ok(User::new(name, digest, names_of(alloc, roles)?))
 }
 
 fn add_user(alloc: Global, draft: &mut PolicyDraft, named: Named) -> Result<(), Fail> {
@@ -97,9 +142,7 @@ fn add_users(alloc: Global, draft: &mut PolicyDraft, users: &[Named]) -> Result<
 }
 
 fn fill(alloc: Global, draft: &mut PolicyDraft, users: Users) -> Result<(), Fail> {
-    if users.has_only_b {
-        add_only_b(alloc, draft)?;
-    }
+    add_roles(alloc, draft, users.roles)?;
     add_users(alloc, draft, users.named)
 }
 

@@ -1,0 +1,91 @@
+//! A publish between a look and its act.
+ghost use Rattle.std.specs.Prelude.{◌≡◌};
+ghost use Rattle.af_board.specs.Marks.{IsOf};
+ghost use Rattle.af_plane.specs.Looks.{IsOn};
+
+use crate::tests::plane::boards::{administered, row_holds};
+use crate::tests::plane::calls::{Asked, call};
+use crate::tests::plane::opening::{Dags, opened};
+use crate::tests::plane::playing::token;
+use crate::tests::plane::solos::rows::{DAGS, DEMOTE, NO_DAGS, OF_PUBLIC};
+use crate::tests::plane::told::Row;
+use crate::tests::plane::users::OF_PLANES;
+use af_board::{Board, Mark};
+use af_names::Instant;
+use af_ops::{Endpoint, Served, Status};
+use af_plane::{Plane, Request, Session};
+use std::alloc::Global;
+use std::process::Abort;
+use std::sync::Wait;
+use std::test::*;
+
+/// What the plane gives for this under a version that it has looked at, in January.
+fn applied(
+    alloc: Global,
+    board: &Board,
+    plane: &mut Plane,
+    mark: &Mark,
+    asked: Asked,
+) -> Result<Served, Fail>
+    requires mark { IsOf board.now mark.now }
+    requires looked { mark.now.version ≡ plane.old.ledger.version }
+    ensures { plane.new.pass ≡ plane.old.pass }
+{
+    let call = call(alloc, asked)?;
+    let request = Request {
+        token: token(asked.0),
+        call: &call,
+        at: Instant::read("2024-01-01T00:00:00Z")?,
+    };
+    let gave = plane.apply(alloc, board, mark, &request);
+    drop(call);
+    match gave {
+        Some(gave) => Ok(gave),
+        None => Err(Fail::new("a call on the policy")),
+    }
+}
+
+const CHANGE: Row = (DEMOTE, Status::Ok, (Some(1), None), OF_PUBLIC);
+
+const LIST: Asked = ("vera", Endpoint::ListDags, &[], "");
+
+/// vera may read all DAGs under the version that was looked at.
+const BEFORE: Row = (LIST, Status::Ok, (Some(0), Some(0)), DAGS);
+
+/// And none under the next.
+const AFTER: Row = (LIST, Status::Forbidden, (Some(1), Some(0)), NO_DAGS);
+
+/// A publish between a look and its act.
+fn publishes_between(
+    rt: &(impl Abort + Wait),
+    alloc: Global,
+    board: &Board,
+    plane: &mut Plane,
+    session: &mut Session,
+) -> Result<(), Fail>
+    requires plane { plane.old.pass.word ≡ board.now.word }
+    requires session { IsOn board.now session.old }
+{
+    let mark = plane.look(board)?;
+    let gave = administered(rt, alloc, board, session, DEMOTE)?;
+    row_holds(rt, gave, CHANGE, "vera is demoted")?;
+    let gave = applied(alloc, board, plane, &mark, LIST)?;
+    row_holds(rt, gave, BEFORE, "an act after the look before")?;
+    let mark = plane.look(board)?;
+    let gave = applied(alloc, board, plane, &mark, LIST)?;
+    row_holds(rt, gave, AFTER, "an act after the look since")
+}
+
+#[test]
+fn an_act_is_decided_under_the_version_of_its_look(rt: HostRuntime) -> Result<(), Fail> {
+    let alloc = rt.alloc();
+    let (policy, state) = opened(alloc, OF_PLANES, Dags::OnlyB)?;
+    let (board, mut pass) = Board::open(alloc, policy, 9)?;
+    let mut session = Session::open(board.split(&mut pass), board.opening());
+    let mut plane = Plane::open(alloc, state, 9, pass);
+    let held = publishes_between(&rt, alloc, &board, &mut plane, &mut session);
+    drop(plane);
+    drop(session);
+    drop(board);
+    held
+}
