@@ -272,7 +272,7 @@ class Build(Case):
         self.with_rt()
         before = self.steps(self.call("build")[2])[0][3]
         path = self.top / "crates.txt"
-        path.write_text(path.read_text().replace("afplane:", "af_new:\nafplane: af_new"))
+        path.write_text(re.sub(r"(?m)^(afplane[^:\n]*:)", r"af_new:\n\1 af_new", path.read_text()))
         (self.top / "crates/af_new/src").mkdir(parents=True)
         (number, of, crate, to_go) = self.steps(self.call("build")[2])[0]
         self.assertEqual((number, of), (1, len(self.crates()) + 1))
