@@ -8,3 +8,4 @@ pub mod AskedLemmas
 pub mod SessionLemmas
 pub mod EventLemmas
 pub mod NameLemmas
+mod CallLemmas

@@ -133,15 +133,16 @@ module _ (site : Site) (was now : Visit) (word : now.pass.word ≡ site.word) wh
   refused_on token asked error (Err why) on longer refused missed = still_on on longer missed.0
 
   -- a refusal rests on what the session holds then
-  pub refused_given : (token : Option (List ℕ)) (asked : Ask) (error : SubmitFault) (gave : Result Served NotFound) → IsPrefix was.pass.places now.pass.places → now.pass.deeds ≡ was.pass.deeds → IfSome (mark_of error) (λ m. HasSame site was.grounds m) → IfOk gave (λ it. IsRefused site token asked it now error) → IfOk gave (λ it. IsGivenOn site token (asks.Change asked) was it now now.grounds)
-  refused_given token asked error (Ok it) longer quiet same refused = record {
+  pub refused_given : (token : Option (List ℕ)) (asked : Ask) (error : SubmitFault) (gave : Result Served NotFound) → IsPrefix was.pass.places now.pass.places → now.pass.deeds ≡ was.pass.deeds → was.pass.steps < now.pass.steps → IfSome (mark_of error) (λ m. HasSame site was.grounds m) → IfOk gave (λ it. IsRefused site token asked it now error) → IfOk gave (λ it. IsGivenOn site token (asks.Change asked) was it now now.grounds)
+  refused_given token asked error (Ok it) longer quiet looked same refused = record {
     held = refl;
     since = no_earlier was.pass.places now.pass.places (base_of now.grounds).version longer (subst (λ (m : Marked). length now.pass.places ≡ m.version + 1) refused.base refused.last.1.last);
     same = subst (λ (o : Option Marked). IfSome o (λ m. HasSame site was.grounds m)) refused.mark same;
     deeds = omega (arith, quiet, refused.none_made);
+    looked = looked;
     given = refused.given;
   }
-  refused_given token asked error (Err why) longer quiet same refused = tt
+  refused_given token asked error (Err why) longer quiet looked same refused = tt
 
 -- the mark of an error is of the board, and seen
 pub explained_mark : (site : Site) (token : Option (List ℕ)) (asked : Ask) (pass : Sight) (error : SubmitFault) → Explains site token asked pass error → IfSome (mark_of error) (λ m. IsOf site m × HasSeen pass m)

@@ -91,10 +91,12 @@ pub record IsGivenOn (site : Site) (token : Option (List ℕ)) (asked : PolicyOp
   pub same : HasSame site was.grounds (base_of grounds)
   -- the version that it says, if any, is all that was published
   pub deeds : now.pass.deeds ≡ was.pass.deeds + versions_made grounds
+  -- the session has looked
+  pub looked : was.pass.steps < now.pass.steps
   pub given : IsGiven site token asked gave now grounds
 
 -- what it comes to, by what that rests on
 abbrev pub IsAdministered : Site → Option (List ℕ) → PolicyOp → Visit → Served → Visit → Basis → Type 0
 IsAdministered site token asked was gave now Openly = ⊥
-IsAdministered site token asked was gave now Missed = IsMissed was gave now × (now.pass.deeds ≡ was.pass.deeds)
+IsAdministered site token asked was gave now Missed = IsMissed was gave now × (now.pass.deeds ≡ was.pass.deeds) × (was.pass.steps < now.pass.steps)
 IsAdministered site token asked was gave now (On grounds) = IsGivenOn site token asked was gave now grounds

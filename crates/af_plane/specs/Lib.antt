@@ -1,10 +1,12 @@
 pub mod Requests
 pub mod Visits
+pub mod Growth
 pub mod Looks
 pub mod Planes
 pub mod Blind
 pub mod Turns
 pub mod Administered
+pub mod Names
 pub mod Solos
 pub mod Alone
 pub mod Events

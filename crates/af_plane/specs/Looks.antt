@@ -1,12 +1,14 @@
 -- Looks of the plane and of a session: what is decided then is decided under the version that was found (this product's own rule).
-use Rattle.std.specs.Prelude.{◌≡◌, ◌<◌, ℕ, length}
+use Rattle.std.specs.Prelude.{◌≡◌, ◌+◌, ◌<◌, ℕ, length}
+use mathlib.Core.List.{IsPrefix}
+use Rattle.atomic_table.specs.Seated.{TableId}
 use Rattle.af_ops.specs.declared.served.Served.{Served}
 use Rattle.af_ops.specs.PolicyUnder.{IsNoPolicyTold}
 use Rattle.af_audit.specs.Ledgers.{LedgerRows}
 use Rattle.af_board.specs.Marks.{HasSeen, IsOf, Marked, Site, policy_of}
 use Rattle.af_plane.specs.declared.grounds.Grounds.{Grounds}
 use Rattle.af_plane.specs.declared.grounds.Grounds.TheVariants.{Made, Overtaken, Spent, Under}
-use Rattle.af_plane.specs.Visits.{Visit}
+use Rattle.af_plane.specs.Visits.{PlaneRows, Visit}
 
 -- the ledger, whose acts are decided under this version from now on
 abbrev pub looked : ℕ → LedgerRows → LedgerRows
@@ -39,6 +41,23 @@ pub record IsOn (site : Site) (visit : Visit) : Type 0 where
   pub word : visit.pass.word ≡ site.word
   pub mark : IsOf site (held visit.grounds)
   pub seen : HasSeen visit.pass (held visit.grounds)
+
+-- a plane and a session are over one board and one keeper
+pub record AreOver (site : Site) (id : TableId) (plane : PlaneRows) (visit : Visit) : Type 0 where
+  pub word : plane.pass.word ≡ site.word
+  pub keeper : plane.keeper.keeper ≡ id
+  pub on : IsOn site visit
+  pub witness : visit.entries.keeper ≡ id
+
+-- a session has met a plane: it has seen what the plane has, of the board and of the entries, which begin with those that it had seen
+pub record HasMet (old : PlaneRows) (was : Visit) (new : PlaneRows) (now : Visit) : Type 0 where
+  pub places : now.pass.places ≡ new.pass.places
+  pub begins : IsPrefix was.entries.entries old.keeper.entries
+  pub entries : now.entries ≡ new.keeper
+  -- by a meeting and a look, and two splits, and nothing else: no version was published
+  pub steps : new.pass.steps ≡ old.pass.steps + 2
+  pub deeds : new.pass.deeds ≡ old.pass.deeds + was.pass.deeds + 2
+  pub given : now.pass.deeds ≡ new.pass.deeds
 
 -- where a version is the last one of which a session held the mark, both marks have one policy
 abbrev pub HasSame : Site → Grounds → Marked → Type 0

@@ -17,7 +17,7 @@ use Rattle.af_word.specs.Places.{Sight, WordId, Within}
 use Rattle.af_world.specs.Worlds.{OpeningRows}
 use Rattle.af_plane.specs.declared.grounds.Grounds.TheVariants.{Under}
 use Rattle.af_plane.specs.Administered.{IsAdministered}
-use Rattle.af_plane.specs.Looks.{Basis, IsOn}
+use Rattle.af_plane.specs.Looks.{AreOver, Basis}
 use Rattle.af_plane.specs.Requests.{RequestRows}
 use Rattle.af_plane.specs.Turns.{IsPlaced}
 use Rattle.af_plane.specs.Visits.{SoloRows, Visit}
@@ -46,8 +46,9 @@ first_sight word = record { word = word; places = 0 ∷ []; steps = 0; deeds = 1
 pub record IsOpening (opening : OpeningRows) (solo : SoloRows) : Type 0 where
   pub policy : solo.site.opening ≡ opening.policy
   pub last : solo.site.word.last ≡ opening.version_limit
-  pub plane : solo.plane ≡ record { pass = first_sight solo.site.word; ledger = ledgers.opened opening.state opening.history_limit }
-  pub session : solo.session ≡ record { pass = first_sight solo.site.word; grounds = Under first_mark }
+  pub none : solo.plane.keeper.entries ≡ []
+  pub plane : solo.plane ≡ record { pass = first_sight solo.site.word; keeper = solo.plane.keeper; ledger = ledgers.opened opening.state opening.history_limit }
+  pub session : solo.session ≡ record { pass = first_sight solo.site.word; entries = solo.plane.keeper; grounds = Under first_mark }
 
 -- ---- a call
 
@@ -91,7 +92,8 @@ pub record IsSolo (solo : SoloRows) : Type 0 where
   -- the ledger's version, so that of each entry too, is one that the plane has seen
   pub under : solo.plane.ledger.version < length solo.plane.pass.places
   -- the plane's pass is of the board's word, and the session is on the board
-  pub plane : solo.plane.pass.word ≡ solo.site.word
-  pub session : IsOn solo.site solo.session
+  pub over : AreOver solo.site solo.plane.keeper.keeper solo.plane solo.session
+  -- whose keeper has the entries
+  pub entries : solo.plane.keeper.entries ≡ solo.plane.ledger.audit.entries
   -- and has seen no version past the last possible one
   pub within : Within solo.site.word.first solo.site.word.last solo.session.pass.places

@@ -15,7 +15,7 @@ use Rattle.af_audit.specs.Ledgers.{LedgerRows}
 use Rattle.af_board.specs.Marks.{IsLast, Marked, Site, policy_of}
 use Rattle.af_plane.specs.declared.grounds.Grounds.TheVariants.{Made, Overtaken, Spent, Under}
 use Rattle.af_plane.specs.Blind.{TellsWhatIsRead}
-use Rattle.af_plane.specs.Looks.{Basis, HasSame, IsMissed, Missed, On, Openly, looked}
+use Rattle.af_plane.specs.Looks.{Basis, HasMet, HasSame, IsMissed, Missed, On, Openly, looked}
 use Rattle.af_plane.specs.Planes.{Applies}
 use Rattle.af_plane.specs.Requests.{RequestRows}
 use Rattle.af_plane.specs.Visits.{PlaneRows, Visit}
@@ -36,7 +36,7 @@ IsOpenly asked t ledger gave =
 pub record IsActedUnder (site : Site) (asked : RequestRows) (old : PlaneRows) (was : Visit) (gave : Served) (new : PlaneRows) (now : Visit) (m : Marked) : Type 0 where
   pub held : now.grounds ≡ Under m
   pub last : IsLast site now.pass m
-  pub met : now.pass.places ≡ new.pass.places
+  pub met : HasMet old was new now
   pub same : HasSame site was.grounds m
   pub applied : Applies (policy_of site m) (looked m.version old.ledger) asked.token asked.call asked.at (Some gave) new.ledger
   -- what is read of DAGs, tasks, runs and instances shows nothing of a DAG that the token's owner may not read
@@ -45,7 +45,7 @@ pub record IsActedUnder (site : Site) (asked : RequestRows) (old : PlaneRows) (w
 -- nothing was decided, and the ledger stays
 pub record IsMissedTurn (old : PlaneRows) (was : Visit) (gave : Served) (new : PlaneRows) (now : Visit) : Type 0 where
   pub missed : IsMissed was gave now
-  pub met : now.pass.places ≡ new.pass.places
+  pub met : HasMet old was new now
   pub ledger : new.ledger ≡ old.ledger
 
 -- what the plane decides after a look, by what that rests on

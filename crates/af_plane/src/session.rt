@@ -6,7 +6,9 @@ ghost use Rattle.af_word.specs.Calls.{Looked};
 ghost use Rattle.af_word.specs.Places.{Within};
 
 use crate::grounds::Grounds;
+use af_audit::Entry;
 use af_board::{Board, Mark, NotFound};
+use af_tally::Witness;
 use af_word::Pass;
 use std::marker::Model;
 
@@ -17,6 +19,7 @@ mod changing;
 #[derive(Drop)]
 pub struct Session {
     pub(crate) pass: Pass,
+    pub(crate) witness: Witness<Entry>,
     pub(crate) grounds: Grounds,
 }
 
@@ -25,16 +28,17 @@ impl Model for Session {
 
     ghost Value = { Visit };
 
-    ghost view = { λ session. record { pass = session.pass; grounds = session.grounds } };
+    ghost view = { λ session. record { pass = session.pass; entries = session.witness; grounds = session.grounds } };
 }
 
 impl Session {
-    /// A session that has seen what this pass has, and holds this mark. There was no answer yet.
-    pub fn open(pass: Pass, mark: Mark) -> Session
-        ensures { result ≡ record { pass = pass; grounds = Under mark } }
+    /// A session that has seen what this pass and this witness have, and holds this mark. There was no answer yet.
+    pub fn open(pass: Pass, witness: Witness<Entry>, mark: Mark) -> Session
+        ensures { result ≡ record { pass = pass; entries = witness; grounds = Under mark } }
     {
         Session {
             pass,
+            witness,
             grounds: Grounds::Under(mark),
         }
     }
@@ -77,6 +81,7 @@ impl Session {
         requires { IsOn board.now self.old }
         ensures on { IsOn board.now self.new }
         ensures looked { Looked self.old.pass self.new.pass }
+        ensures entries { self.new.entries ≡ self.old.entries }
         ensures grounds { self.new.grounds ≡ self.old.grounds }
         ensures last { IfOk result (λ m. IsLast board.now self.new.pass m) }
         ensures same { IfOk result (λ m. HasSame board.now self.old.grounds m) }

@@ -11,6 +11,7 @@ use af_board::{Board, OutOfMemory};
 use af_ops::{Call, Served};
 use af_policy::Policy;
 use af_sched::State;
+use af_tally::Keeper;
 use std::alloc::Global;
 use std::marker::Model;
 use std::sync::Wait;
@@ -26,14 +27,14 @@ pub struct Solo {
 
 impl Model for Solo {
     ghost use Rattle.std.specs.Prelude.{◌≡◌};
-    ghost use Rattle.af_plane.specs.Looks.{IsOn};
+    ghost use Rattle.af_plane.specs.Looks.{AreOver};
     ghost use Rattle.af_plane.specs.Visits.{SoloRows};
 
     ghost Value = { SoloRows };
 
     ghost view = { λ solo. record { site = solo.board; plane = solo.plane; session = solo.session } };
 
-    ghost invariant = { λ solo. (solo.plane.pass.word ≡ solo.board.word) × IsOn solo.board solo.session };
+    ghost invariant = { λ solo. AreOver solo.board solo.plane.keeper.keeper solo.plane solo.session };
 }
 
 impl Solo {
@@ -49,8 +50,11 @@ impl Solo {
         ensures { IfOk result (λ solo. IsOpening (alone policy version_limit state.rows history_limit) solo) }
     {
         let (board, mut pass) = Board::open(alloc, policy, version_limit)?;
-        let session = Session::open(board.split(&mut pass), board.opening());
-        let plane = Plane::open(alloc, state, history_limit, pass);
+        let Ok((keeper, witness)) = Keeper::open(alloc) else {
+            return Err(OutOfMemory);
+        };
+        let session = Session::open(board.split(&mut pass), witness, board.opening());
+        let plane = Plane::open(alloc, state, history_limit, pass, keeper);
         Ok(Solo {
             board,
             plane,

@@ -5,7 +5,7 @@ ghost use Rattle.af_ops.specs.Endpoints.{endpoint_of};
 ghost use Rattle.af_ops.specs.Table.{is_open};
 ghost use Rattle.af_ops.specs.declared.call.Call.TheVariants as call;
 ghost use Rattle.af_board.specs.Marks.{IsLast};
-ghost use Rattle.af_plane.specs.Looks.{Basis, HasSame, IsOn, On, looked};
+ghost use Rattle.af_plane.specs.Looks.{AreOver, Basis, HasMet, HasSame, On, looked};
 ghost use Rattle.af_plane.specs.Turns.{IsActed, IsOfPlane, IsOpenly, IsPlaced, IsTurn};
 
 use crate::grounds::Grounds;
@@ -29,10 +29,8 @@ impl Plane {
         session: &mut Session,
         request: &Request<'_>,
     ) -> Option<Served>
-        requires plane { self.old.pass.word ≡ board.now.word }
-        requires session { IsOn board.now session.old }
-        ensures plane_word { self.new.pass.word ≡ board.now.word }
-        ensures session { IsOn board.now session.new }
+        requires over { AreOver board.now self.old.keeper.keeper self.old session.old }
+        ensures over { AreOver board.now self.old.keeper.keeper self.new session.new }
         ensures plane_longer { IsPrefix self.old.pass.places self.new.pass.places }
         ensures session_longer { IsPrefix session.old.pass.places session.new.pass.places }
         ensures turn { IsTurn board.now request.now self.old session.old result self.new session.new }
@@ -44,6 +42,17 @@ impl Plane {
         }
     }
 
+    /// A session that has seen what the plane has, and holds the mark of version 0.
+    pub fn session(&mut self, board: &Board) -> Session
+        requires { self.old.pass.word ≡ board.now.word }
+        ensures over { AreOver board.now self.old.keeper.keeper self.new result }
+        ensures ledger { self.new.ledger ≡ self.old.ledger }
+        ensures seen { (result.pass ≡ self.new.pass) × (result.entries ≡ self.new.keeper) × (self.new.keeper ≡ self.old.keeper) }
+    {
+        let pass = board.split(&mut self.pass);
+        Session::open(pass, self.keeper.give(), board.opening())
+    }
+
     /// Answers an operation on the state.
     fn operate(
         &mut self,
@@ -53,11 +62,9 @@ impl Plane {
         request: &Request<'_>,
         op: &Op,
     ) -> Served
-        requires plane { self.old.pass.word ≡ board.now.word }
-        requires session { IsOn board.now session.old }
+        requires over { AreOver board.now self.old.keeper.keeper self.old session.old }
         requires op { request.now.call ≡ call.State op.now }
-        ensures plane_word { self.new.pass.word ≡ board.now.word }
-        ensures session { IsOn board.now session.new }
+        ensures over { AreOver board.now self.old.keeper.keeper self.new session.new }
         ensures plane_longer { IsPrefix self.old.pass.places self.new.pass.places }
         ensures session_longer { IsPrefix session.old.pass.places session.new.pass.places }
         ensures placed { (basis : Basis) × IsPlaced board.now request.now self.old session.old result self.new session.new basis (call.State op.now) }
@@ -94,11 +101,9 @@ impl Plane {
         session: &mut Session,
         request: &Request<'_>,
     ) -> Served
-        requires plane { self.old.pass.word ≡ board.now.word }
-        requires session { IsOn board.now session.old }
+        requires over { AreOver board.now self.old.keeper.keeper self.old session.old }
         requires call { IsOfPlane request.now.call }
-        ensures plane_word { self.new.pass.word ≡ board.now.word }
-        ensures session { IsOn board.now session.new }
+        ensures over { AreOver board.now self.old.keeper.keeper self.new session.new }
         ensures plane_longer { IsPrefix self.old.pass.places self.new.pass.places }
         ensures session_longer { IsPrefix session.old.pass.places session.new.pass.places }
         ensures acted { (basis : Basis) × IsActed board.now request.now self.old session.old result self.new session.new basis }
@@ -117,14 +122,12 @@ impl Plane {
         session: &mut Session,
         request: &Request<'_>,
     ) -> Result<Served, NotFound>
-        requires plane { self.old.pass.word ≡ board.now.word }
-        requires session { IsOn board.now session.old }
+        requires over { AreOver board.now self.old.keeper.keeper self.old session.old }
         requires call { IsOfPlane request.now.call }
-        ensures plane_word { self.new.pass.word ≡ board.now.word }
-        ensures session { IsOn board.now session.new }
+        ensures over { AreOver board.now self.old.keeper.keeper self.new session.new }
         ensures plane_longer { IsPrefix self.old.pass.places self.new.pass.places }
         ensures session_longer { IsPrefix session.old.pass.places session.new.pass.places }
-        ensures met { session.new.pass.places ≡ self.new.pass.places }
+        ensures met { HasMet self.old session.old self.new session.new }
         ensures acted { IfOk result (λ gave. IsActed board.now request.now self.old session.old gave self.new session.new (On session.new.grounds)) }
         ensures missed { IfErr result (λ _. (session.new.grounds ≡ session.old.grounds) × (1 < length session.new.pass.places)) }
         ensures stays { IfErr result (λ _. self.new.ledger ≡ self.old.ledger) }
@@ -134,20 +137,21 @@ impl Plane {
         let Some(served) = self.apply(alloc, board, &mark, request) else {
             unreachable!()
         };
+        session.witness = self.keeper.give();
         session.grounds = Grounds::Under(mark);
         Ok(served)
     }
 
     /// The session's pass meets the plane's; then one look, and the session has seen what the plane has.
     fn look_with(&mut self, board: &Board, session: &mut Session) -> Result<Mark, NotFound>
-        requires plane { self.old.pass.word ≡ board.now.word }
-        requires session { IsOn board.now session.old }
+        requires { AreOver board.now self.old.keeper.keeper self.old session.old }
         ensures word { self.new.pass.word ≡ board.now.word }
         ensures plane_longer { IsPrefix self.old.pass.places self.new.pass.places }
         ensures session_longer { IsPrefix session.old.pass.places self.new.pass.places }
         ensures session_word { session.new.pass.word ≡ board.now.word }
         ensures grounds { session.new.grounds ≡ session.old.grounds }
-        ensures met { session.new.pass.places ≡ self.new.pass.places }
+        ensures keeper { self.new.keeper ≡ self.old.keeper }
+        ensures met { HasMet self.old session.old self.new session.new }
         ensures mark { IfOk result (λ m. IsLast board.now session.new.pass m) }
         ensures looked { IfOk result (λ m. self.new.ledger ≡ looked m.version self.old.ledger) }
         ensures not_found { IfErr result (λ _. 1 < length self.new.pass.places) }
@@ -155,6 +159,7 @@ impl Plane {
     {
         let pass = mem::replace(&mut session.pass, board.split(&mut self.pass));
         board.meet(&mut self.pass, pass);
+        self.keeper.meet(&mut session.witness);
         let found = self.look(board);
         session.pass = board.split(&mut self.pass);
         found

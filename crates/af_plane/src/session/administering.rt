@@ -28,6 +28,7 @@ impl Session {
         requires { IsOn board.now self.old }
         ensures on { IsOn board.now self.new }
         ensures longer { IsPrefix self.old.pass.places self.new.pass.places }
+        ensures entries { self.new.entries ≡ self.old.entries }
         ensures administered { (basis : Basis) × IsAdministered board.now (option_copied token.entry) asked.now self.old result self.new basis }
     {
         match self.decide(rt, alloc, board, token, asked) {
@@ -48,8 +49,9 @@ impl Session {
         requires { IsOn board.now self.old }
         ensures on { IsOn board.now self.new }
         ensures longer { IsPrefix self.old.pass.places self.new.pass.places }
+        ensures entries { self.new.entries ≡ self.old.entries }
         ensures given { IfOk result (λ gave. IsGivenOn board.now (option_copied token.entry) asked.now self.old gave self.new self.new.grounds) }
-        ensures missed { IfErr result (λ _. (self.new.grounds ≡ self.old.grounds) × (1 < length self.new.pass.places) × (self.new.pass.deeds ≡ self.old.pass.deeds)) }
+        ensures missed { IfErr result (λ _. (self.new.grounds ≡ self.old.grounds) × (1 < length self.new.pass.places) × (self.new.pass.deeds ≡ self.old.pass.deeds) × (self.old.pass.steps < self.new.pass.steps)) }
     {
         match asked {
             PolicyOp::Me => self.me(alloc, board, token),
@@ -64,8 +66,9 @@ impl Session {
         requires { IsOn board.now self.old }
         ensures on { IsOn board.now self.new }
         ensures longer { IsPrefix self.old.pass.places self.new.pass.places }
+        ensures entries { self.new.entries ≡ self.old.entries }
         ensures given { IfOk result (λ gave. IsGivenOn board.now (option_copied token.entry) asks.Me self.old gave self.new self.new.grounds) }
-        ensures missed { IfErr result (λ _. (self.new.grounds ≡ self.old.grounds) × (1 < length self.new.pass.places) × (self.new.pass.deeds ≡ self.old.pass.deeds)) }
+        ensures missed { IfErr result (λ _. (self.new.grounds ≡ self.old.grounds) × (1 < length self.new.pass.places) × (self.new.pass.deeds ≡ self.old.pass.deeds) × (self.old.pass.steps < self.new.pass.steps)) }
     {
         let mark = self.look(board)?;
         let served = serve_me(alloc, board.policy(&mark), mark.version(), token);
@@ -84,8 +87,9 @@ impl Session {
         requires { IsOn board.now self.old }
         ensures on { IsOn board.now self.new }
         ensures longer { IsPrefix self.old.pass.places self.new.pass.places }
+        ensures entries { self.new.entries ≡ self.old.entries }
         ensures given { IfOk result (λ gave. IsGivenOn board.now (option_copied token.entry) (asks.Read asked.now) self.old gave self.new self.new.grounds) }
-        ensures missed { IfErr result (λ _. (self.new.grounds ≡ self.old.grounds) × (1 < length self.new.pass.places) × (self.new.pass.deeds ≡ self.old.pass.deeds)) }
+        ensures missed { IfErr result (λ _. (self.new.grounds ≡ self.old.grounds) × (1 < length self.new.pass.places) × (self.new.pass.deeds ≡ self.old.pass.deeds) × (self.old.pass.steps < self.new.pass.steps)) }
     {
         let mark = self.look(board)?;
         let served = serve_read(alloc, board.policy(&mark), mark.version(), token, asked);
@@ -104,8 +108,9 @@ impl Session {
         requires { IsOn board.now self.old }
         ensures on { IsOn board.now self.new }
         ensures longer { IsPrefix self.old.pass.places self.new.pass.places }
+        ensures entries { self.new.entries ≡ self.old.entries }
         ensures given { IfOk result (λ gave. IsGivenOn board.now (option_copied token.entry) (asks.Unread kind) self.old gave self.new self.new.grounds) }
-        ensures missed { IfErr result (λ _. (self.new.grounds ≡ self.old.grounds) × (1 < length self.new.pass.places) × (self.new.pass.deeds ≡ self.old.pass.deeds)) }
+        ensures missed { IfErr result (λ _. (self.new.grounds ≡ self.old.grounds) × (1 < length self.new.pass.places) × (self.new.pass.deeds ≡ self.old.pass.deeds) × (self.old.pass.steps < self.new.pass.steps)) }
     {
         let mark = self.look(board)?;
         let served = serve_unread(alloc, board.policy(&mark), mark.version(), token, kind);

@@ -1,4 +1,4 @@
-ghost use Rattle.std.specs.Prelude.{◌≡◌, ◌+◌, ◌<◌, List, Option, ℕ, length, IfErr, IfOk, IfSome, Some};
+ghost use Rattle.std.specs.Prelude.{◌≡◌, ◌+◌, ◌<◌, ◌≤◌, List, Option, ℕ, length, IfErr, IfOk, IfSome, Some};
 ghost use Rattle.std.specs.Option.{option_copied};
 ghost use mathlib.Core.List.{IsPrefix};
 ghost use Rattle.af_policy.specs.Identity.{bearer_of};
@@ -37,8 +37,9 @@ impl Session {
         requires { IsOn board.now self.old }
         ensures on { IsOn board.now self.new }
         ensures longer { IsPrefix self.old.pass.places self.new.pass.places }
+        ensures entries { self.new.entries ≡ self.old.entries }
         ensures given { IfOk result (λ gave. IsGivenOn board.now (option_copied token.entry) (asks.Change ask.now) self.old gave self.new self.new.grounds) }
-        ensures missed { IfErr result (λ _. (self.new.grounds ≡ self.old.grounds) × (1 < length self.new.pass.places) × (self.new.pass.deeds ≡ self.old.pass.deeds)) }
+        ensures missed { IfErr result (λ _. (self.new.grounds ≡ self.old.grounds) × (1 < length self.new.pass.places) × (self.new.pass.deeds ≡ self.old.pass.deeds) × (self.old.pass.steps < self.new.pass.steps)) }
     {
         match board.draft(rt, alloc, &mut self.pass, token, ask) {
             Ok(draft) => {
@@ -71,8 +72,10 @@ impl Session {
         requires change { ask.now ≡ Made draft.change }
         ensures on { IsOn board.now self.new }
         ensures longer { IsPrefix self.old.pass.places self.new.pass.places }
+        ensures entries { self.new.entries ≡ self.old.entries }
         ensures base { base_of self.new.grounds ≡ draft.base }
         ensures deeds { self.new.pass.deeds ≡ self.old.pass.deeds + versions_made self.new.grounds }
+        ensures steps { self.old.pass.steps ≤ self.new.pass.steps }
         ensures given { (token : Option (List ℕ)) → bearer_of (policy_of board.now draft.base) token ≡ Some draft.author → IsGiven board.now token (asks.Change ask.now) result self.new self.new.grounds }
     {
         let base = draft.base().again();
@@ -98,6 +101,7 @@ impl Session {
     /// Reports why there is no draft of what was asked, under the version of which the error has the mark.
     fn refuse(&mut self, alloc: Global, ask: &Ask, fault: SubmitFault) -> Result<Served, NotFound>
         ensures pass { self.new.pass ≡ self.old.pass }
+        ensures entries { self.new.entries ≡ self.old.entries }
         ensures given { (site : Site) (token : Option (List ℕ)) → Explains site token ask.now self.old.pass fault → IfOk result (λ gave. IsRefused site token ask.now gave self.new fault) }
         ensures missed { IfErr result (λ _. (self.new.grounds ≡ self.old.grounds) × (fault ≡ SubmitFault.NotFound)) }
     {
@@ -127,6 +131,7 @@ impl Session {
     /// Reports that the versions are full, and keeps the evidence if it is the places of the board that are used up.
     fn refuse_full(&mut self, alloc: Global, ask: &Ask, mark: Mark, spent: Option<Spent>) -> Served
         ensures pass { self.new.pass ≡ self.old.pass }
+        ensures entries { self.new.entries ≡ self.old.entries }
         ensures held { self.new.grounds ≡ full_ground mark spent }
         ensures told { IsToldUnder mark.version (Refuses (submit_problem ask.now fault.Full)) result }
     {
@@ -141,6 +146,7 @@ impl Session {
     /// Keeps the mark of the version under which a change was refused, and reports why.
     fn refuse_under(&mut self, alloc: Global, ask: &Ask, mark: Mark, why: &Refusal) -> Served
         ensures pass { self.new.pass ≡ self.old.pass }
+        ensures entries { self.new.entries ≡ self.old.entries }
         ensures held { self.new.grounds ≡ grounds.Under mark }
         ensures told { IsToldUnder mark.version (Refuses (submit_problem ask.now why.now)) result }
     {

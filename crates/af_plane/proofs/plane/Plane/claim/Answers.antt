@@ -7,5 +7,5 @@ use Rattle.af_plane.proofs.plane.Plane.claim.Goals as goal
 
 pub returns-clause-step : goal.returns-clause-step
 returns-clause-step c =
-    claim_is c.args.self.now.ledger c.claim.new.self c.args.at c.claim.result
-    (subst (λ (l : LedgerRows). IsClaimed c.args.at l c.claim.new.self c.claim.result) (ap (λ (p : PlaneRows). p.ledger) c.self.view_is) c.claim.ensures)
+    claim_is c.args.self.now.ledger c.claim-told.new.self c.args.at c.claim-told.result
+    (subst (λ (l : LedgerRows). IsClaimed c.args.at l c.claim-told.new.self c.claim-told.result) (ap (λ (p : PlaneRows). p.ledger) c.self.view_is) c.claim-told.ensures)

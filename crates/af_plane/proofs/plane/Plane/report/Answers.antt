@@ -7,5 +7,5 @@ use Rattle.af_plane.proofs.plane.Plane.report.Goals as goal
 
 pub returns-clause-step : goal.returns-clause-step
 returns-clause-step c =
-    report_is c.args.self.now.ledger c.report.new.self c.args.claim.now c.args.outcome c.args.at c.report.result
-    (subst (λ (l : LedgerRows). IsReported c.args.at c.args.claim.now c.args.outcome l c.report.new.self c.report.result) (ap (λ (p : PlaneRows). p.ledger) c.self.view_is) c.report.ensures)
+    report_is c.args.self.now.ledger c.report-told.new.self c.args.claim.now c.args.outcome c.args.at c.report-told.result
+    (subst (λ (l : LedgerRows). IsReported c.args.at c.args.claim.now c.args.outcome l c.report-told.new.self c.report-told.result) (ap (λ (p : PlaneRows). p.ledger) c.self.view_is) c.report-told.ensures)

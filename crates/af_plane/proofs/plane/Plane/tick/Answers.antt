@@ -7,5 +7,5 @@ use Rattle.af_plane.proofs.plane.Plane.tick.Goals as goal
 
 pub returns-clause-step : goal.returns-clause-step
 returns-clause-step c =
-    tick_is c.args.self.now.ledger c.tick.new.self c.args.at c.tick.result
-    (subst (λ (l : LedgerRows). IsTicked c.args.at l c.tick.new.self c.tick.result) (ap (λ (p : PlaneRows). p.ledger) c.self.view_is) c.tick.ensures)
+    tick_is c.args.self.now.ledger c.tick-told.new.self c.args.at c.tick-told.result
+    (subst (λ (l : LedgerRows). IsTicked c.args.at l c.tick-told.new.self c.tick-told.result) (ap (λ (p : PlaneRows). p.ledger) c.self.view_is) c.tick-told.ensures)

@@ -7,5 +7,5 @@ returns-in-Ok-clause-administered g c = (On c.decide.new.self.grounds, c.in-Ok.e
 pub returns-in-Err-clause-administered : goal.returns-in-Err-clause-administered
 returns-in-Err-clause-administered g c = (
   Missed,
-  (record { grounds = c.in-Err.ensures.missed.0; later = c.in-Err.ensures.missed.1; told = c.serve_no_policy.ensures }, c.in-Err.ensures.missed.2),
+  (record { grounds = c.in-Err.ensures.missed.0; later = c.in-Err.ensures.missed.1; told = c.serve_no_policy.ensures }, c.in-Err.ensures.missed.2, c.in-Err.ensures.missed.3),
 )

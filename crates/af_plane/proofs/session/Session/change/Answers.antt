@@ -27,5 +27,6 @@ returns-in-Err-clause-given g c =
     (subst (λ (p : Sight). IsPrefix c.args.self.now.pass.places p.places) (sym c.refuse.ensures.pass)
     (subst (λ (p : Sight). IsPrefix p.places c.draft.new.pass.places) (ap (λ (v : Visit). v.pass) c.self.view_is) c.draft.ensures.looked.longer))
     (omega (arith, ap (λ (p : Sight). p.deeds) c.refuse.ensures.pass, c.draft.ensures.looked.done, ap (λ (v : Visit). v.pass.deeds) c.self.view_is))
+    (omega (arith, ap (λ (p : Sight). p.steps) c.refuse.ensures.pass, c.draft.ensures.looked.stepped, ap (λ (v : Visit). v.pass.steps) c.self.view_is))
     (subst (λ (v : Grounds). IfSome (mark_of c.in-Err.fault) (λ m. HasSame c.args.board.now v m)) (ap (λ (v : Visit). v.grounds) c.self.view_is) c.compare_base.ensures)
     (c.refuse.ensures.given c.args.board.now (option_copied c.args.token) c.in-Err.ensures.err)

@@ -8,13 +8,13 @@ use Rattle.af_plane.proofs.session.Session.publish.Goals as goal
 
 pub returns-in-Err-clause-on : goal.returns-in-Err-clause-on
 returns-in-Err-clause-on c =
-    overtaken_on c.args.board.now c.args.draft c.args.self.now (record { pass = c.publish.new.pass; grounds = grounds.Overtaken c.again-base.result }) c.in-Err.field-0 c.requires.last
+    overtaken_on c.args.board.now c.args.draft c.args.self.now (record { pass = c.publish.new.pass; entries = c.self.inside.witness; grounds = grounds.Overtaken c.again-base.result }) c.in-Err.field-0 c.requires.last
     (subst (λ (p : Sight). IsPrefix p.places c.publish.new.pass.places) (ap (λ (v : Visit). v.pass) c.self.view_is) c.in-Err.ensures.looked.longer)
     (ap grounds.Overtaken (c.again-base.ensures ∙ c.base.ensures)) (c.in-Err.ensures.looked.word ∙ ap (λ (v : Visit). v.pass.word) c.self.view_is ∙ c.requires.on.word)
 
 pub returns-in-Err-clause-given : goal.returns-in-Err-clause-given
 returns-in-Err-clause-given c token author =
-    overtaken_in c.args.board.now c.args.draft c.args.self.now (record { pass = c.publish.new.pass; grounds = grounds.Overtaken c.again-base.result }) c.in-Err.field-0 c.requires.last
+    overtaken_in c.args.board.now c.args.draft c.args.self.now (record { pass = c.publish.new.pass; entries = c.self.inside.witness; grounds = grounds.Overtaken c.again-base.result }) c.in-Err.field-0 c.requires.last
     (subst (λ (p : Sight). IsPrefix p.places c.publish.new.pass.places) (ap (λ (v : Visit). v.pass) c.self.view_is) c.in-Err.ensures.looked.longer)
     (ap grounds.Overtaken (c.again-base.ensures ∙ c.base.ensures))
     token c.args.ask.now c.serve_fault.result c.seen-version.result c.requires.draft c.requires.change author c.in-Err.ensures.err c.seen-version.ensures c.serve_fault.ensures
