@@ -8,7 +8,7 @@ use af_audit::{AuditFault, ReportRefusal};
 use af_board::{Board, NotFound};
 use af_names::Instant;
 use af_ops::{Served, Status};
-use af_plane::{Plane, Request, Session};
+use af_plane::{Parts, Plane, Request, Session};
 use af_sched::{Claim, Outcome};
 use std::alloc::Global;
 use std::marker::Model;
@@ -50,24 +50,23 @@ pub struct Player {
 }
 
 impl Model for Player {
-    ghost use Rattle.std.specs.Prelude.{◌≡◌};
-    ghost use Rattle.af_plane.specs.Looks.{IsOn};
+    ghost use Rattle.af_plane.specs.Looks.{AreOver};
     ghost use Rattle.af_plane.specs.Visits.{SoloRows};
 
     ghost Value = { SoloRows };
 
     ghost view = { λ player. record { site = player.board; plane = player.plane; session = player.session } };
 
-    ghost invariant = { λ player. (player.plane.pass.word ≡ player.board.word) × IsOn player.board player.session };
+    ghost invariant = { λ player. AreOver player.board player.plane.keeper.keeper player.plane player.session };
 }
 
 /// A plane that decides so, with room for so many entries, and one DAG that is due so.
 pub fn make_player(alloc: Global, by: By, limit: u32, due: Due) -> Result<Player, Fail> {
     let (policy, state) = opened(alloc, OF_PLANES, Dags::AndDue(due))?;
-    let (board, mut pass) = Board::open(alloc, policy, 9)?;
-    let session = Session::open(board.split(&mut pass), board.opening());
+    let Parts { board, mut plane } = Parts::open(alloc, policy, 9, state, limit)?;
+    let session = plane.session(&board);
     Ok(Player {
-        plane: Plane::open(alloc, state, limit, pass),
+        plane,
         board,
         session,
         by,

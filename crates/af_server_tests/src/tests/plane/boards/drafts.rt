@@ -14,6 +14,7 @@ use af_board::{Board, Draft, Receipt, SubmitFault};
 use af_ops::{Endpoint, PolicyOp, Served, Status, serve_fault};
 use af_plane::Session;
 use af_policy::{Ask, ChangeKind, Refusal};
+use af_tally::Keeper;
 use af_word::Pass;
 use std::alloc::Global;
 use std::process::Abort;
@@ -240,7 +241,8 @@ fn goes(
 fn a_draft_of_an_earlier_version_is_told_which_is_the_last(rt: HostRuntime) -> Result<(), Fail> {
     let alloc = rt.alloc();
     let (board, mut pass) = Board::open(alloc, policy(alloc, OF_SAMPLE)?, 9)?;
-    let mut session = Session::open(board.split(&mut pass), board.opening());
+    let (_keeper, witness) = Keeper::open(alloc)?;
+    let mut session = Session::open(board.split(&mut pass), witness, board.opening());
     let held = goes(&rt, alloc, &board, &mut pass, &mut session);
     drop(session);
     drop(board);

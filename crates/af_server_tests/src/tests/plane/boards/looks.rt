@@ -13,7 +13,7 @@ use crate::tests::plane::users::OF_PLANES;
 use af_board::{Board, Mark};
 use af_names::Instant;
 use af_ops::{Endpoint, Served, Status};
-use af_plane::{Plane, Request, Session};
+use af_plane::{Parts, Plane, Request, Session};
 use std::alloc::Global;
 use std::process::Abort;
 use std::sync::Wait;
@@ -80,9 +80,8 @@ fn publishes_between(
 fn an_act_is_decided_under_the_version_of_its_look(rt: HostRuntime) -> Result<(), Fail> {
     let alloc = rt.alloc();
     let (policy, state) = opened(alloc, OF_PLANES, Dags::OnlyB)?;
-    let (board, mut pass) = Board::open(alloc, policy, 9)?;
-    let mut session = Session::open(board.split(&mut pass), board.opening());
-    let mut plane = Plane::open(alloc, state, 9, pass);
+    let Parts { board, mut plane } = Parts::open(alloc, policy, 9, state, 9)?;
+    let mut session = plane.session(&board);
     let held = publishes_between(&rt, alloc, &board, &mut plane, &mut session);
     drop(plane);
     drop(session);
