@@ -76,6 +76,7 @@ impl<E> Keeper<E> {
         let table = &self.table;
         Witness {
             seat: table.shared.split_seat::<Copied>(&mut self.seat),
+            count: self.count,
         }
     }
 
@@ -87,7 +88,7 @@ impl<E> Keeper<E> {
         ensures same { self.new ≡ self.old }
     {
         let old = mem::replace(witness, self.give());
-        let Witness { seat } = old;
+        let Witness { seat, count: _ } = old;
         let table = &self.table;
         table.shared.join_seat::<Inform>(&mut self.seat, seat);
         table.shared.load::<Compare>(&mut self.seat, 0);

@@ -1,3 +1,5 @@
+ghost use Rattle.std.specs.Prelude.{◌≡◌, length};
+
 use crate::view::View;
 use atomic_table::Seat;
 use std::marker::Model;
@@ -6,10 +8,11 @@ use std::marker::Model;
 #[derive(Drop)]
 pub struct Witness<E> {
     pub(crate) seat: Seat<u8, View<E>>,
+    pub(crate) count: u32,
 }
 
 impl<E> Model for Witness<E> {
-    ghost use Rattle.std.specs.Prelude.{◌≡◌, []};
+    ghost use Rattle.std.specs.Prelude.{◌≡◌, [], length};
     ghost use Rattle.af_tally.specs.Known.{Known, known_coded};
 
     ghost Value = { Known E };
@@ -18,5 +21,14 @@ impl<E> Model for Witness<E> {
 
     ghost view = { λ w. record { keeper = w.seat.table_id; entries = w.seat.me.0.seen } };
 
-    ghost invariant = { λ w. w.seat.me.1 ≡ [] };
+    ghost invariant = { λ w. (w.seat.me.1 ≡ []) × (w.count ≡ length w.seat.me.0.seen) };
+}
+
+impl<E> Witness<E> {
+    /// How many entries it has seen.
+    pub fn count(&self) -> u32
+        ensures { result ≡ length self.now.entries }
+    {
+        self.count
+    }
 }

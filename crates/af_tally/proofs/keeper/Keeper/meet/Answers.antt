@@ -10,7 +10,7 @@ join_seat-requires g c = (
   c.self.invariant.1,
   ap (λ (k : Known g.row.E.Denot). k.keeper) (c.old.view_is ∙ c.replace-old.ensures.value)
       ∙ (c.requires ∙ ap (λ (k : Known g.row.E.Denot). k.keeper) (sym (c.self.view_is ∙ c.give.ensures.same))),
-  c.old.invariant,
+  c.old.invariant.0,
   omega (arith, c.self.invariant.0),
   joins _ _ _ _,
 )
