@@ -11,3 +11,4 @@ pub mod RequestLemmas
 pub mod TickedLemmas
 pub mod TriggerLemmas
 pub mod RowLemmas
+pub mod Threads

@@ -1,16 +1,18 @@
 ghost use Rattle.std.specs.Prelude.{◌≡◌, true};
+ghost use Rattle.std.specs.Option.{option_copied};
 ghost use Rattle.sha2.specs.Sha256.{sha256};
 
+use crate::presented::Presented;
 use arrayvec::ArrayVec;
 use sha2::{Digest, Sha256};
 
 /// The most bytes of a token that is kept.
 const LONGEST: usize = 64;
 
-/// The token of who was found last, beside its SHA-256, so that who comes with it again is found without hashing it. One of more than
-/// 64 bytes is not kept. It changes no answer.
+/// The last token that came, beside its SHA-256, so that one that comes again is not hashed again. One of more than 64 bytes is not kept. It
+/// changes no answer.
 #[derive(Drop)]
-pub(crate) struct LastToken {
+pub struct LastToken {
     token: ArrayVec<u8, LONGEST>,
     digest: [u8; 32],
     ghost hashed: { digest ≡ sha256 token.items },
@@ -18,15 +20,29 @@ pub(crate) struct LastToken {
 
 impl LastToken {
     /// The empty token is kept.
-    pub(crate) fn new() -> LastToken {
+    pub fn new() -> LastToken {
         LastToken {
             token: ArrayVec::new(),
             digest: Sha256::digest(b""),
         }
     }
 
+    /// The token that came, if one came. It is kept from now on.
+    pub fn present<'a>(&mut self, token: Option<&'a [u8]>) -> Option<Presented<'a>>
+        ensures { result ≡ option_copied token.entry }
+    {
+        match token {
+            Some(bytes) => {
+                let digest = self.digest_of(bytes);
+                self.keep(bytes, digest);
+                Some(Presented::hashed(bytes, digest))
+            }
+            None => None,
+        }
+    }
+
     /// The SHA-256 of a token.
-    pub(crate) fn digest_of(&self, token: &[u8]) -> [u8; 32]
+    fn digest_of(&self, token: &[u8]) -> [u8; 32]
         ensures { result ≡ sha256 token.now }
     {
         if are_same(self.token.as_slice(), token) {
@@ -37,7 +53,7 @@ impl LastToken {
     }
 
     /// From now on this token is kept beside its SHA-256, where it is short.
-    pub(crate) fn keep(&mut self, token: &[u8], digest: [u8; 32])
+    fn keep(&mut self, token: &[u8], digest: [u8; 32])
         requires { digest ≡ sha256 token.now }
     {
         if self.digest == digest {

@@ -2,7 +2,6 @@ ghost use Rattle.std.specs.Prelude.{◌≡◌, ◌≤◌};
 ghost use Rattle.af_audit.specs.Ledgers.{IsLedger, opened};
 
 use crate::audit::Audit;
-use crate::last_token::LastToken;
 use crate::opening_state::OpeningState;
 use crate::replaying::show_state;
 use af_sched::State;
@@ -18,15 +17,13 @@ mod reporting;
 mod ticking;
 
 /// The state that stands, and the entries that made it of the one that it was opened with: at all times it is their replay. It also
-/// keeps the policy version under which acts are decided, and the token of who was found last. The opening state stands in proofs alone:
-/// who wants to replay reads it again.
+/// keeps the policy version under which acts are decided. The opening state stands in proofs alone: who wants to replay reads it again.
 #[derive(Drop)]
 pub struct Ledger {
     opening: OpeningState,
     state: State,
     audit: Audit,
     version: u32,
-    last_token: LastToken,
 }
 
 impl Model for Ledger {
@@ -50,7 +47,6 @@ impl Ledger {
             state,
             audit: Audit::new(alloc, limit),
             version: 0,
-            last_token: LastToken::new(),
         }
     }
 

@@ -7,7 +7,9 @@ ghost use Rattle.af_ops.specs.Verdicts.{granted_verdict};
 ghost use Rattle.af_audit.specs.Answered.{IsPerformed, MayEnter, closed_verdict, standing_of, verdict_on};
 
 use crate::ledger::Ledger;
+use crate::ledger::identifying::bearer;
 use crate::ledger::recording::record;
+use crate::presented::Presented;
 use crate::replaying::show_state;
 use af_names::{Instant, UserName};
 use af_ops::{
@@ -24,7 +26,7 @@ impl Ledger {
         &mut self,
         alloc: Global,
         policy: &Policy,
-        token: Option<&[u8]>,
+        token: Option<&Presented<'_>>,
         op: &Op,
         now: Instant,
     ) -> Served
@@ -48,14 +50,14 @@ impl Ledger {
         &mut self,
         alloc: Global,
         policy: &Policy,
-        token: Option<&[u8]>,
+        token: Option<&Presented<'_>>,
         op: &Op,
         now: Instant,
     ) -> Result<Shown, CallFault>
         ensures performed { IsPerformed op.now (closed_verdict policy.now self.old (option_copied token.entry) op.now now) (standing_of self.old) result (standing_of self.new) }
         ensures entry { MayEnter (bearer_of policy.now (option_copied token.entry)) op.now now self.old self.new }
     {
-        match self.identified(policy, token) {
+        match bearer(policy, token) {
             Some(user) => {
                 let view = policy.view(user);
                 self.judged(alloc, &view, user, op, now)

@@ -7,6 +7,8 @@ ghost use Rattle.af_audit.specs.EventLogs.{entries_granted, entries_verdict, nam
 
 use crate::event_logs::entries_text;
 use crate::ledger::Ledger;
+use crate::ledger::identifying::bearer;
+use crate::presented::Presented;
 use af_listing::Window;
 use af_ops::{Body, CallFault, Endpoint, Op, OpFault, Served, Shown, needs, refused, shown_reply};
 use af_policy::{Parameter, Policy, View};
@@ -20,7 +22,7 @@ impl Ledger {
         &self,
         alloc: Global,
         policy: &Policy,
-        token: Option<&[u8]>,
+        token: Option<&Presented<'_>>,
         asked: &Result<Window, Parameter>,
     ) -> Served
         ensures served { IsServed nameless (entries_verdict policy.now self.now (option_copied token.entry) asked.now) (standing_of self.now) result (standing_of self.now) }
@@ -37,12 +39,12 @@ impl Ledger {
         &self,
         alloc: Global,
         policy: &Policy,
-        token: Option<&[u8]>,
+        token: Option<&Presented<'_>>,
         asked: &Result<Window, Parameter>,
     ) -> Result<Shown, CallFault>
         ensures { IsPerformed nameless (entries_verdict policy.now self.now (option_copied token.entry) asked.now) (standing_of self.now) result (standing_of self.now) }
     {
-        match self.bearer(policy, token) {
+        match bearer(policy, token) {
             Some(user) => {
                 let view = policy.view(user);
                 self.entries_for(alloc, &view, asked)
