@@ -82,7 +82,7 @@ one_read policy user dag_id dags (inr one) =
     let same : one.1.0 ≡ dag_id = sym (ap (λ (o : Option (List ℕ)). unwrap_or o dag_id) one.1.1) in
     inr (subst (λ (d : List ℕ). RolesList policy user (on_dag Read d)) same one.1.2)
 
-may_read : (policy : PolicyRows) (user dag_id : List ℕ) (dags : List (List ℕ)) (needs : List Need) → first_unmet (grants policy user) (Some dag_id) dags (record { action = Read; kind = Dags; at_dag = true } ∷ needs) ≡ None → MayRead policy user dag_id
+pub may_read : (policy : PolicyRows) (user dag_id : List ℕ) (dags : List (List ℕ)) (needs : List Need) → first_unmet (grants policy user) (Some dag_id) dags (record { action = Read; kind = Dags; at_dag = true } ∷ needs) ≡ None → MayRead policy user dag_id
 may_read policy user dag_id dags needs lacks =
     one_read policy user dag_id dags (none_lacked policy user (Some dag_id) dags (record { action = Read; kind = Dags; at_dag = true } ∷ needs) lacks).0
 

@@ -35,7 +35,7 @@ use Rattle.af_world.proofs.SubmitLemmas.{IsMade, change_judged, decided_made, fa
 use Rattle.af_world.proofs.ToldLemmas.{IsFault, IsOther, Names, names_problem, policy_fault, policy_problem, submit_status}
 use Rattle.af_world.proofs.WorldLemmas.{either}
 
-latest_got : {X : Type 0} → (xs : List X) (x : X) → slice_get (xs ++ x ∷ []) (length xs) ≡ Some x
+pub latest_got : {X : Type 0} → (xs : List X) (x : X) → slice_get (xs ++ x ∷ []) (length xs) ≡ Some x
 latest_got [] x = refl
 latest_got (y ∷ xs) x = latest_got xs x
 
@@ -48,7 +48,7 @@ refused_kept version versions shown (Publishes reply policy) e (inr forbidden) =
 
 module _ (w : World) (shown : Shown) where
   -- the latest version
-  is_latest : shown.version ≡ Some (last_version w) → IsUnder w shown w.versions.latest
+  pub is_latest : shown.version ≡ Some (last_version w) → IsUnder w shown w.versions.latest
   is_latest names = record { version = last_version w; names = names; named = latest_got w.versions.earlier w.versions.latest }
 
   made_leaves : (s : ℕ) (it : PolicyVerdict) → told_of (last_version w) it ≡ Some shown → IsRefused shown → LeavesAll w (made w s it).next

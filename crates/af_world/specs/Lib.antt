@@ -10,3 +10,7 @@ pub mod Granted
 pub mod Asked
 pub mod Laws
 pub mod Blind
+pub mod OneRow
+pub mod Permitted
+pub mod Pages
+pub mod Ready

@@ -11,8 +11,8 @@ ghost use Rattle.af_audit.specs.EventLogs.{entries_verdict, nameless};
 
 use crate::policy_answering::answer_policy;
 use crate::versions::Versions;
-use af_audit::Ledger;
 use af_audit::laws::verdicts_leave_one_ledger;
+use af_audit::{Ledger, Presented};
 use af_listing::Window;
 use af_names::Instant;
 use af_ops::{Op, PolicyOp, Served, Shown};
@@ -34,7 +34,8 @@ pub(crate) fn ask_op(
     ensures err { OnErr result (ledger.new ≡ ledger.old) }
 {
     verdicts_leave_one_ledger();
-    match ledger.answer(alloc, policy, token, op, now) {
+    let presented = Presented::of(token);
+    match ledger.answer(alloc, policy, presented.as_ref(), op, now) {
         Served::Shown(shown) => Ok(shown),
         Served::NothingDone => Err(AllocError),
     }
@@ -50,7 +51,8 @@ pub(crate) fn ask_logs(
 ) -> Result<Shown, AllocError>
     ensures { IfOk result (λ shown. answer_of nameless (standing_of ledger.now).under (entries_verdict policy.now ledger.now (option_copied token.entry) window.now) ≡ Some shown) }
 {
-    match ledger.entries(alloc, policy, token, window) {
+    let presented = Presented::of(token);
+    match ledger.entries(alloc, policy, presented.as_ref(), window) {
         Served::Shown(shown) => Ok(shown),
         Served::NothingDone => Err(AllocError),
     }

@@ -1,4 +1,8 @@
 ghost use Rattle.af_world.specs.Blind.{ActsAreBlind, HiddenActsAsAbsent};
+ghost use Rattle.af_world.specs.OneRow.{PolicyRowsShownStand, RowsShownStand};
+ghost use Rattle.af_world.specs.Pages.{PagesShownStand, PolicyPagesShownStand};
+ghost use Rattle.af_world.specs.Permitted.{RefusedChangesArePermitted};
+ghost use Rattle.af_world.specs.Ready.{StepsHaveAnswers};
 ghost use Rattle.af_world.specs.Laws.{ActsCountTheEntries, AnsweredAsSeen, AnsweredVersionsClimb, AnswersAreGranted, DenialsNameTheFirst, EntriesAreGranted, EntryVersionsClimb, ListingsOfADagAreRead, ListingsTellWhatIsRead, PublishesAreGranted, RefusalsChangeNothing, RunsAreOne, SightsNeverFall, StateIsTheReplay, StrangersHaveNoUser, VersionsFollow};
 
 use af_sched::laws::{a_claim_is_one, a_tick_is_one};
@@ -10,6 +14,12 @@ pub fn runs_are_one()
     a_tick_is_one();
     a_claim_is_one();
 }
+
+/// Every list of steps has answers, and leads to a world: from each opening whose rows are as rows are at all times, and whose runs are
+/// numbered from 1 on.
+pub fn steps_have_answers()
+    ensures { StepsHaveAnswers }
+{}
 
 /// After every list of steps, each user's entry stands under a version in which that user's roles list a permission for each
 /// requirement, on the state at that step.
@@ -102,4 +112,34 @@ pub fn acts_are_blind()
 /// In every world, such an act of a user whose roles don't let the user read a DAG is answered as in the world without that DAG and its runs.
 pub fn hidden_acts_as_absent()
     ensures { HiddenActsAsAbsent }
+{}
+
+/// In every world, a DAG, a run, an instance, a pool or a variable that is shown is the one of that name in the state at that step, and the
+/// user's roles list the permission to read it.
+pub fn rows_shown_stand()
+    ensures { RowsShownStand }
+{}
+
+/// In every world, a role or a user that is shown is the one of that name in the policy of the version that the answer names, and the
+/// user's roles list the permission to read it; who asks who one is, is shown the row and the permissions of the token's user.
+pub fn policy_rows_shown_stand()
+    ensures { PolicyRowsShownStand }
+{}
+
+/// In every world, a listing of pools or of variables tells the page of all of them in the state at that step, and how many they are, to a
+/// user whose roles list the permission to read them.
+pub fn pages_shown_stand()
+    ensures { PagesShownStand }
+{}
+
+/// In every world, a listing of roles or of users tells the page of all of them in the policy of the version that the answer names, and how
+/// many they are, to a user whose roles list the permission to read them.
+pub fn policy_pages_shown_stand()
+    ensures { PolicyPagesShownStand }
+{}
+
+/// In every world, a change of the policy that is refused with 400, 404, 409 or 507 was permitted to its author under the version that the
+/// answer names; or another version was made since the one that it was handed in under, and the answer tells which.
+pub fn refused_changes_are_permitted()
+    ensures { RefusedChangesArePermitted }
 {}
