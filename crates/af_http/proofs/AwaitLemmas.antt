@@ -1,18 +1,17 @@
 -- A head is awaited, and then its body; texts that read the same.
-use Rattle.std.proofs.Common.{◌≡◌, ◌≤◌, ◌+◌, ◌⊎◌, inl, inr, arith, ℕ, Bool, List, [], ◌∷◌, ◌++◌, refl, sym, ap, ◌∙◌, subst, Option, Some, None}
+use Rattle.std.proofs.Common.{◌≡◌, ◌≤◌, ◌+◌, inl, inr, arith, ℕ, Bool, List, [], ◌∷◌, ◌++◌, take, sum, refl, sym, ap, ◌∙◌, subst, Option, Some, None}
 use Rattle.std.specs.Prelude.{IfSome}
 use Rattle.std.proofs.lemmas.List.{append-nil, append_assoc}
 use Rattle.af_http.specs.Limits.{read_limit}
-use Rattle.af_http.specs.Streams.{Given, Waiting, Took}
+use Rattle.af_http.specs.Streams.{Given, Waiting, Took, EachWhile}
 use Rattle.af_http.specs.Fronts.{front_of}
-use Rattle.af_http.specs.Extents.{open_front, IsExtent}
+use Rattle.af_http.specs.Extents.{open_front}
 use Rattle.af_http.specs.Gathering.{Holds, ends_of, failures_of}
 use Rattle.af_http.specs.Requests.{Asked}
 use Rattle.af_http.specs.Reading.{Begins, Cut, IsRefused, IsOpen}
 use Rattle.af_http.specs.Reads.{Awaits}
 use Rattle.af_http.specs.Turns.{Stops, AwaitsHead}
-use Rattle.af_http.proofs.StreamLemmas.{took_none, took_more}
-use Rattle.af_http.specs.declared.extent.Extent.TheVariants.{Part}
+use Rattle.af_http.proofs.StreamLemmas.{took_none, took_more, each_none, each_more}
 use Rattle.af_http.specs.declared.gathering.Gathered.{Gathered}
 use Rattle.af_http.specs.declared.refusal.Refusal.{Refusal}
 use Rattle.af_http.specs.declared.ended.Ended.{Ended}
@@ -30,7 +29,7 @@ pub open_now : (before after : Given) (held more held' : List ℕ) → Holds bef
 open_now before after held more held' s e = is_open (held ++ more) held' (front_now before after held more held' s ∙ e)
 
 -- texts that read the same
-pub cut_same : (t u : List ℕ) (head_only : Bool) → front_of u ≡ front_of t → Cut t head_only → Cut u head_only
+cut_same : (t u : List ℕ) (head_only : Bool) → front_of u ≡ front_of t → Cut t head_only → Cut u head_only
 cut_same t u head_only e x = record {
   head = x.head;
   parsed = x.parsed;
@@ -78,13 +77,17 @@ stops_same w ended t u all end.NoMemory f s = s
 
 -- where nothing is awaited
 pub awaits_none : (used : ℕ) (r : Given) (left : List ℕ) → used ≤ read_limit → Awaits used 0 0 r r left []
-awaits_none used r left few = record { count = 0; took = took_none r; few = omega (arith, few); came_is = sym (append-nil r.bytes); needed = inl (refl, refl) }
+awaits_none used r left few =
+    record { count = 0; took = took_none r; few = omega (arith, few); came_is = sym (append-nil r.bytes); needed = each_none (λ brought. IsOpen (left ++ brought)) r }
 
 awaits_as : (r : Given) (left : List ℕ) (e f : ℕ) → e ≡ 0 → f ≡ 0 → (a : Awaits 0 e f r r left []) × (a.count ≡ 0)
 awaits_as r left e f p q =
     let P : ℕ → Type 0 = λ t. (a : Awaits 0 t f r r left []) × (a.count ≡ 0) in
     let Q : ℕ → Type 0 = λ t. (a : Awaits 0 0 t r r left []) × (a.count ≡ 0) in
-    let none : (a : Awaits 0 0 0 r r left []) × (a.count ≡ 0) = (record { count = 0; took = took_none r; few = omega arith; came_is = sym (append-nil r.bytes); needed = inl (refl, refl) }, refl) in
+    let none : (a : Awaits 0 0 0 r r left []) × (a.count ≡ 0) = (
+      record { count = 0; took = took_none r; few = omega arith; came_is = sym (append-nil r.bytes); needed = each_none (λ brought. IsOpen (left ++ brought)) r },
+      refl,
+    ) in
     subst P (sym p) (subst Q (sym q) none)
 
 -- what stands at the front is known without a read
@@ -101,41 +104,27 @@ not_gathered r held settled (Some g) found is none fine same =
 
 -- or it is read on, from less than a head
 pub gathered_more : (before after : Given) (held settled now : List ℕ) (g : Gathered) (n : ℕ) → ((tail : List ℕ) → front_of (held ++ tail) ≡ front_of (settled ++ tail))
-    → IsExtent settled Part → (more : List ℕ) × Holds before after settled now more → Took n (ends_of g) (failures_of g) before after → n ≤ read_limit
+    → (more : List ℕ) × Holds before after settled now more × EachWhile (λ brought. IsOpen (settled ++ brought)) before after more
+    → Took n (ends_of g) (failures_of g) before after → n ≤ read_limit
     → AwaitsHead (Some g) n before after held now
-gathered_more before after held settled now g n same extent (more, h) took few =
-    let front : front_of held ≡ front_of settled = ap front_of (sym (append-nil held)) ∙ same [] ∙ ap front_of (append-nil settled) in (
-      more,
-      record { count = n; took = took; few = omega (arith, few); came_is = h.came; needed = inr (is_open held settled (front ∙ extent.0)) },
-      refl,
-      record {
-        came = h.came;
-        same = λ tail.
-            ap front_of (append_assoc held more tail) ∙ same (more ++ tail) ∙ ap front_of (sym (append_assoc settled more tail)) ∙ h.same tail;
-      },
-    )
-
--- a head was awaited, and then its body
-pub awaits_both : (used ends failures : ℕ) (before mid after : Given) (held held' more came : List ℕ) → (a : Awaits 0 0 0 before mid held more) → a.count ≡ used
-    → Holds before mid held held' more → (b : Awaits used ends failures mid after held' came) → (x : Awaits 0 ends failures before after held (more ++ came)) × (x.count ≡ used + b.count)
-awaits_both used ends failures before mid after held held' more came a is h b =
-    let few = b.few in (
-      record {
-        count = a.count + b.count;
-        took = took_more a.took b.took;
-        few = omega (arith, few, is);
-        came_is = b.came_is ∙ ap (λ t. t ++ came) a.came_is ∙ append_assoc before.bytes more came;
-        needed = by a.needed b.needed;
-      },
-      ap (λ k. k + b.count) is,
-    )
-  where
-    by : ((a.count ≡ 0) × (more ≡ [])) ⊎ IsOpen held → ((b.count ≡ 0) × (came ≡ [])) ⊎ IsOpen held' → ((a.count + b.count ≡ 0) × (more ++ came ≡ [])) ⊎ IsOpen held
-    by (inr x) y = inr x
-    by (inl (n, none)) (inl (m, empty)) = inl (omega (arith, n, m), ap (λ t. t ++ came) none ∙ empty)
-    by (inl (n, none)) (inr y) =
-        let same : front_of held ≡ front_of held' = ap front_of (sym (append-nil held)) ∙ ap (λ t. front_of (held ++ t)) (sym none) ∙ front_now before mid held more held' h in
-        inr (open_same held' held same y)
+gathered_more before after held settled now g n same (more, h, each) took few = (
+  more,
+  record {
+    count = n;
+    took = took;
+    few = omega (arith, few);
+    came_is = h.came;
+    needed = λ earlier later k is.
+        let brought = take (sum earlier) more in
+        open_same (settled ++ brought) (held ++ brought) (same brought) (each earlier later k is);
+  },
+  refl,
+  record {
+    came = h.came;
+    same = λ tail.
+        ap front_of (append_assoc held more tail) ∙ same (more ++ tail) ∙ ap front_of (sym (append_assoc settled more tail)) ∙ h.same tail;
+  },
+)
 
 -- what is held reads as the text does, with more behind
 pub front_on : (before mid : Given) (held more held' came tail : List ℕ) → Holds before mid held held' more → front_of ((held ++ (more ++ came)) ++ tail) ≡ front_of ((held' ++ came) ++ tail)
@@ -148,3 +137,20 @@ front_on before mid held more held' came tail h =
 pub front_on_now : (before mid : Given) (held more held' came : List ℕ) → Holds before mid held held' more → front_of (held ++ (more ++ came)) ≡ front_of (held' ++ came)
 front_on_now before mid held more held' came h =
     ap front_of (sym (append-nil (held ++ (more ++ came)))) ∙ front_on before mid held more held' came [] h ∙ ap front_of (append-nil (held' ++ came))
+
+-- a head was awaited, and then its body
+pub awaits_both : (used ends failures : ℕ) (before mid after : Given) (held held' more came : List ℕ) → (a : Awaits 0 0 0 before mid held more) → a.count ≡ used
+    → Holds before mid held held' more → (b : Awaits used ends failures mid after held' came) → (x : Awaits 0 ends failures before after held (more ++ came)) × (x.count ≡ used + b.count)
+awaits_both used ends failures before mid after held held' more came a is h b =
+    let few = b.few in (
+      record {
+        count = a.count + b.count;
+        took = took_more a.took b.took;
+        few = omega (arith, few, is);
+        came_is = b.came_is ∙ ap (λ t. t ++ came) a.came_is ∙ append_assoc before.bytes more came;
+        needed = each_more (λ brought. IsOpen (held ++ brought)) more came a.took a.came_is b.took a.needed (λ earlier later k is.
+            let brought = take (sum earlier) came in
+            open_same (held' ++ brought) (held ++ (more ++ brought)) (front_on_now before mid held more held' brought h) (b.needed earlier later k is));
+      },
+      ap (λ k. k + b.count) is,
+    )

@@ -1,16 +1,15 @@
 -- A turn that answers no request: the run ends there.
-use Rattle.std.proofs.Common.{◌≡◌, ◌≤◌, ◌+◌, ◌<◌, inl, inr, arith, ℕ, Bool, true, false, List, [], ◌++◌, length, take, drop, refl, sym, ap, ◌∙◌, subst, Option, Some}
+use Rattle.std.proofs.Common.{◌≡◌, ◌≤◌, ◌+◌, ◌<◌, inl, inr, arith, ℕ, Bool, true, false, List, [], ◌++◌, length, take, drop, sum, refl, sym, ap, ◌∙◌, subst, Option, Some}
 use Rattle.std.specs.Prelude.{Result, Ok}
-use Rattle.std.proofs.lemmas.List.{append-nil, length-append, length-drop, take-append-le}
+use Rattle.std.proofs.lemmas.List.{length-append, length-drop, take-append-le}
 use Rattle.httparse.specs.Grammar.{RequestHead, ReadsRequest}
 use Rattle.httparse.proofs.GrammarLemmas.{request_unique}
 use Rattle.af_http.specs.Limits.{read_limit}
-use Rattle.af_http.specs.Streams.{Given, Took, one_if}
-use Rattle.af_http.specs.Fronts.{front_of}
+use Rattle.af_http.specs.Streams.{Given, Took, EachWhile, one_if}
 use Rattle.af_http.specs.Gathering.{Fills, Holds, IsGathered, ends_of, failures_of, body_ends, body_failures}
 use Rattle.af_http.specs.Requests.{Asked, body_length, is_head}
 use Rattle.af_http.specs.Replies.{reply_text, wants_memory}
-use Rattle.af_http.specs.Reading.{Cut, Parses, closes_after, refusal_text, status_of}
+use Rattle.af_http.specs.Reading.{Cut, IsOpen, Parses, closes_after, refusal_text, status_of}
 use Rattle.af_http.specs.Run.{exchange_text, end_by, end_after}
 use Rattle.af_http.specs.Reads.{Awaits, read_faults}
 use Rattle.af_http.specs.Sending.{Outlet, Puts}
@@ -23,7 +22,7 @@ use Rattle.af_http.specs.declared.reply.Reply.{Reply}
 use Rattle.af_http.specs.declared.refusal.Refusal.TheVariants.{Incomplete, HeadTooLarge}
 use Rattle.af_http.specs.declared.ended.Ended.{Ended}
 use Rattle.af_http.specs.declared.ended.Ended.TheVariants as end
-use Rattle.af_http.proofs.AwaitLemmas.{front_now, open_now, cut_same, awaits_none}
+use Rattle.af_http.proofs.AwaitLemmas.{front_now, open_now, awaits_none}
 
 both : {A B C : Type 0} (f : A → B → C) {a b : A} {x y : B} → a ≡ b → x ≡ y → f a x ≡ f b y
 both f {a} {b} {x} {y} p q = ap (λ t. f t x) p ∙ ap (f b) q
@@ -148,17 +147,24 @@ cut_held held more held2 n length_is head_only found w is short =
       method = w.method;
     }
 
+-- each read of a body was made while it was cut
+body_needed : (before after : Given) (held more : List ℕ) (n length_is : ℕ) (head_only : Bool) → IsGathered held (gathered.Head n) → WantsBody held n length_is head_only
+    → EachWhile (λ brought. length (held ++ brought) < n + length_is) before after more → EachWhile (λ brought. IsOpen (held ++ brought)) before after more
+body_needed before after held more n length_is head_only found w each earlier later k is =
+    let brought = take (sum earlier) more in
+    inr (inr (head_only, cut_held held brought (held ++ brought) n length_is head_only found w refl (each earlier later k is)))
+
 -- the input ended within a body, a read failed, or there were too many
 pub body_stops : (used : ℕ) (before after : Given) (held held2 : List ℕ) (p q r : Outlet) (n length_is count : ℕ) (head_only : Bool) (g : BodyGathered) (ended : Bool) (all : List ℕ) (e : Ended) (o : Option Ended)
-    → (more : List ℕ) × Fills before after held held2 more → IsGathered held (gathered.Head n) → WantsBody held n length_is head_only → length held2 < n + length_is
+    → (more : List ℕ) × Fills before after held held2 more × EachWhile (λ brought. length (held ++ brought) < n + length_is) before after more
+    → IsGathered held (gathered.Head n) → WantsBody held n length_is head_only → length held2 < n + length_is
     → Took count (body_ends g) (body_failures g) before after → used + count ≤ read_limit → body_ends g ≡ one_if ended → body_failures g ≡ read_faults e
     → ((text : List ℕ) → Cut text head_only → Stops r.waiting ended text all e) → Puts 0 p q [] → Puts 0 q r all → o ≡ or_fault r.waiting.failed (Some e)
     → (e ≡ end.Turns → used + count ≡ read_limit) → Stopped used before after held p r o
-body_stops used before after held held2 p q r n length_is count head_only g ended all e o (more, f) found w short took few ends fails stops x y is turns =
+body_stops used before after held held2 p q r n length_is count head_only g ended all e o (more, f, each) found w short took few ends fails stops x y is turns =
     let cut = cut_held held more held2 n length_is head_only found w f.kept short in
     let P : ℕ → Type 0 = λ t. Took count t (body_failures g) before after in
     let Q : ℕ → Type 0 = λ t. Took count (one_if ended) t before after in
-    let here = cut_held held [] held n length_is head_only found w (sym (append-nil held)) (let s = w.short in let d = length-drop n held in let k = found.0 in omega (arith, s, d, k)) in
     record {
       more = more;
       ended = ended;
@@ -169,7 +175,7 @@ body_stops used before after held held2 p q r n length_is count head_only g ende
         took = subst Q fails (subst P ends took);
         few = few;
         came_is = f.came;
-        needed = inr (inr (inr (head_only, cut_same (held ++ []) held head_only (ap front_of (sym (append-nil held))) here)));
+        needed = body_needed before after held more n length_is head_only found w each;
       };
       stops = stops (held ++ more) cut;
       puts = put_also x y;
@@ -179,19 +185,9 @@ body_stops used before after held held2 p q r n length_is count head_only g ende
 
 -- a body was read whole
 pub body_awaits : (used : ℕ) (before after : Given) (held held2 more : List ℕ) (n length_is count : ℕ) (head_only : Bool) → Fills before after held held2 more
-    → IsGathered held (gathered.Head n) → WantsBody held n length_is head_only → Took count 0 0 before after → used + count ≤ read_limit → Awaits used 0 0 before after held more
-body_awaits used before after held held2 more n length_is count head_only f found w took few =
-    let short = w.short in
-    let d = length-drop n held in
-    let k = found.0 in
-    let here = cut_held held [] held n length_is head_only found w (sym (append-nil held)) (omega (arith, short, d, k)) in
-    record {
-      count = count;
-      took = took;
-      few = few;
-      came_is = f.came;
-      needed = inr (inr (inr (head_only, cut_same (held ++ []) held head_only (ap front_of (sym (append-nil held))) here)));
-    }
+    → EachWhile (λ brought. length (held ++ brought) < n + length_is) before after more → IsGathered held (gathered.Head n) → WantsBody held n length_is head_only → Took count 0 0 before after → used + count ≤ read_limit → Awaits used 0 0 before after held more
+body_awaits used before after held held2 more n length_is count head_only f each found w took few =
+    record { count = count; took = took; few = few; came_is = f.came; needed = body_needed before after held more n length_is head_only found w each }
 
 -- the same head is not short again, where its body is whole
 pub never_short : (held more held2 : List ℕ) (n length_is m : ℕ) (head_only again : Bool) → IsGathered held (gathered.Head n)

@@ -1,9 +1,10 @@
 -- Reads, one after another.
-use Rattle.std.proofs.Common.{◌≡◌, ◌+◌, ◌<◌, ◌==◌, ℕ, zero, suc, List, [], ◌∷◌, ◌++◌, Option, Some, None, refl, sym, ap, ◌∙◌, subst, arith}
-use Rattle.std.proofs.lemmas.List.{append-nil, append_assoc, length-append}
+use Rattle.std.proofs.Common.{◌≡◌, ◌+◌, ◌<◌, ◌==◌, ◌⊎◌, inl, inr, ℕ, zero, suc, List, [], ◌∷◌, ◌++◌, length, take, sum, Option, Some, None, refl, sym, ap, ◌∙◌, subst, arith}
+use Rattle.std.proofs.lemmas.List.{append-nil, append_assoc, append_cancel_left, length-append, take-append-le}
 use Rattle.std.proofs.lemmas.List.Sums.{sum_by-append}
+use Rattle.std.proofs.Math.Seq.{take-append-add}
 use Rattle.std.specs.Io.KnownBytes.{prepend_known, Consumes, Keeps, IsAtEnd}
-use Rattle.af_http.specs.Streams.{Given, Took, StaysKnown, IsSilentLast, one_if}
+use Rattle.af_http.specs.Streams.{Given, Took, EachWhile, StaysKnown, IsSilentLast, one_if}
 
 gave_some : (n : ℕ) → 0 ≡ one_if (n == 0) → 0 < n
 gave_some zero e = absurd (omega (arith, e))
@@ -66,6 +67,56 @@ took_more {n} {m} {ends} {failures} {a} {b} {c} x y =
 -- so many reads, under another name of their number
 pub took_as : {n m ends failures : ℕ} {a b : Given} → n ≡ m → Took n ends failures a b → Took m ends failures a b
 took_as {ends = ends} {failures = failures} {a = a} {b = b} same x = subst (λ (k : ℕ). Took k ends failures a b) same x
+
+-- one of two lists, one behind the other, has the place of a number in both
+parted : (xs ys before after : List ℕ) (n : ℕ) → xs ++ ys ≡ before ++ n ∷ after
+    → ((mid : List ℕ) × (xs ≡ before ++ n ∷ mid)) ⊎ ((mid : List ℕ) × (before ≡ xs ++ mid) × (ys ≡ mid ++ n ∷ after))
+parted [] ys before after n e = inr (before, refl, e)
+parted (x ∷ xs) ys [] after n e = let p : x ≡ n = cc in inl (xs, ap (λ k. k ∷ xs) p)
+parted (x ∷ xs) ys (b ∷ before) after n e =
+    let p : x ≡ b = cc in
+    let q : xs ++ ys ≡ before ++ n ∷ after = cc in
+    elim (parted xs ys before after n q) [
+      | inl (mid, is) ↦ inl (mid, ap (λ t. x ∷ t) is ∙ ap (λ k. k ∷ (before ++ n ∷ mid)) p)
+      | inr (mid, is, rest) ↦ inr (mid, ap (λ t. b ∷ t) is ∙ ap (λ k. k ∷ (xs ++ mid)) (sym p), rest)
+    ]
+
+-- where no read was made
+pub each_none : (so : List ℕ → Type 0) (r : Given) → EachWhile so r r []
+each_none so r earlier later n is =
+    let size = ap length is ∙ length-append r.sizes (earlier ++ n ∷ later) in
+    let more = length-append earlier (n ∷ later) in
+    absurd (omega (arith, size, more))
+
+-- where one was
+pub each_one : (so : List ℕ → Type 0) {ends failures : ℕ} {a b : Given} (came : List ℕ) → Took 1 ends failures a b → so [] → EachWhile so a b came
+each_one so {ends} {failures} {a} {b} came t now earlier later n is =
+    let same : t.sizes ≡ earlier ++ n ∷ later = append_cancel_left a.sizes t.sizes (earlier ++ n ∷ later) (sym t.sizes_are ∙ is) in
+    let size = sym t.so_many ∙ ap length same ∙ length-append earlier (n ∷ later) in
+    by earlier (omega (arith, size))
+  where
+    by : (earlier : List ℕ) → length earlier ≡ 0 → so (take (sum earlier) came)
+    by [] e = now
+    by (m ∷ earlier) e = absurd (omega (arith, e))
+
+-- reads, and then others
+pub each_more : (so : List ℕ → Type 0) {k m ends failures : ℕ} {a b c : Given} (x y : List ℕ) → Took k 0 0 a b → b.bytes ≡ a.bytes ++ x → Took m ends failures b c
+    → EachWhile so a b x → EachWhile (λ t. so (x ++ t)) b c y → EachWhile so a c (x ++ y)
+each_more so {k} {m} {ends} {failures} {a} {b} {c} x y t came u first then earlier later n is =
+    let all : c.sizes ≡ a.sizes ++ (t.sizes ++ u.sizes) = u.sizes_are ∙ ap (λ s. s ++ u.sizes) t.sizes_are ∙ append_assoc a.sizes t.sizes u.sizes in
+    let same : t.sizes ++ u.sizes ≡ earlier ++ n ∷ later = append_cancel_left a.sizes (t.sizes ++ u.sizes) (earlier ++ n ∷ later) (sym all ∙ is) in
+    let gave = t.gave in
+    let long = ap length came ∙ length-append a.bytes x in
+    let size : length x ≡ sum t.sizes = omega (arith, gave, long) in
+    elim (parted t.sizes u.sizes earlier later n same) [
+      | inl (mid, at) ↦
+          let total = size ∙ ap sum at ∙ sum_by-append (λ n. n) earlier (n ∷ mid) in
+          subst so (sym (take-append-le (sum earlier) x y (omega (arith, total)))) (first earlier mid n (t.sizes_are ∙ ap (λ s. a.sizes ++ s) at))
+      | inr (mid, at, rest) ↦
+          let total : sum earlier ≡ length x + sum mid = ap sum at ∙ sum_by-append (λ n. n) t.sizes mid ∙ ap (λ k. k + sum mid) (sym size) in
+          let cut : take (sum earlier) (x ++ y) ≡ x ++ take (sum mid) y = ap (λ k. take k (x ++ y)) total ∙ take-append-add x y (sum mid) in
+          subst so (sym cut) (then mid later n (u.sizes_are ∙ ap (λ s. b.sizes ++ s) rest))
+    ]
 
 -- what std says of a reader's bytes, as what is known of all that come
 pub consumed : (x y : Option (List ℕ)) (given bytes : List ℕ) → Consumes x y bytes → StaysKnown (prepend_known given x) (prepend_known (given ++ bytes) y)

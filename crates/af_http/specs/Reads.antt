@@ -1,7 +1,7 @@
 -- How often the reader is read for each request of a run.
-use Rattle.std.specs.Prelude.{◌≡◌, ◌≤◌, ◌+◌, ◌*◌, ◌⊎◌, ℕ, Bool, List, [], ◌∷◌, ◌++◌, length}
+use Rattle.std.specs.Prelude.{◌≡◌, ◌≤◌, ◌+◌, ◌*◌, ℕ, Bool, List, [], ◌∷◌, ◌++◌, length}
 use Rattle.af_http.specs.Limits.{read_limit}
-use Rattle.af_http.specs.Streams.{Given, Took, one_if}
+use Rattle.af_http.specs.Streams.{Given, Took, EachWhile, one_if}
 use Rattle.af_http.specs.Requests.{Asked}
 use Rattle.af_http.specs.Reading.{Begins, IsOpen}
 use Rattle.af_http.specs.Run.{Exchange, asked_in}
@@ -9,17 +9,19 @@ use Rattle.af_http.specs.declared.ended.Ended.{Ended}
 use Rattle.af_http.specs.declared.ended.Ended.TheVariants as end
 
 -- From one moment of the reader to another these bytes came, behind those that were left: in no more reads than so many
--- before leave of those that one request may take, and in none where what was left holds a whole request, or is refused.
--- So many of the reads found the end, so many failed, and each other gave a byte.
+-- before leave of those that one request may take. At each read no request was whole, and none refused, in what was left
+-- with what had come by then. So none was made where what was left holds a whole request, or is refused, and none after the
+-- one that made it so. So many of the reads found the end, so many failed, and each other gave a byte.
 pub record Awaits (used ends failures : ℕ) (before after : Given) (left came : List ℕ) : Type 0 where
   pub count : ℕ
   pub took : Took count ends failures before after
   pub few : used + count ≤ read_limit
   pub came_is : after.bytes ≡ before.bytes ++ came
-  pub needed : ((count ≡ 0) × (came ≡ [])) ⊎ IsOpen left
+  pub needed : EachWhile (λ brought. IsOpen (left ++ brought)) before after came
 
 -- These requests were awaited one after another, each from the moment at which the one before it was whole: what was left
--- then, with the bytes that came since, begins with it.
+-- then, with the bytes that came since, begins with it. That is the first such moment, since no read was made from it on for
+-- the one before: so the reads of each request are its own.
 abbrev pub Awaited : Given → List ℕ → List Asked → Given → List ℕ → Type 0
 Awaited start left [] now rest = (now ≡ start) × (rest ≡ left)
 Awaited start left (asked ∷ more) now rest =

@@ -1,5 +1,5 @@
 -- What a reader has given and a writer has taken, from the first call to a moment.
-use Rattle.std.specs.Prelude.{◌≡◌, ◌+◌, ℕ, Bool, ◌&&◌, ◌==◌, ◌<◌, cond, nat_lt, List, [], ◌∷◌, ◌++◌, length, map, sum, Option, Some}
+use Rattle.std.specs.Prelude.{◌≡◌, ◌+◌, ℕ, Bool, ◌&&◌, ◌==◌, ◌<◌, cond, nat_lt, List, [], ◌∷◌, ◌++◌, length, take, map, sum, Option, Some}
 use Rattle.std.specs.Io.KnownBytes.{Appends}
 use Rattle.af_http.specs.Limits.{read_room}
 
@@ -72,6 +72,12 @@ pub record Took (count ends failures : ℕ) (old new : Given) : Type 0 where
   pub wide : new.narrow ≡ old.narrow
   pub known : StaysKnown old.whole new.whole
   pub whole : old.ends < new.ends → IsWhole new
+
+-- At each read between two moments this was so of what had come by then, since the first of them: of as many of these bytes
+-- as the reads before it gave.
+abbrev pub EachWhile : (List ℕ → Type 0) → Given → Given → List ℕ → Type 0
+EachWhile so old new came =
+    (earlier later : List ℕ) (n : ℕ) → new.sizes ≡ old.sizes ++ (earlier ++ n ∷ later) → so (take (sum earlier) came)
 
 -- a writer took more bytes, and holds them, where what it holds is known
 pub record Grew (old new : Taken) : Type 0 where

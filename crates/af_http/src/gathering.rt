@@ -2,7 +2,8 @@ ghost use Rattle.std.specs.Prelude.{◌≡◌, ℕ, ◌+◌, ◌<◌, ◌≤◌,
 ghost use Rattle.af_http.specs.Fronts.{front_of};
 ghost use Rattle.af_http.specs.Extents.{IsExtent, open_front};
 ghost use Rattle.af_http.specs.Limits.{head_limit, read_limit, unread_limit};
-ghost use Rattle.af_http.specs.Streams.{Took};
+ghost use Rattle.af_http.specs.Streams.{Took, EachWhile};
+ghost use Rattle.af_http.specs.Reading.{IsOpen};
 ghost use Rattle.af_http.specs.Gathering.{IsGathered, Holds, Fills, IsBodyGathered, ends_of, failures_of, body_ends, body_failures};
 
 use crate::extent::Extent;
@@ -110,7 +111,8 @@ pub fn gather<R: Source>(
     requires sound { waiting.now.failed ≡ false }
     requires open { front_of incoming.old ≡ open_front incoming.old }
     requires short { length incoming.old ≤ head_limit }
-    ensures holds { (more : List ℕ) × Holds (R.given reader.old) (R.given reader.new) incoming.old incoming.new more }
+    ensures holds { (more : List ℕ) × Holds (R.given reader.old) (R.given reader.new) incoming.old incoming.new more
+        × EachWhile (λ brought. IsOpen (incoming.old ++ brought)) (R.given reader.old) (R.given reader.new) more }
     ensures found { IsGathered incoming.new result.0 }
     ensures took { Took result.1 (ends_of result.0) (failures_of result.0) (R.given reader.old) (R.given reader.new) }
     ensures few { result.1 ≤ read_limit }
@@ -161,7 +163,8 @@ pub fn gather_body<R: Source>(
     requires short { length incoming.old < wanted }
     requires within { wanted ≤ unread_limit + 1 }
     requires few { before ≤ read_limit }
-    ensures came { (more : List ℕ) × Fills (R.given reader.old) (R.given reader.new) incoming.old incoming.new more }
+    ensures came { (more : List ℕ) × Fills (R.given reader.old) (R.given reader.new) incoming.old incoming.new more
+        × EachWhile (λ brought. length (incoming.old ++ brought) < wanted) (R.given reader.old) (R.given reader.new) more }
     ensures found { IsBodyGathered wanted incoming.new result.0 }
     ensures took { Took result.1 (body_ends result.0) (body_failures result.0) (R.given reader.old) (R.given reader.new) }
     ensures few { before + result.1 ≤ read_limit }

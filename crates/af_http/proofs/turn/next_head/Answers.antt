@@ -11,4 +11,4 @@ returns-in-Large-clause-holds g c = not_gathered _ _ _ _ _ c.go_on-in-Large.ensu
 pub returns-else-has_failed-clause-holds : goal.returns-else-has_failed-clause-holds
 returns-else-has_failed-clause-holds g c =
     gathered_more _ _ c.args.connection.now.incoming c.settle.new.incoming c.gather-found.new.incoming _ _
-    c.in-Part.ensures.same c.in-Part.ensures.extent c.gather-found.ensures.holds c.gather-found.ensures.took c.gather-found.ensures.few
+    c.in-Part.ensures.same c.gather-found.ensures.holds c.gather-found.ensures.took c.gather-found.ensures.few

@@ -58,7 +58,7 @@ returns-in-Whole g c =
     let e = c.answer_whole.ensures in
     let sound = sym c.has_failed.ensures ∙ c.if-has_failed.false in
     let awaits = body_awaits c.args.turn.used _ _ c.args.connection.now.incoming c.gather_body-found.new.incoming h.came.0 w.size w.length c.gather_body-found.result.1 w.head_only
-    h.came.1 c.requires.head c.requires.body (rw c.in-Whole.is at h.took) h.few in
+    h.came.1 h.came.2 c.requires.head c.requires.body (rw c.in-Whole.is at h.took) h.few in
     rw e.2 (
     message_turn g.S.Service.answers c.args.turn.used c.args.turn.count c.args.service.now _ _ c.args.connection.now.incoming h.came.0 c.gather_body-found.new.incoming _ _ _ c.answer_whole.new.service
     w.size e.0 c.answer_whole.result c.requires.head h.came.1.kept awaits c.flush.ensures.sent sound e.1
