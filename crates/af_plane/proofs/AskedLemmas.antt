@@ -1,5 +1,5 @@
--- An operation on the policy that a session decided on the board is a step of the world.
-use Rattle.std.proofs.Common.{◌≡◌, ◌∙◌, refl, sym, ap, subst, ℕ, ◌<◌, ◌≤◌, ◌+◌, List, [], ◌∷◌, Bool, true, false, ◌==◌, length, nat_lt, arith}
+-- An operation on the policy that a session decided on the board is a step of it, in each world over a sheet.
+use Rattle.std.proofs.Common.{◌≡◌, ◌∙◌, refl, sym, ap, subst, ℕ, ◌<◌, ◌≤◌, ◌+◌, List, [], Bool, true, false, ◌==◌, length, nat_lt, arith}
 use Rattle.std.specs.Prelude.{Option, Some, None, Result, Ok, Err, IsOk, slice_get, if◌then◌else◌}
 use Rattle.std.specs.Bool.{Decides}
 use Rattle.std.proofs.lemmas.Bool.{lt-leb}
@@ -31,15 +31,16 @@ use Rattle.af_audit.specs.Ledgers.{LedgerRows}
 use Rattle.af_board.specs.Drafted.{Received}
 use Rattle.af_board.specs.Marks.{Marked, Site, policy_of}
 use Rattle.af_world.specs.declared.session.Seen.{Seen}
-use Rattle.af_world.specs.Moving.{move_of}
+use Rattle.af_world.specs.Moving.{move_of, stays}
 use Rattle.af_world.specs.Publishing.{handed_in, lost, made, overtaken, publishing}
-use Rattle.af_world.specs.Worlds.{World}
+use Rattle.af_world.specs.Worlds.{World, policy_at, seen_by}
 use Rattle.af_plane.specs.Administered.{IsMade, IsOvertaken}
-use Rattle.af_plane.specs.Alone.{Administers, Holds, Sheet, Stands, ours, sheet, world_of}
+use Rattle.af_plane.specs.Alone.{Holds, Stands}
 use Rattle.af_plane.specs.Laws.{ChangesAreSteps, ReadingsAreSteps}
-use Rattle.af_plane.specs.Planes.{over}
+use Rattle.af_plane.specs.Sheets.{Administers, Sheet, having_seen, sheet, world_over}
 use Rattle.af_plane.specs.Visits.{Visit}
-use Rattle.af_plane.proofs.PolicyLemmas.{administers, freed, max_in}
+use Rattle.af_plane.proofs.PolicyLemmas.{administers, freed}
+use Rattle.af_plane.proofs.SheetLemmas.{is_there, seen_is}
 
 -- ---- what makes no version
 
@@ -70,9 +71,9 @@ module _ (versions : VersionRows) (site : Site) (m : Marked) (token : Option (Li
   served_there served.NothingDone is = refl
 
 pub readings_are_steps : ReadingsAreSteps
-readings_are_steps versions site m ledger token asked gave now state stands is =
-    subst (λ (v : ℕ). Administers (sheet versions ledger) v token asked gave (sheet versions ledger)) stands.current
-    (administers versions ledger token state asked gave versions (served_there versions site m token asked stands gave is.told))
+readings_are_steps session versions site m ledger token asked gave now state stands is =
+    subst (λ (v : ℕ). Administers session (sheet versions ledger) v token asked gave (sheet versions ledger)) stands.current
+    (administers session versions ledger token state asked gave versions (served_there versions site m token asked stands gave is.told))
 
 -- ---- what makes a version
 
@@ -112,9 +113,9 @@ module _ (versions : VersionRows) (site : Site) (r : Received) (stands : Stands 
       (ap (told_of (current versions)) verdict, ap (λ (it : PolicyVerdict). versions_after it versions) (sym verdict)))
 
 pub changes_are_steps : ChangesAreSteps
-changes_are_steps versions site r ledger token asked gave now state stands is =
-    subst (λ (v : ℕ). Administers (sheet versions ledger) v token asked gave (sheet (with_version versions (policy_of site r.mark)) ledger)) stands.current
-    (administers versions ledger token state asked gave (with_version versions (policy_of site r.mark)) (made_there versions site r stands token asked gave now is))
+changes_are_steps session versions site r ledger token asked gave now state stands is =
+    subst (λ (v : ℕ). Administers session (sheet versions ledger) v token asked gave (sheet (with_version versions (policy_of site r.mark)) ledger)) stands.current
+    (administers session versions ledger token state asked gave (with_version versions (policy_of site r.mark)) (made_there versions site r stands token asked gave now is))
 
 -- ---- what was overtaken
 
@@ -122,49 +123,57 @@ not_same : (n last : ℕ) (b : Bool) → n < last → Decides b (n ≡ last) →
 not_same n last true lt is = (let same = is.0 refl in absurd (omega (arith, lt, same)))
 not_same n last false lt is = refl
 
-module _ (old : Sheet) (seen : ℕ) (theirs : Seen) (holder : Option ℕ) (at : ℕ) (token : Option (List ℕ)) (change : Ask) where
-  abbrev here : World
-  here = world_of old seen theirs holder
+module _ (session : ℕ) (old : Sheet) (at : ℕ) (token : Option (List ℕ)) (change : Ask) (policy : PolicyRows) (known : slice_get (all_versions old.versions) at ≡ Some policy) (lt : at < current old.versions) (is : IsOk (decided policy token change)) where
+  lost_so : (w : World) (comes : Result PolicyRows Refusal) → IsOk comes → lost w session at change comes ≡ overtaken w session change
+  lost_so w (Ok later) is = refl
+  lost_so w (Err why) is = absurd (cc)
 
-  lost_so : (comes : Result PolicyRows Refusal) → IsOk comes → lost here 0 at change comes ≡ overtaken here 0 change
-  lost_so (Ok later) is = refl
-  lost_so (Err why) is = absurd (cc)
+  -- whether or not the session has seen a later version
+  by_seen : (w : World) (b : Bool) → (if b then overtaken w session change else (if at == current old.versions then made w session (policy_verdict old.versions token (asks.Change change)) else lost w session at change (decided policy token change))) ≡ overtaken w session change
+  by_seen w true = refl
+  by_seen w false =
+      ap (λ (b : Bool). if b then made w session (policy_verdict old.versions token (asks.Change change)) else lost w session at change (decided policy token change)) (not_same at (current old.versions) (at == current old.versions) lt (Decides-eqb at (current old.versions)))
+      ∙ lost_so w (decided policy token change) is
 
-  by_seen : (policy : PolicyRows) (b : Bool) → at < current old.versions → IsOk (decided policy token change) → (if b then overtaken here 0 change else (if at == current old.versions then made here 0 (policy_verdict old.versions token (asks.Change change)) else lost here 0 at change (decided policy token change))) ≡ overtaken here 0 change
-  by_seen policy true lt is = refl
-  by_seen policy false lt is =
-      ap (λ (b : Bool). if b then made here 0 (policy_verdict old.versions token (asks.Change change)) else lost here 0 at change (decided policy token change)) (not_same at (current old.versions) (at == current old.versions) lt (Decides-eqb at (current old.versions)))
-      ∙ lost_so (decided policy token change) is
+  pub is_lost : (holder : Option ℕ) (sessions : List Seen) (had : Seen) → slice_get sessions session ≡ Some had → publishing (world_over old holder sessions) session at token (asks.Change change) ≡ overtaken (world_over old holder sessions) session change
+  is_lost holder sessions had there =
+      let w : World = world_over old holder sessions in
+      ap (λ (b : Bool). if b then handed_in w session at token change (policy_at w at) else stays w) (is_there sessions session had there)
+      ∙ ap (handed_in w session at token change) known ∙ by_seen w (nat_lt at (seen_by w session).version)
 
-  pub is_lost : (policy : PolicyRows) → slice_get (all_versions old.versions) at ≡ Some policy → at < current old.versions → IsOk (decided policy token change) → publishing here 0 at token (asks.Change change) ≡ overtaken here 0 change
-  is_lost policy known lt is = ap (handed_in here 0 at token change) known ∙ by_seen policy (nat_lt at seen) lt is
-
-overtaken_moves : (old : Sheet) (seen : ℕ) (theirs : Seen) (holder : Option ℕ) (change : Ask) (shown : Shown) → seen ≤ current old.versions → told_of (current old.versions) (Refuses (submit_problem change (fault.Moved (current old.versions)))) ≡ Some shown → overtaken (world_of old seen theirs holder) 0 change ≡ move_of (Some shown) (world_of old (current old.versions) theirs (freed holder))
-overtaken_moves old seen theirs holder change shown le told =
-    ap (λ (answer : Option Shown). move_of answer (overtaken (world_of old seen theirs holder) 0 change).next) told
-    ∙ ap (λ (v : ℕ). move_of (Some shown) (over old.versions old.ledger (freed holder) (ours v old.ledger ∷ theirs ∷ []))) (max_in seen (current old.versions) le)
+overtaken_moves : (session : ℕ) (old : Sheet) (holder : Option ℕ) (sessions : List Seen) (had : Seen) (change : Ask) (shown : Shown) → slice_get sessions session ≡ Some had → had.version ≤ current old.versions → told_of (current old.versions) (Refuses (submit_problem change (fault.Moved (current old.versions)))) ≡ Some shown → overtaken (world_over old holder sessions) session change ≡ move_of (Some shown) (world_over old (freed session holder) (having_seen sessions session old had.entries))
+overtaken_moves session old holder sessions had change shown there le told =
+    let w : World = world_over old holder sessions in
+    ap (λ (answer : Option Shown). move_of answer (overtaken w session change).next) told
+    ∙ ap (λ (seen : List Seen). move_of (Some shown) (world_over old (freed session holder) seen)) (seen_is w session had (current old.versions) there le)
 
 -- a change that was overtaken is a step over a list that has the version decided under, and ends with the last one seen
-module _ (versions : VersionRows) (site : Site) (m : Marked) (ledger : LedgerRows) (token : Option (List ℕ)) (now : Visit) (state : IsState ledger.state) (holds : Holds versions site m) (ends : length now.pass.places ≡ length versions.earlier + 1) where
+module _ (session : ℕ) (versions : VersionRows) (site : Site) (m : Marked) (ledger : LedgerRows) (token : Option (List ℕ)) (now : Visit) (state : IsState ledger.state) (holds : Holds versions site m) (ends : length now.pass.places ≡ length versions.earlier + 1) where
+  abbrev before : Sheet
+  before = sheet versions ledger
+
   abbrev Lost : PolicyOp → Served → Type 0
-  Lost asked gave = Administers (sheet versions ledger) m.version token asked gave (sheet versions ledger)
+  Lost asked gave = Administers session before m.version token asked gave before
 
   lost_is : (change : Ask) (gave : Served) (version : ℕ) → m.version + 1 < length now.pass.places → IsOk (decided (policy_of site m) token change) → length now.pass.places ≡ version + 1 → IsToldUnder version (Refuses (submit_problem change (fault.Moved version))) gave → Lost (asks.Change change) gave
-  lost_is change (served.Shown shown) version later permitted is_last told =
-      λ seen theirs holder le. let number : version ≡ current versions = omega (arith, ends, is_last) in
+  lost_is change (served.Shown shown) version later permitted is_last told = λ holder sessions had there le.
+      let number : version ≡ current versions = omega (arith, ends, is_last) in
       let lt : m.version < current versions = omega (arith, ends, later) in
       let is : told_of (current versions) (Refuses (submit_problem change (fault.Moved (current versions)))) ≡ Some shown =
       subst (λ (v : ℕ). told_of v (Refuses (submit_problem change (fault.Moved v))) ≡ Some shown) number told in
-      let next : World = world_of (sheet versions ledger) (current versions) theirs (freed holder) in (
-        freed holder,
-        (
+      let next : World = world_over before (freed session holder) (having_seen sessions session before had.entries) in
+      record {
+        left = freed session holder;
+        entries = had.entries;
+        run = (
           next,
           state,
-          sym (is_lost (sheet versions ledger) seen theirs holder m.version token change (policy_of site m) holds lt permitted
-              ∙ overtaken_moves (sheet versions ledger) seen theirs holder change shown le is),
+          sym (is_lost session before m.version token change (policy_of site m) holds lt permitted holder sessions had there
+              ∙ overtaken_moves session before holder sessions had change shown there le is),
           refl,
-        ),
-      )
+        );
+        all = λ e. e;
+      }
   lost_is change served.NothingDone version later permitted is_last told = refl
 
   pub overtaken_is : (asked : PolicyOp) (gave : Served) → IsOvertaken site token asked gave now m → Lost asked gave

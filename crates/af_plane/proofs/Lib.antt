@@ -2,10 +2,15 @@ pub mod PlaneLemmas
 pub mod ActLemmas
 pub mod BlindLemmas
 pub mod VersionLemmas
+pub mod SheetLemmas
 pub mod PolicyLemmas
 pub mod TurnLemmas
 pub mod AskedLemmas
 pub mod SessionLemmas
+pub mod RunLemmas
 pub mod EventLemmas
+pub mod SharedLemmas
+mod ControlLemmas
 pub mod NameLemmas
 mod CallLemmas
+pub mod Threads

@@ -1,8 +1,8 @@
--- What is asked of the policy is a step of a session of the world.
-use Rattle.std.proofs.Common.{◌≡◌, ◌∙◌, refl, sym, ap, subst, ℕ, ◌<◌, ◌≤◌, List, [], ◌∷◌, ◌++◌, Bool, true, false, ◌==◌, length, length-append, nat_lt, arith}
-use Rattle.std.specs.Prelude.{Option, Some, None, Result, max, slice_get, if◌then◌else◌}
+-- What a session asks of the policy is a step of it, in each world over a sheet.
+use Rattle.std.proofs.Common.{◌≡◌, ◌∙◌, refl, sym, ap, subst, ℕ, ◌<◌, ◌≤◌, List, [], ◌∷◌, Bool, true, false, ◌==◌, length-append, nat_lt, arith}
+use Rattle.std.specs.Prelude.{Option, Some, None, Result, slice_get, if◌then◌else◌}
 use Rattle.std.specs.Bool.{Decides}
-use Rattle.std.proofs.lemmas.Bool.Decides.{Decides-eqb, Decides-ltb}
+use Rattle.std.proofs.lemmas.Bool.Decides.{Decides-ltb}
 use Rattle.af_role.specs.declared.need.Need.{Need}
 use Rattle.af_policy.specs.declared.ask.Ask.{Ask}
 use Rattle.af_policy.specs.declared.ask.Ask.TheVariants.{Bad}
@@ -25,17 +25,14 @@ use Rattle.af_audit.specs.Acts.{IsState}
 use Rattle.af_audit.specs.Ledgers.{LedgerRows}
 use Rattle.af_world.specs.declared.session.Seen.{Seen}
 use Rattle.af_world.specs.declared.step.Step.{Step}
-use Rattle.af_world.specs.Moving.{Move, move_of}
-use Rattle.af_world.specs.Publishing.{handed_in, lost, made, overtaken, publishing}
+use Rattle.af_world.specs.Moving.{Move, move_of, stays}
+use Rattle.af_world.specs.Publishing.{handed_in, lost, made, overtaken, publishing, with_made}
 use Rattle.af_world.specs.Steps.{Moves}
-use Rattle.af_world.specs.Worlds.{World, is_held}
-use Rattle.af_plane.specs.Alone.{Administers, Runs, Sheet, ours, policy_step, sheet, world_of}
-use Rattle.af_plane.specs.Planes.{over}
+use Rattle.af_world.specs.Worlds.{World, has_session, is_held, policy_at, seen_or_nothing}
+use Rattle.af_plane.specs.Sheets.{Administers, Runs, Sheet, having_seen, policy_step, sheet, world_over}
+use Rattle.af_plane.proofs.SheetLemmas.{is_there, latest_got, same_number, seen_is}
 
 -- ---- numbers
-
-pub max_in : (k n : ℕ) → k ≤ n → max k n ≡ n
-max_in k n le = omega (arith, le)
 
 not_below : (k n : ℕ) (b : Bool) → k ≤ n → Decides b (n < k) → b ≡ false
 not_below k n true le is = (let lt = is.0 refl in absurd (omega (arith, le, lt)))
@@ -45,9 +42,6 @@ not_below k n false le is = refl
 pub none_later : (k n : ℕ) → k ≤ n → nat_lt n k ≡ false
 none_later k n le = not_below k n (nat_lt n k) le (Decides-ltb n k)
 
-pub same_number : (n : ℕ) → (n == n) ≡ true
-same_number n = (Decides-eqb n n).1 refl
-
 -- ---- decided under the latest version
 
 -- no verdict leaves fewer versions
@@ -56,47 +50,50 @@ grows versions (Refuses problem) = omega arith
 grows versions (Tells reply) = omega arith
 grows versions (Publishes reply policy) = omega (arith, length-append versions.earlier (versions.latest ∷ []))
 
-later : (seen : ℕ) (versions : VersionRows) (it : PolicyVerdict) → seen ≤ current versions → max seen (current (versions_after it versions)) ≡ current (versions_after it versions)
-later seen versions it le = max_in seen (current (versions_after it versions)) (omega (arith, le, grows versions it))
-
--- the hold of our session ends
-abbrev pub freed : Option ℕ → Option ℕ
-freed holder = if is_held holder 0 then None else holder
+-- the hold of a session ends
+abbrev pub freed : ℕ → Option ℕ → Option ℕ
+freed session holder = if is_held holder session then None else holder
 
 abbrev pub with_versions : Sheet → PolicyVerdict → Sheet
 with_versions old it = sheet (versions_after it old.versions) old.ledger
 
-made_alone : (old : Sheet) (seen : ℕ) (theirs : Seen) (holder : Option ℕ) (it : PolicyVerdict) (shown : Shown) → seen ≤ current old.versions → told_of (current old.versions) it ≡ Some shown → made (world_of old seen theirs holder) 0 it ≡ move_of (Some shown) (world_of (with_versions old it) (current (versions_after it old.versions)) theirs (freed holder))
-made_alone old seen theirs holder it shown le told =
-    ap (λ (answer : Option Shown). move_of answer (made (world_of old seen theirs holder) 0 it).next) told
-    ∙ ap (λ (v : ℕ). move_of (Some shown) (over (versions_after it old.versions) old.ledger (freed holder) (ours v old.ledger ∷ theirs ∷ []))) (later seen old.versions it le)
+module _ (old : Sheet) (holder : Option ℕ) (sessions : List Seen) (session : ℕ) (had : Seen) (there : slice_get sessions session ≡ Some had) (le : had.version ≤ current old.versions) where
+  abbrev here : World
+  here = world_over old holder sessions
+
+  made_over : (it : PolicyVerdict) (shown : Shown) → told_of (current old.versions) it ≡ Some shown → made here session it ≡ move_of (Some shown) (world_over (with_versions old it) (freed session holder) (having_seen sessions session (with_versions old it) had.entries))
+  made_over it shown told =
+      ap (λ (answer : Option Shown). move_of answer (made here session it).next) told
+      ∙ ap (λ (seen : List Seen). move_of (Some shown) (world_over (with_versions old it) (freed session holder) seen))
+      (seen_is (with_made here it) session had (current (versions_after it old.versions)) there (omega (arith, le, grows old.versions it)))
+
+  -- a change that is handed in under the latest version is decided there
+  pub publishes : (token : Option (List ℕ)) (ask : Ask) → publishing here session (current old.versions) token (asks.Change ask) ≡ made here session (policy_verdict old.versions token (asks.Change ask))
+  publishes token ask =
+      let n : ℕ = current old.versions in
+      ap (λ (b : Bool). if b then handed_in here session n token ask (policy_at here n) else stays here) (is_there sessions session had there)
+      ∙ ap (handed_in here session n token ask) (latest_got old.versions.earlier old.versions.latest)
+      ∙ ap (λ (o : Option Seen). if nat_lt n (seen_or_nothing o).version then overtaken here session ask else (if n == n then made here session (policy_verdict old.versions token (asks.Change ask)) else lost here session n ask (decided old.versions.latest token ask))) there
+      ∙ ap (λ (b : Bool). if b then overtaken here session ask else (if n == n then made here session (policy_verdict old.versions token (asks.Change ask)) else lost here session n ask (decided old.versions.latest token ask))) (none_later had.version n le)
+      ∙ ap (λ (b : Bool). if b then made here session (policy_verdict old.versions token (asks.Change ask)) else lost here session n ask (decided old.versions.latest token ask)) (same_number n)
 
 -- a step that is decided so is a run
-module _ (old : Sheet) (s : Step) (it : PolicyVerdict) (shown : Shown) where
+module _ (session : ℕ) (old : Sheet) (s : Step) (it : PolicyVerdict) (shown : Shown) where
   -- in each world over it the step is decided so
   abbrev pub IsMadeBy : Type 0
   IsMadeBy =
-      (seen : ℕ) (theirs : Seen) (holder : Option ℕ) (m : Move) → seen ≤ current old.versions → m ≡ made (world_of old seen theirs holder) 0 it
-      → Moves (world_of old seen theirs holder) s m
+      (holder : Option ℕ) (sessions : List Seen) (had : Seen) (m : Move) → slice_get sessions session ≡ Some had → had.version ≤ current old.versions
+      → m ≡ made (world_over old holder sessions) session it → Moves (world_over old holder sessions) s m
 
-  pub made_run : IsMadeBy → told_of (current old.versions) it ≡ Some shown → IsState old.ledger.state → Runs old (s ∷ []) (Some shown ∷ []) (with_versions old it)
-  made_run fits told state seen theirs holder le =
-      let next : World = world_of (with_versions old it) (current (versions_after it old.versions)) theirs (freed holder) in
-      (freed holder, (next, state, fits seen theirs holder (move_of (Some shown) next) le (sym (made_alone old seen theirs holder it shown le told)), refl))
-
--- ---- a change is handed in under the latest version
-
-pub latest_got : {X : Type 0} → (xs : List X) (x : X) → slice_get (xs ++ x ∷ []) (length xs) ≡ Some x
-latest_got [] x = refl
-latest_got (y ∷ xs) x = latest_got xs x
-
-pub publishes : (old : Sheet) (seen : ℕ) (theirs : Seen) (holder : Option ℕ) (token : Option (List ℕ)) (ask : Ask) → seen ≤ current old.versions → publishing (world_of old seen theirs holder) 0 (current old.versions) token (asks.Change ask) ≡ made (world_of old seen theirs holder) 0 (policy_verdict old.versions token (asks.Change ask))
-publishes old seen theirs holder token ask le =
-    let w : World = world_of old seen theirs holder in
-    let n : ℕ = current old.versions in
-    ap (handed_in w 0 n token ask) (latest_got old.versions.earlier old.versions.latest)
-    ∙ ap (λ (b : Bool). if b then overtaken w 0 ask else (if n == n then made w 0 (policy_verdict old.versions token (asks.Change ask)) else lost w 0 n ask (decided old.versions.latest token ask))) (none_later seen n le)
-    ∙ ap (λ (b : Bool). if b then made w 0 (policy_verdict old.versions token (asks.Change ask)) else lost w 0 n ask (decided old.versions.latest token ask)) (same_number n)
+  pub made_run : IsMadeBy → told_of (current old.versions) it ≡ Some shown → IsState old.ledger.state → Runs session old (s ∷ []) (Some shown ∷ []) (with_versions old it)
+  made_run fits told state holder sessions had there le =
+      let next : World = world_over (with_versions old it) (freed session holder) (having_seen sessions session (with_versions old it) had.entries) in
+      record {
+        left = freed session holder;
+        entries = had.entries;
+        run = (next, state, fits holder sessions had (move_of (Some shown) next) there le (sym (made_over old holder sessions session had there le it shown told)), refl);
+        all = λ e. e;
+      }
 
 -- ---- a change whose body was not read
 
@@ -122,23 +119,34 @@ module _ (versions : VersionRows) (kind : ChangeKind) (shown : Shown) where
 
 -- ---- every operation on the policy
 
-module _ (versions : VersionRows) (ledger : LedgerRows) (token : Option (List ℕ)) (state : IsState ledger.state) where
-  told_policy : (asked : PolicyOp) (shown : Shown) → told_of (current versions) (policy_verdict versions token asked) ≡ Some shown → Runs (sheet versions ledger) (policy_step (current versions) token asked ∷ []) (Some shown ∷ []) (with_versions (sheet versions ledger) (policy_verdict versions token asked))
+module _ (session : ℕ) (versions : VersionRows) (ledger : LedgerRows) (token : Option (List ℕ)) (state : IsState ledger.state) where
+  abbrev before : Sheet
+  before = sheet versions ledger
+
+  -- a reading of a session that is there is decided under the latest version
+  read_so : (asked : PolicyOp) (holder : Option ℕ) (sessions : List Seen) (had : Seen) → slice_get sessions session ≡ Some had → made (world_over before holder sessions) session (policy_verdict versions token asked) ≡ (if has_session (world_over before holder sessions) session then made (world_over before holder sessions) session (policy_verdict versions token asked) else stays (world_over before holder sessions))
+  read_so asked holder sessions had there =
+      let w : World = world_over before holder sessions in
+      sym (ap (λ (b : Bool). if b then made w session (policy_verdict versions token asked) else stays w) (is_there sessions session had there))
+
+  pub told_policy : (asked : PolicyOp) (shown : Shown) → told_of (current versions) (policy_verdict versions token asked) ≡ Some shown → Runs session before (policy_step session (current versions) token asked ∷ []) (Some shown ∷ []) (with_versions before (policy_verdict versions token asked))
   told_policy asks.Me shown told =
-      made_run (sheet versions ledger) (policy_step (current versions) token asks.Me) (policy_verdict versions token asks.Me) shown (λ seen theirs holder m le e. e) told state
+      made_run session before (policy_step session (current versions) token asks.Me) (policy_verdict versions token asks.Me) shown
+      (λ holder sessions had m there le e. e ∙ read_so asks.Me holder sessions had there) told state
   told_policy (asks.Read asked) shown told =
-      made_run (sheet versions ledger) (policy_step (current versions) token (asks.Read asked)) (policy_verdict versions token (asks.Read asked)) shown (λ seen theirs holder m le e. e) told state
+      made_run session before (policy_step session (current versions) token (asks.Read asked)) (policy_verdict versions token (asks.Read asked)) shown
+      (λ holder sessions had m there le e. e ∙ read_so (asks.Read asked) holder sessions had there) told state
   told_policy (asks.Change ask) shown told =
-      made_run (sheet versions ledger) (policy_step (current versions) token (asks.Change ask)) (policy_verdict versions token (asks.Change ask)) shown
-      (λ seen theirs holder m le e. e ∙ sym (publishes (sheet versions ledger) seen theirs holder token ask le)) told state
+      made_run session before (policy_step session (current versions) token (asks.Change ask)) (policy_verdict versions token (asks.Change ask)) shown
+      (λ holder sessions had m there le e. e ∙ sym (publishes before holder sessions session had there le token ask)) told state
   told_policy (asks.Unread kind) shown told =
       let alike = unread_alike versions kind shown token told in
       let none : Ask = Bad kind input.Body in
-      subst (λ (v : VersionRows). Runs (sheet versions ledger) (policy_step (current versions) token (asks.Unread kind) ∷ []) (Some shown ∷ []) (sheet v ledger)) alike.left
-      (made_run (sheet versions ledger) (policy_step (current versions) token (asks.Unread kind)) (policy_verdict versions token (asks.Change none)) shown
-      (λ seen theirs holder m le e. e ∙ sym (publishes (sheet versions ledger) seen theirs holder token none le)) alike.told state)
+      subst (λ (v : VersionRows). Runs session before (policy_step session (current versions) token (asks.Unread kind) ∷ []) (Some shown ∷ []) (sheet v ledger)) alike.left
+      (made_run session before (policy_step session (current versions) token (asks.Unread kind)) (policy_verdict versions token (asks.Change none)) shown
+      (λ holder sessions had m there le e. e ∙ sym (publishes before holder sessions session had there le token none)) alike.told state)
 
-  pub administers : (asked : PolicyOp) (gave : Served) (left : VersionRows) → IsPolicyServed asked versions token gave left → Administers (sheet versions ledger) (current versions) token asked gave (sheet left ledger)
+  pub administers : (asked : PolicyOp) (gave : Served) (left : VersionRows) → IsPolicyServed asked versions token gave left → Administers session before (current versions) token asked gave (sheet left ledger)
   administers asked (served.Shown shown) left is =
-      subst (λ (v : VersionRows). Runs (sheet versions ledger) (policy_step (current versions) token asked ∷ []) (Some shown ∷ []) (sheet v ledger)) (sym is.1) (told_policy asked shown is.0)
+      subst (λ (v : VersionRows). Runs session before (policy_step session (current versions) token asked ∷ []) (Some shown ∷ []) (sheet v ledger)) (sym is.1) (told_policy asked shown is.0)
   administers asked served.NothingDone left is = ap (λ (v : VersionRows). sheet v ledger) is

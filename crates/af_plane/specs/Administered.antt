@@ -1,6 +1,7 @@
 -- What an operation on the policy comes to on a board: it is decided under the last version that the session has then seen, of which the
 -- session keeps the mark; a change that is permitted makes the next version, of which it keeps the receipt (this product's own rule).
 use Rattle.std.specs.Prelude.{◌≡◌, ◌+◌, ◌<◌, ◌≤◌, ℕ, List, length, Option, Some, None, IsOk}
+use mathlib.Core.List.{IsPrefix}
 use Rattle.boxcar.specs.Table.{Where}
 use Rattle.af_policy.specs.declared.ask.Ask.{Ask}
 use Rattle.af_policy.specs.declared.ask.Ask.TheVariants as ask
@@ -24,7 +25,7 @@ use Rattle.af_board.specs.Faults.{mark_of}
 use Rattle.af_board.specs.Marks.{IsLast, IsOf, Marked, Site, policy_of}
 use Rattle.af_plane.specs.declared.grounds.Grounds.{Grounds}
 use Rattle.af_plane.specs.declared.grounds.Grounds.TheVariants.{Made, Overtaken, Spent, Under}
-use Rattle.af_plane.specs.Looks.{Basis, HasSame, IsMissed, Missed, On, Openly, base_of, held, versions_made}
+use Rattle.af_plane.specs.Looks.{Basis, HasSame, IsMissed, IsOn, Missed, On, Openly, base_of, held, versions_made}
 use Rattle.af_plane.specs.Visits.{Visit}
 
 -- a verdict that makes no version was served under this one
@@ -100,3 +101,11 @@ abbrev pub IsAdministered : Site → Option (List ℕ) → PolicyOp → Visit �
 IsAdministered site token asked was gave now Openly = ⊥
 IsAdministered site token asked was gave now Missed = IsMissed was gave now × (now.pass.deeds ≡ was.pass.deeds) × (was.pass.steps < now.pass.steps)
 IsAdministered site token asked was gave now (On grounds) = IsGivenOn site token asked was gave now grounds
+
+-- A session asked the board. It is still on that board, has still seen all versions that it had seen, and was shown no entry.
+pub record HasAsked (site : Site) (token : Option (List ℕ)) (asked : PolicyOp) (was : Visit) (gave : Served) (now : Visit) : Type 0 where
+  pub on : IsOn site now
+  pub longer : IsPrefix was.pass.places now.pass.places
+  pub entries : now.entries ≡ was.entries
+  pub basis : Basis
+  pub administered : IsAdministered site token asked was gave now basis

@@ -20,9 +20,10 @@ use Rattle.af_world.specs.declared.step.Step.TheVariants as step
 use Rattle.af_world.specs.Runs.{Reaches}
 use Rattle.af_world.specs.Worlds.{OpeningRows}
 use Rattle.af_plane.specs.declared.grounds.Grounds.TheVariants.{Made, Overtaken, Spent, Under}
-use Rattle.af_plane.specs.Alone.{Holds, Stands, policy_step, sheet, world_of}
+use Rattle.af_plane.specs.Alone.{Holds, Stands, world_of}
 use Rattle.af_plane.specs.Looks.{Basis, Missed, On, Openly}
 use Rattle.af_plane.specs.Requests.{RequestRows}
+use Rattle.af_plane.specs.Sheets.{policy_step, sheet}
 use Rattle.af_plane.specs.Solos.{IsAnswered}
 use Rattle.af_plane.specs.Visits.{SoloRows, Visit}
 
@@ -38,33 +39,37 @@ steps_in turns = map (λ turn. turn.0) turns
 abbrev pub answers_in : List AnsweredStep → List (Option Shown)
 answers_in turns = map (λ turn. turn.1) turns
 
--- ---- of one call
+-- ---- of one call of a session
 
 -- the session looks, and acts; where there was no memory it has looked
-abbrev pub turns_on_plane : Option (List ℕ) → Call → ℕ → Served → List AnsweredStep
-turns_on_plane token asked t (served.Shown shown) = (step.Look 0, None) ∷ (step.Act 0 token asked t, Some shown) ∷ []
-turns_on_plane token asked t served.NothingDone = (step.Look 0, None) ∷ []
+abbrev pub turns_on_plane : ℕ → Option (List ℕ) → Call → ℕ → Served → List AnsweredStep
+turns_on_plane session token asked t (served.Shown shown) = (step.Look session, None) ∷ (step.Act session token asked t, Some shown) ∷ []
+turns_on_plane session token asked t served.NothingDone = (step.Look session, None) ∷ []
 
 -- the step of an operation on the policy, decided under a version; where there was no memory there is none
-abbrev pub turns_on_policy : ℕ → Option (List ℕ) → PolicyOp → Served → List AnsweredStep
-turns_on_policy version token asked (served.Shown shown) = (policy_step version token asked, Some shown) ∷ []
-turns_on_policy version token asked served.NothingDone = []
+abbrev pub turns_on_policy : ℕ → ℕ → Option (List ℕ) → PolicyOp → Served → List AnsweredStep
+turns_on_policy session version token asked (served.Shown shown) = (policy_step session version token asked, Some shown) ∷ []
+turns_on_policy session version token asked served.NothingDone = []
 
 -- what a call is in the world that was decided under a version
-abbrev pub turns_under : ℕ → Option (List ℕ) → Call → ℕ → Served → List AnsweredStep
-turns_under version token (call.State asked) t gave = turns_on_plane token (call.State asked) t gave
-turns_under version token (call.Entries window) t gave = turns_on_plane token (call.Entries window) t gave
-turns_under version token (call.Policy asked) t gave = turns_on_policy version token asked gave
+abbrev pub turns_under : ℕ → ℕ → Option (List ℕ) → Call → ℕ → Served → List AnsweredStep
+turns_under session version token (call.State asked) t gave = turns_on_plane session token (call.State asked) t gave
+turns_under session version token (call.Entries window) t gave = turns_on_plane session token (call.Entries window) t gave
+turns_under session version token (call.Policy asked) t gave = turns_on_policy session version token asked gave
 
 -- What a call is in the world, by what its answer rests on. What was decided under no version is no step; nor is a change for which the board
 -- had no place, since the world has one.
+abbrev pub turns_by : ℕ → RequestRows → Served → Basis → List AnsweredStep
+turns_by session asked gave Openly = []
+turns_by session asked gave Missed = []
+turns_by session asked gave (On (Under m)) = turns_under session m.version asked.token asked.call asked.at gave
+turns_by session asked gave (On (Made r)) = turns_under session r.base.version asked.token asked.call asked.at gave
+turns_by session asked gave (On (Overtaken m)) = turns_under session m.version asked.token asked.call asked.at gave
+turns_by session asked gave (On (Spent m pushed)) = []
+
+-- the session of a server for one thread is the first
 abbrev pub turns_of : RequestRows → Served → Basis → List AnsweredStep
-turns_of asked gave Openly = []
-turns_of asked gave Missed = []
-turns_of asked gave (On (Under m)) = turns_under m.version asked.token asked.call asked.at gave
-turns_of asked gave (On (Made r)) = turns_under r.base.version asked.token asked.call asked.at gave
-turns_of asked gave (On (Overtaken m)) = turns_under m.version asked.token asked.call asked.at gave
-turns_of asked gave (On (Spent m pushed)) = []
+turns_of asked gave basis = turns_by 0 asked gave basis
 
 -- the list of versions is the one that there is: where a call is decided, it ends with the version decided under; where a change was
 -- overtaken, that version is one of it, and it ends with the last that the session has then seen

@@ -8,6 +8,8 @@ pub mod Turns
 pub mod Administered
 pub mod Names
 pub mod Solos
+pub mod Sheets
 pub mod Alone
 pub mod Events
+pub mod Shared
 pub mod Laws

@@ -59,6 +59,21 @@ pub record HasMet (old : PlaneRows) (was : Visit) (new : PlaneRows) (now : Visit
   pub deeds : new.pass.deeds ≡ old.pass.deeds + was.pass.deeds + 2
   pub given : now.pass.deeds ≡ new.pass.deeds
 
+-- A session has visited a plane, which did not look: both are over one board and one keeper still, and have seen the same of both, and all
+-- that either had seen; the session holds the mark that it had.
+pub record HasVisited (site : Site) (id : TableId) (old : PlaneRows) (was : Visit) (new : PlaneRows) (now : Visit) : Type 0 where
+  pub over : AreOver site id new now
+  pub longer : IsPrefix was.pass.places now.pass.places
+  pub plane_longer : IsPrefix old.pass.places new.pass.places
+  pub places : now.pass.places ≡ new.pass.places
+  pub begins : IsPrefix was.entries.entries old.keeper.entries
+  pub entries : now.entries ≡ new.keeper
+  pub grounds : now.grounds ≡ was.grounds
+  -- by a meeting and two splits, and nothing else: no version was published
+  pub steps : new.pass.steps ≡ old.pass.steps + 1
+  pub deeds : new.pass.deeds ≡ old.pass.deeds + was.pass.deeds + 2
+  pub given : now.pass.deeds ≡ new.pass.deeds
+
 -- where a version is the last one of which a session held the mark, both marks have one policy
 abbrev pub HasSame : Site → Grounds → Marked → Type 0
 HasSame site was m = m.version ≡ (held was).version → policy_of site m ≡ policy_of site (held was)

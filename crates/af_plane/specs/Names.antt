@@ -1,11 +1,12 @@
--- Which board, keeper and opening state a control has, and what a call of one of its sessions comes to (this product's own rule).
+-- Which board, keeper and opening state a control has, and what one of its sessions comes to where it has the lock (this product's own rule).
 use Rattle.std.specs.Prelude.{◌≡◌, ℕ, [], Some}
 use mathlib.Core.List.{IsPrefix}
 use Rattle.atomic_table.specs.Seated.{TableId}
 use Rattle.af_sched.specs.State.{StateRows}
 use Rattle.af_ops.specs.declared.served.Served.{Served}
-use Rattle.af_audit.specs.Ledgers.{IsLedger}
+use Rattle.af_audit.specs.Ledgers.{IsLedger, LedgerRows}
 use Rattle.af_board.specs.Marks.{Site}
+use Rattle.af_plane.specs.Looks.{HasVisited}
 use Rattle.af_plane.specs.Requests.{RequestRows}
 use Rattle.af_plane.specs.Turns.{IsTurn}
 use Rattle.af_plane.specs.Visits.{PlaneRows, Visit}
@@ -45,13 +46,24 @@ pub record IsNamed (name : Name) (plane : PlaneRows) : Type 0 where
   pub ledger : IsLedger plane.ledger
   pub entries : plane.keeper.entries ≡ plane.ledger.audit.entries
 
--- A call of a session is a turn on the plane that the name means, as it was when the lock was taken; it and the plane that the call leaves
--- are that plane.
+-- A call of a session is a turn on a plane that the name means, and leaves such a plane. Which one it finds is not said but that the session
+-- had seen no more entries than that plane has.
 pub record IsCall (name : Name) (asked : RequestRows) (was : Visit) (gave : Served) (now : Visit) : Type 0 where
   pub old : PlaneRows
   pub new : PlaneRows
   pub found : IsNamed name old
   pub left : IsNamed name new
   pub turn : IsTurn name.site asked old was (Some gave) new now
-  -- the session has still seen all that it had seen, and what the plane had seen of the board
+  -- the session has still seen all versions that it had seen, and the plane all that the plane had
   pub longer : IsPrefix was.pass.places now.pass.places
+  pub plane_longer : IsPrefix old.pass.places new.pass.places
+
+-- What the scheduler or an executor does to the ledger of the plane that the name means, while a session of theirs has the lock. It is done
+-- under the version at which that plane looked last.
+pub record IsDone (name : Name) (was now : Visit) (Does : LedgerRows → LedgerRows → Type 0) : Type 0 where
+  pub old : PlaneRows
+  pub new : PlaneRows
+  pub found : IsNamed name old
+  pub left : IsNamed name new
+  pub visited : HasVisited name.site name.keeper old was new now
+  pub does : Does old.ledger new.ledger

@@ -1,5 +1,5 @@
 // What the calls are in the world. Each law is the contract of a function that does nothing.
-ghost use Rattle.af_plane.specs.Laws.{AppliesAreActs, ChangesAreSteps, EntriesAreGranted, EventsAreOneRun, LooksAreLooks, NamedVersionsNeverFall, ReadingsAreSteps, TurnsLookAndAct, VersionsFollow};
+ghost use Rattle.af_plane.specs.Laws.{AppliesAreActs, CallsAreEvents, CallsOfAllAreOneRun, ChangesAreSteps, DeedsAreEvents, EntriesAreGranted, EntriesOfAllAreGranted, EventsAreOneRun, LooksAreLooks, NamedVersionsNeverFall, OperationsAreEvents, ReadingsAreSteps, TurnsLookAndAct, VersionsFollow, VersionsOfAllFollow, VersionsToldToEachClimb};
 
 use af_world::laws;
 
@@ -13,17 +13,17 @@ pub fn applies_are_acts()
     ensures { AppliesAreActs }
 {}
 
-/// A turn on the plane is a look and an act of the world.
+/// A turn of a session on the plane is a look and an act of it in the world.
 pub fn turns_look_and_act()
     ensures { TurnsLookAndAct }
 {}
 
-/// An operation on the policy that makes no version is one step of the world.
+/// An operation on the policy that makes no version is one step of its session in the world.
 pub fn readings_are_steps()
     ensures { ReadingsAreSteps }
 {}
 
-/// A change that makes a version is one step of the world.
+/// A change that makes a version is one step of its session in the world.
 pub fn changes_are_steps()
     ensures { ChangesAreSteps }
 {}
@@ -53,3 +53,48 @@ pub fn versions_follow()
 pub fn named_versions_never_fall()
     ensures { NamedVersionsNeverFall }
 {}
+
+/// A call of a session on a plane behind a lock is an event there: a turn on the plane that was found under the lock.
+pub fn calls_are_events()
+    ensures { CallsAreEvents }
+{}
+
+/// So is what a session asks of the policy, which leaves the plane.
+pub fn operations_are_events()
+    ensures { OperationsAreEvents }
+{}
+
+/// So is what the scheduler or an executor does, while a session of theirs has the lock.
+pub fn deeds_are_events()
+    ensures { DeedsAreEvents }
+{}
+
+/// All calls of any number of sessions over one plane behind a lock, in the order in which they took it, with what they ask of the policy and
+/// the ticks, claims and reports between, are one run of the world of as many sessions: its steps are those of the events, and its answers
+/// those that were given.
+pub fn calls_of_all_are_one_run()
+    ensures { CallsOfAllAreOneRun }
+{}
+
+/// After any such events of all sessions, each user's entry stands under a version in which that user's roles list a permission for each
+/// requirement, on the state before it.
+pub fn entries_of_all_are_granted()
+    ensures { EntriesOfAllAreGranted }
+{
+    laws::entries_are_granted();
+}
+
+/// After any such events of all sessions, each later version is made of the one before it by an author whose roles there list all that the
+/// change requires.
+pub fn versions_of_all_follow()
+    ensures { VersionsOfAllFollow }
+{
+    laws::versions_follow();
+}
+
+/// The versions that the answers to one of the sessions name never fall, whatever the others do between.
+pub fn versions_told_to_each_climb()
+    ensures { VersionsToldToEachClimb }
+{
+    laws::answered_versions_climb();
+}

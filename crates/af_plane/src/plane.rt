@@ -25,6 +25,7 @@ use std::alloc::Global;
 use std::marker::Model;
 
 mod turning;
+mod visiting;
 
 /// The ledger of a world, with a pass of a board of versions of the policy, and the keeper of its entries, which shows them to sessions. It
 /// decides under the version that it looked at last, which its pass has seen.

@@ -1,3 +1,7 @@
+ghost use Rattle.std.specs.Prelude.{◌≡◌};
+ghost use Rattle.std.specs.Option.{option_copied};
+
+use af_audit::Presented;
 use af_names::Instant;
 use af_ops::Call;
 use std::marker::Model;
@@ -5,7 +9,7 @@ use std::marker::Model;
 /// What is asked: a call, the token that came with it, and the time at which it is decided.
 #[derive(Drop)]
 pub struct Request<'a> {
-    pub token: Option<&'a [u8]>,
+    pub token: Option<&'a Presented<'a>>,
     pub call: &'a Call,
     pub at: Instant,
 }
@@ -17,4 +21,16 @@ impl<'a> Model for Request<'a> {
     ghost Value = { RequestRows };
 
     ghost view = { λ request. record { token = option_copied request.token; call = request.call.now; at = request.at } };
+}
+
+impl<'a> Request<'a> {
+    /// The bytes of the token.
+    pub fn bytes(&self) -> Option<&[u8]>
+        ensures { option_copied result ≡ self.now.token }
+    {
+        match self.token {
+            Some(token) => Some(token.bytes()),
+            None => None,
+        }
+    }
 }

@@ -68,11 +68,12 @@ impl Session {
         let _seen = self.pass.seen();
     }
 
-    /// The last version that it has seen.
-    pub fn seen(&self) -> u32
-        ensures { length self.now.pass.places ≡ result + 1 }
+    /// The last version that it has seen, and how many entries it has seen.
+    pub fn seen(&self) -> (u32, u32)
+        ensures version { length self.now.pass.places ≡ result.0 + 1 }
+        ensures entries { length self.now.entries.entries ≡ result.1 }
     {
-        self.pass.seen().version
+        (self.pass.seen().version, self.witness.count())
     }
 
     /// Looks at the last version of the board that the session is on, and gives its mark. `NotFound` if the policy of that version is not to

@@ -24,9 +24,10 @@ impl<N: Named> Model for Visitor<N> {
 }
 
 impl<N: Named> Visitor<N> {
-    /// The last version that it has seen.
-    pub fn seen(&self) -> u32
-        ensures { length self.now.pass.places ≡ result + 1 }
+    /// The last version that it has seen, and how many entries it has seen.
+    pub fn seen(&self) -> (u32, u32)
+        ensures version { length self.now.pass.places ≡ result.0 + 1 }
+        ensures entries { length self.now.entries.entries ≡ result.1 }
     {
         self.session.seen()
     }

@@ -12,6 +12,7 @@ use crate::grounds::Grounds;
 use crate::plane::Plane;
 use crate::request::Request;
 use crate::session::Session;
+use af_audit::Presented;
 use af_board::{Board, Mark, NotFound};
 use af_names::Instant;
 use af_ops::{Call, Op, Served, route_of, serve_no_policy};
@@ -80,7 +81,7 @@ impl Plane {
         &mut self,
         alloc: Global,
         board: &Board,
-        token: Option<&[u8]>,
+        token: Option<&Presented<'_>>,
         op: &Op,
         now: Instant,
     ) -> Served

@@ -92,7 +92,7 @@ impl Session {
             }
             Err(_) => {
                 self.grounds = Grounds::Overtaken(base);
-                let version = self.seen();
+                let (version, _) = self.seen();
                 serve_fault(alloc, ask, &Refusal::Moved(version), version)
             }
         }

@@ -39,5 +39,6 @@ returns g c =
       turn =
           subst (λ (s : Site). IsTurn s c.args.request.now c.args.self.now.plane c.args.session.now (Some c.in-Some.served) c.turn-turn.new.self c.turn-turn.new.session) c.requires.board
           (subst (λ (v : Visit). IsTurn c.args.board.now c.args.request.now c.args.self.now.plane v (Some c.in-Some.served) c.turn-turn.new.self c.turn-turn.new.session) c.session.view_is c.in-Some.ensures.turn);
+      plane_longer = c.turn-turn.ensures.plane_longer;
       longer = subst (λ (v : Visit). IsPrefix v.pass.places c.turn-turn.new.session.pass.places) c.session.view_is c.turn-turn.ensures.session_longer;
     }

@@ -17,4 +17,4 @@ returns-in-Err-clause-given c token author =
     overtaken_in c.args.board.now c.args.draft c.args.self.now (record { pass = c.publish.new.pass; entries = c.self.inside.witness; grounds = grounds.Overtaken c.again-base.result }) c.in-Err.field-0 c.requires.last
     (subst (λ (p : Sight). IsPrefix p.places c.publish.new.pass.places) (ap (λ (v : Visit). v.pass) c.self.view_is) c.in-Err.ensures.looked.longer)
     (ap grounds.Overtaken (c.again-base.ensures ∙ c.base.ensures))
-    token c.args.ask.now c.serve_fault.result c.seen-version.result c.requires.draft c.requires.change author c.in-Err.ensures.err c.seen-version.ensures c.serve_fault.ensures
+    token c.args.ask.now c.serve_fault.result c.seen-version.result.0 c.requires.draft c.requires.change author c.in-Err.ensures.err c.seen-version.ensures.version c.serve_fault.ensures

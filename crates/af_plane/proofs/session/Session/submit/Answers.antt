@@ -1,0 +1,11 @@
+use Rattle.af_plane.specs.Looks.{On}
+use Rattle.af_plane.proofs.session.Session.submit.Goals as goal
+
+pub returns-in-Ok : goal.returns-in-Ok
+returns-in-Ok g c = record {
+  on = c.in-Ok.ensures.on;
+  longer = c.in-Ok.ensures.longer;
+  entries = c.in-Ok.ensures.entries;
+  basis = On c.change.new.self.grounds;
+  administered = c.in-Ok.ensures.given;
+}
