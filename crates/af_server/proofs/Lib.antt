@@ -7,3 +7,4 @@ pub mod LawLemmas
 pub mod VerifiedLemmas
 pub mod VariableLemmas
 pub mod ConfigurationLemmas
+pub mod ProgramLemmas

@@ -1,38 +1,85 @@
 -- What the words that the program is given ask for (this product's own rule).
-use Rattle.std.specs.Prelude.{◌≡◌, ℕ, List, [], ◌∷◌, codes, bytes_eq, string_bytes, Option, Some, None, Ok, IsErr, MatchBool}
+use Rattle.std.specs.Prelude.{◌≡◌, ◌⊎◌, ◌+◌, ◌*◌, ◌-◌, ◌&&◌, ℕ, Bool, List, [], ◌∷◌, bytes_eq, codes, cond, min, nat_le, nat_lt, string_bytes, Option, Some, None, Ok, IsErr, MatchBool}
+use Rattle.std.specs.Char.{is_ascii_digit}
 use Rattle.af_names.specs.Instants.{instant_of}
 use Rattle.af_server.specs.declared.command.Command.{Command}
-use Rattle.af_server.specs.declared.command.Command.TheVariants.{Once, Verify, Usage}
+use Rattle.af_server.specs.declared.command.Command.TheVariants.{Once, Serve, Verify, Usage}
 
--- the two or three words after the program's name, where there are no more and no fewer
-abbrev pub few_words : List (List ℕ) → Option (List ℕ × List ℕ × Option (List ℕ))
-few_words (program ∷ verb ∷ path ∷ []) = Some (verb, path, None)
-few_words (program ∷ verb ∷ path ∷ moment ∷ []) = Some (verb, path, Some moment)
+-- the two to four words after the program's name, where there are no more and no fewer
+abbrev pub few_words : List (List ℕ) → Option (List ℕ × List ℕ × Option (List ℕ) × Option (List ℕ))
+few_words (program ∷ verb ∷ path ∷ []) = Some (verb, path, None, None)
+few_words (program ∷ verb ∷ path ∷ third ∷ []) = Some (verb, path, Some third, None)
+few_words (program ∷ verb ∷ path ∷ third ∷ fourth ∷ []) = Some (verb, path, Some third, Some fourth)
 few_words words = None
+
+-- ---- numbers
+
+-- what a greater number counts as
+abbrev pub most_number : ℕ
+most_number = 65_536
+
+-- the number that decimal digits write behind this one, if all are digits
+abbrev pub digits_from : ℕ → List ℕ → Option ℕ
+digits_from n [] = Some n
+digits_from n (b ∷ bytes) = cond (is_ascii_digit b) (digits_from (min (n * 10 + (b - 48)) most_number) bytes) None
+
+-- the number that a text writes, if it is decimal digits, and one at least; one past 65,536 counts as that
+abbrev pub number_in : List ℕ → Option ℕ
+number_in [] = None
+number_in (b ∷ bytes) = digits_from 0 (b ∷ bytes)
+
+-- a number, if it is one of these
+abbrev pub among : (ℕ → Bool) → Option ℕ → Option ℕ
+among fits None = None
+among fits (Some n) = cond (fits n) (Some n) None
+
+-- a port is a number from 0 to 65,535
+abbrev pub port_in : List ℕ → Option ℕ
+port_in text = among (λ n. nat_lt n most_number) (number_in text)
+
+-- there are 1 to 16 workers
+abbrev pub count_in : List ℕ → Option ℕ
+count_in text = among (λ n. nat_le 1 n && nat_le n 16) (number_in text)
+
+-- ---- commands
 
 -- one connection under the configuration at this path, at the moment that this text states; where it states none, how the
 -- program is called is asked for
 abbrev pub AsksOnce : List ℕ → List ℕ → Command → Type 0
 AsksOnce path moment (Once config now) = (string_bytes config ≡ path) × (instant_of moment ≡ Ok now)
+AsksOnce path moment (Serve config port count) = ⊥
 AsksOnce path moment (Verify trace) = ⊥
 AsksOnce path moment Usage = IsErr (instant_of moment)
+
+-- a server under the configuration at this path, on the port and with the number of workers that these texts state; where one of them states
+-- none, how the program is called is asked for
+abbrev pub AsksServe : List ℕ → List ℕ → List ℕ → Command → Type 0
+AsksServe path port workers (Once config now) = ⊥
+AsksServe path port workers (Serve config p count) = (string_bytes config ≡ path) × (port_in port ≡ Some p) × (count_in workers ≡ Some count)
+AsksServe path port workers (Verify trace) = ⊥
+AsksServe path port workers Usage = (port_in port ≡ None) ⊎ (count_in workers ≡ None)
 
 -- whether the answers of the trace at this path are those of the run of its steps
 abbrev pub AsksVerify : List ℕ → Command → Type 0
 AsksVerify path (Once config now) = ⊥
+AsksVerify path (Serve config port count) = ⊥
 AsksVerify path (Verify trace) = string_bytes trace ≡ path
 AsksVerify path Usage = ⊥
 
--- `verify` and a path; `once`, a path and a moment; of other words how the program is called is asked for
-abbrev pub AsksOf : List ℕ → List ℕ → Option (List ℕ) → Command → Type 0
-AsksOf verb path None command =
+-- `verify` and a path; `once`, a path and a moment; `serve`, a path, a port and a number of workers; of other words how the program is called
+-- is asked for
+abbrev pub AsksOf : List ℕ → List ℕ → Option (List ℕ) → Option (List ℕ) → Command → Type 0
+AsksOf verb path None None command =
     MatchBool (bytes_eq verb (codes "verify")) (AsksVerify path command) (command ≡ Usage)
-AsksOf verb path (Some moment) command =
+AsksOf verb path (Some moment) None command =
     MatchBool (bytes_eq verb (codes "once")) (AsksOnce path moment command) (command ≡ Usage)
+AsksOf verb path (Some port) (Some workers) command =
+    MatchBool (bytes_eq verb (codes "serve")) (AsksServe path port workers command) (command ≡ Usage)
+AsksOf verb path None (Some word) command = command ≡ Usage
 
-abbrev pub AsksFew : Option (List ℕ × List ℕ × Option (List ℕ)) → Command → Type 0
+abbrev pub AsksFew : Option (List ℕ × List ℕ × Option (List ℕ) × Option (List ℕ)) → Command → Type 0
 AsksFew None command = command ≡ Usage
-AsksFew (Some words) command = AsksOf words.0 words.1 words.2 command
+AsksFew (Some words) command = AsksOf words.0 words.1 words.2 words.3 command
 
 -- what the words ask for, of which the first is the program's name
 abbrev pub Asks : List (List ℕ) → Command → Type 0

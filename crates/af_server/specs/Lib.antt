@@ -20,4 +20,5 @@ pub mod Tellings
 pub mod Verified
 pub mod Verdicts
 pub mod Programs
+pub mod Workers
 pub mod Worked

@@ -8,7 +8,6 @@ use Rattle.af_server.specs.declared.reason.Reason.{Reason}
 use Rattle.af_server.specs.declared.reason.Reason.TheVariants.{Memory}
 use Rattle.af_server.specs.Configurations.{ConfigurationRows, configuration_of}
 use Rattle.af_server.specs.Desks.{Decides, DeskRows, IsKept, IsOpened}
-use Rattle.af_server.specs.Files.{CameWhole, IsFileFault}
 use Rattle.af_server.specs.WorldRuns.{AreOneRun}
 
 -- The exchanges of a connection from a desk under a configuration on, one after another, each answered by the verdict on the desk that the
@@ -33,9 +32,3 @@ IsOnce bytes now before after start finish (Ok ended) =
     × ((old : DeskRows) × ((left : DeskRows) × Serves configuration now before after start finish old left ended × IsKept configuration left))
 IsOnce bytes now before after start finish (Err reason) =
     ((configuration_of bytes ≡ Err reason) ⊎ (reason ≡ Memory)) × IsUntouched before after start finish
-
--- The same under the configuration that a file holds; where the file can't be had whole, the reason is told of that.
-abbrev pub IsOnceOf : Given → Given → ℕ → Given → Given → Taken → Taken → Result Ended Reason → Type 0
-IsOnceOf file file' now before after start finish outcome =
-    ((bytes : List ℕ) × CameWhole file file' bytes × IsOnce bytes now before after start finish outcome)
-    ⊎ ((reason : Reason) × IsFileFault file file' reason × (outcome ≡ Err reason) × IsUntouched before after start finish)

@@ -1,28 +1,58 @@
--- What the program does of what its words ask for: it finds the file at the path, and serves one connection under what it holds, or checks
--- what it records (this product's own rule).
-use Rattle.std.specs.Prelude.{◌≡◌, ◌⊎◌, ℕ, List, Bool, string_bytes, Result, Err}
+-- What the program does of what its words ask for: it finds the file at the path, and serves under what it holds, or checks what it records
+-- (this product's own rule).
+use Rattle.std.specs.Prelude.{◌≡◌, ◌⊎◌, ◌++◌, ◌∷◌, ℕ, List, [], Bool, codes, decimal, string_bytes, Option, Some, None, Result, Ok, Err, IsOk}
 use Rattle.af_http.specs.Streams.{Given, Taken}
 use Rattle.af_http.specs.declared.ended.Ended.{Ended}
 use Rattle.af_server.specs.declared.command.Command.{Command}
-use Rattle.af_server.specs.declared.command.Command.TheVariants.{Once, Verify, Usage}
+use Rattle.af_server.specs.declared.command.Command.TheVariants.{Once, Serve, Verify, Usage}
 use Rattle.af_server.specs.declared.reason.Reason.{Reason}
-use Rattle.af_server.specs.Once.{IsOnceOf, IsUntouched}
-use Rattle.af_server.specs.Tellings.{Tells, said_of, status_of, usage_line}
+use Rattle.af_server.specs.declared.reason.Reason.TheVariants.{Memory}
+use Rattle.af_server.specs.Configurations.{ConfigurationRows, configuration_of}
+use Rattle.af_server.specs.Once.{IsOnce, IsUntouched}
+use Rattle.af_server.specs.Tellings.{Tells, refusal_line, said_of, status_of, usage_line}
 use Rattle.af_server.specs.Verdicts as verdicts
-use Rattle.af_server.specs.Verdicts.{IsVerifiedOf, printed_of, refused_of}
+use Rattle.af_server.specs.Verdicts.{printed_of, refused_of}
+use Rattle.af_server.specs.Verified.{IsVerified}
 
--- Holds: what a reader of the file at a path gave before anything was read of it. Refuses: why there is no such reader.
-module _ (Holds : List ℕ → Given → Type 0) (Refuses : List ℕ → Reason → Type 0) where
-  -- one connection under the configuration that the file at a path holds; where that can't be opened, why is told
+-- ---- the server
+
+-- What became of a server: the bytes of its configuration were accepted, and it said on which port it listens, or said nothing since it could
+-- not. Nothing more is said of it: not which port that is, nor what its workers did. Where the bytes are refused, or there is no memory for
+-- what they say, the reason is told.
+abbrev pub IsServed : List ℕ → Result (Option ℕ) Reason → Type 0
+IsServed bytes (Ok port) = (configuration : ConfigurationRows) × (configuration_of bytes ≡ Ok configuration)
+IsServed bytes (Err reason) = (configuration_of bytes ≡ Err reason) ⊎ (reason ≡ Memory)
+
+abbrev pub listening_line : ℕ → List ℕ
+listening_line port = codes "listening on 127.0.0.1:" ++ (decimal port ++ 10 ∷ [])
+
+-- what is printed, what is told on standard error, and the status
+abbrev pub announced : Result (Option ℕ) Reason → List ℕ
+announced (Ok None) = []
+announced (Ok (Some port)) = listening_line port
+announced (Err reason) = []
+
+abbrev pub blamed : Result (Option ℕ) Reason → List ℕ
+blamed (Ok port) = []
+blamed (Err reason) = refusal_line reason
+
+abbrev pub served_status : Result (Option ℕ) Reason → ℕ
+served_status (Ok port) = 1
+served_status (Err reason) = 3
+
+-- Holds: what the file at a path may hold. Refuses: why it may not be had.
+module _ (Holds : List ℕ → List ℕ → Type 0) (Refuses : List ℕ → Reason → Type 0) where
+  -- what comes of a file: it was read, and this comes of its bytes; or it can't be had, or there is no memory for it
+  abbrev pub Comes : {X : Type 0} → List ℕ → (List ℕ → Result X Reason → Type 0) → Result X Reason → Type 0
+  Comes path Of outcome =
+      ((bytes : List ℕ) × Holds path bytes × Of bytes outcome)
+      ⊎ ((reason : Reason) × (Refuses path reason ⊎ (reason ≡ Memory)) × (outcome ≡ Err reason))
+
+  -- one connection under the configuration that the file at a path holds; where that can't be had, nothing is read and nothing is written
   abbrev pub IsOnceAt : List ℕ → ℕ → Given → Given → Taken → Taken → Result Ended Reason → Type 0
   IsOnceAt path now before after start finish outcome =
-      ((file : Given) × ((file' : Given) × Holds path file × IsOnceOf file file' now before after start finish outcome))
-      ⊎ ((reason : Reason) × Refuses path reason × (outcome ≡ Err reason) × IsUntouched before after start finish)
-
-  abbrev pub IsVerifiedAt : List ℕ → Result Bool Reason → Type 0
-  IsVerifiedAt path outcome =
-      ((file : Given) × ((file' : Given) × Holds path file × IsVerifiedOf file file' outcome))
-      ⊎ ((reason : Reason) × Refuses path reason × (outcome ≡ Err reason))
+      ((bytes : List ℕ) × Holds path bytes × IsOnce bytes now before after start finish outcome)
+      ⊎ ((reason : Reason) × (Refuses path reason ⊎ (reason ≡ Memory)) × (outcome ≡ Err reason) × IsUntouched before after start finish)
 
   -- ---- with what is told on standard error, and the status
 
@@ -31,14 +61,45 @@ module _ (Holds : List ℕ → Given → Type 0) (Refuses : List ℕ → Reason 
       (outcome : Result Ended Reason) × IsOnceAt path now before after start finish outcome × Tells told told' (said_of outcome)
       × (status ≡ status_of outcome)
 
-  -- nothing is read, and what is found out is printed
+  -- nothing is read of standard input, and where the server listens is printed
+  abbrev pub RunsServe : List ℕ → Given → Given → Taken → Taken → Taken → Taken → ℕ → Type 0
+  RunsServe path before after start finish told told' status =
+      (outcome : Result (Option ℕ) Reason) × Comes path IsServed outcome × (after ≡ before) × Tells start finish (announced outcome)
+      × Tells told told' (blamed outcome) × (status ≡ served_status outcome)
+
+  -- nothing is read of standard input, and what is found out is printed
   abbrev pub RunsVerify : List ℕ → Given → Given → Taken → Taken → Taken → Taken → ℕ → Type 0
   RunsVerify path before after start finish told told' status =
-      (outcome : Result Bool Reason) × IsVerifiedAt path outcome × (after ≡ before) × Tells start finish (printed_of outcome)
+      (outcome : Result Bool Reason) × Comes path IsVerified outcome × (after ≡ before) × Tells start finish (printed_of outcome)
       × Tells told told' (refused_of outcome) × (status ≡ verdicts.status_of outcome)
 
   -- by what is asked for; of wrong words how the program is called
   abbrev pub Runs : Command → Given → Given → Taken → Taken → Taken → Taken → ℕ → Type 0
   Runs (Once config now) before after start finish told told' status = RunsOnce (string_bytes config) now before after start finish told told' status
+  Runs (Serve config port count) before after start finish told told' status = RunsServe (string_bytes config) before after start finish told told' status
   Runs (Verify trace) before after start finish told told' status = RunsVerify (string_bytes trace) before after start finish told told' status
   Runs Usage before after start finish told told' status = IsUntouched before after start finish × Tells told told' usage_line × (status ≡ 2)
+
+  -- ---- what a refusal shows
+
+  -- Where the file at a path is never refused, and all that it may hold is a configuration, there is an error for want of memory alone: no
+  -- program can leave the file unread and say that it is unreadable. Of one connection:
+  abbrev pub OnceReads : Type 0
+  OnceReads =
+      (path : List ℕ) (now : ℕ) (before after : Given) (start finish : Taken) (reason : Reason)
+      → ((why : Reason) → Refuses path why → ⊥) → ((bytes : List ℕ) → Holds path bytes → IsOk (configuration_of bytes))
+      → IsOnceAt path now before after start finish (Err reason) → reason ≡ Memory
+
+  -- and of a server
+  abbrev pub ServeReads : Type 0
+  ServeReads =
+      (path : List ℕ) (reason : Reason)
+      → ((why : Reason) → Refuses path why → ⊥) → ((bytes : List ℕ) → Holds path bytes → IsOk (configuration_of bytes))
+      → Comes path IsServed (Err reason) → reason ≡ Memory
+
+  -- the same of a trace, where nothing but want of memory refuses what the file may hold
+  abbrev pub VerifyReads : Type 0
+  VerifyReads =
+      (path : List ℕ) (reason : Reason)
+      → ((why : Reason) → Refuses path why → ⊥) → ((bytes : List ℕ) (why : Reason) → Holds path bytes → IsVerified bytes (Err why) → why ≡ Memory)
+      → Comes path IsVerified (Err reason) → reason ≡ Memory

@@ -1,16 +1,7 @@
 -- What is told of a trace, and the status that the program ends with (this product's own rule).
-use Rattle.std.specs.Prelude.{◌≡◌, ◌⊎◌, ℕ, List, [], codes, Bool, true, false, Result, Ok, Err}
-use Rattle.af_http.specs.Streams.{Given}
+use Rattle.std.specs.Prelude.{ℕ, List, [], codes, Bool, true, false, Result, Ok, Err}
 use Rattle.af_server.specs.declared.reason.Reason.{Reason}
-use Rattle.af_server.specs.Files.{CameWhole, IsFileFault}
 use Rattle.af_server.specs.Tellings.{refusal_line}
-use Rattle.af_server.specs.Verified.{IsVerified}
-
--- of the trace that a file holds; where the file can't be had whole, the reason is told of that
-abbrev pub IsVerifiedOf : Given → Given → Result Bool Reason → Type 0
-IsVerifiedOf file file' outcome =
-    ((bytes : List ℕ) × CameWhole file file' bytes × IsVerified bytes outcome)
-    ⊎ ((reason : Reason) × IsFileFault file file' reason × (outcome ≡ Err reason))
 
 -- what is printed
 abbrev pub printed_of : Result Bool Reason → List ℕ

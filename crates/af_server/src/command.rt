@@ -1,8 +1,10 @@
 // The words that the program is given.
 ghost use Rattle.std.specs.Prelude.{◌≡◌, map, option_map, string_bytes};
 ghost use Rattle.std.specs.Vec.Iter.{into_iter_items};
-ghost use Rattle.af_server.specs.Commands.{Asks, AsksOf, AsksOnce, few_words};
+ghost use Rattle.af_server.specs.Commands.{Asks, AsksOf, AsksOnce, AsksServe, few_words, port_in};
 
+use crate::number::number_in;
+use crate::worker_count::WorkerCount;
 use af_names::Instant;
 use std::env;
 
@@ -10,9 +12,20 @@ use std::env;
 #[derive(Drop)]
 pub enum Command {
     /// One connection from standard input to standard output, under the configuration at this path, at this moment.
-    Once { config: String, now: Instant },
+    Once {
+        config: String,
+        now: Instant,
+    },
+    /// A server on this port of 127.0.0.1, under the configuration at this path, with so many workers.
+    Serve {
+        config: String,
+        port: u16,
+        count: WorkerCount,
+    },
     /// Whether the answers of the trace at this path are those of the run of its steps.
-    Verify { trace: String },
+    Verify {
+        trace: String,
+    },
     /// Anything else.
     Usage,
 }
@@ -23,18 +36,21 @@ impl Command {
         ensures { Asks (map string_bytes (into_iter_items words)) result }
     {
         match few(words) {
-            Some((verb, path, moment)) => Command::of(verb.as_str(), path, moment),
+            Some((verb, path, third, fourth)) => Command::of(verb.as_str(), path, third, fourth),
             None => Command::Usage,
         }
     }
 
-    /// What this verb, a path and perhaps a moment ask for.
-    fn of(verb: &str, path: String, moment: Option<String>) -> Command
-        ensures { AsksOf verb.now (string_bytes path) (option_map string_bytes moment) result }
+    /// What this verb, a path, and perhaps one or two words more ask for.
+    fn of(verb: &str, path: String, third: Option<String>, fourth: Option<String>) -> Command
+        ensures { AsksOf verb.now (string_bytes path) (option_map string_bytes third) (option_map string_bytes fourth) result }
     {
-        match moment {
-            None if verb == "verify" => Command::Verify { trace: path },
-            Some(now) if verb == "once" => Command::once(path, now.as_str()),
+        match (third, fourth) {
+            (None, None) if verb == "verify" => Command::Verify { trace: path },
+            (Some(now), None) if verb == "once" => Command::once(path, now.as_str()),
+            (Some(port), Some(count)) if verb == "serve" => {
+                Command::serve(path, port.as_str(), count.as_str())
+            }
             _ => Command::Usage,
         }
     }
@@ -48,19 +64,47 @@ impl Command {
             Err(_) => Command::Usage,
         }
     }
+
+    /// A server under the configuration at this path, on the port and with the number of workers that the texts state.
+    fn serve(config: String, port: &str, count: &str) -> Command
+        ensures { AsksServe (string_bytes config) port.now count.now result }
+    {
+        match (port_in(port), WorkerCount::read(count)) {
+            (Some(port), Some(count)) => Command::Serve {
+                config,
+                port,
+                count,
+            },
+            _ => Command::Usage,
+        }
+    }
 }
 
-/// The words after the program's name, where they are two or three.
-fn few(mut words: env::Args) -> Option<(String, String, Option<String>)>
-    ensures { option_map (λ found. (string_bytes found.0, string_bytes found.1, option_map string_bytes found.2)) result
+/// The port that a text states, from 0 to 65,535.
+fn port_in(text: &str) -> Option<u16>
+    ensures { result ≡ port_in text.now }
+{
+    match number_in(text.as_bytes()) {
+        Some(number) => u16::try_from(number).ok(),
+        None => None,
+    }
+}
+
+/// Two to four words after the program's name.
+type Few = (String, String, Option<String>, Option<String>);
+
+/// The words after the program's name, where they are two to four.
+fn few(mut words: env::Args) -> Option<Few>
+    ensures { option_map (λ found. (string_bytes found.0, string_bytes found.1, option_map string_bytes found.2, option_map string_bytes found.3)) result
         ≡ few_words (map string_bytes (into_iter_items words)) }
 {
     let _program = words.next()?;
     let verb = words.next()?;
     let path = words.next()?;
-    let moment = words.next();
+    let third = words.next();
+    let fourth = words.next();
     match words.next() {
         Some(_) => None,
-        None => Some((verb, path, moment)),
+        None => Some((verb, path, third, fourth)),
     }
 }

@@ -3,6 +3,7 @@ ghost use Rattle.af_plane.specs.Solos.{IsSolo};
 ghost use Rattle.af_server.specs.Desks.{Decides, IsOpened};
 
 use crate::config::Configuration;
+use af_audit::LastToken;
 use af_board::OutOfMemory;
 use af_http::Service;
 use af_names::Instant;
@@ -19,6 +20,7 @@ pub struct Desk<'a, H: Wait> {
     alloc: Global,
     solo: Solo,
     now: Instant,
+    last_token: LastToken,
 }
 
 impl<'a, H: Wait> Model for Desk<'a, H> {
@@ -52,6 +54,7 @@ impl<'a, H: Wait> Desk<'a, H> {
             alloc,
             solo,
             now,
+            last_token: LastToken::new(),
         })
     }
 
@@ -67,8 +70,9 @@ impl<'a, H: Wait> Service for Desk<'a, H> {
     ghost answers = { λ old token call served new. Decides old token call served new };
 
     fn answer(&mut self, token: Option<&[u8]>, call: &Call) -> Served {
+        let presented = self.last_token.present(token);
         let request = Request {
-            token,
+            token: presented.as_ref(),
             call,
             at: self.now,
         };

@@ -1,7 +1,7 @@
 // Files of at most 16 MiB.
-ghost use Rattle.std.specs.Prelude.{◌≡◌, ◌≢◌, ◌≤◌, ◌<◌, ◌⊎◌, ℕ, List, [], true, false, length, vec_len, IfOk, IfErr};
+ghost use Rattle.std.specs.Prelude.{◌≡◌, ◌≢◌, ◌≤◌, ◌<◌, ◌⊎◌, ℕ, List, true, false, length, vec_len, IfOk, IfErr};
 ghost use Rattle.std.specs.IoError.{error_kind};
-ghost use Rattle.af_http.specs.Streams.{Given, IsWhole};
+ghost use Rattle.af_http.specs.Streams.{IsWhole};
 ghost use Rattle.af_server.specs.Configurations.{longest};
 ghost use Rattle.af_server.specs.Files.{CameWhole, IsFileFault, IsPiece, IsPieceFault};
 ghost use Rattle.af_server.specs.declared.reason.Reason.{Reason};
@@ -18,32 +18,28 @@ const PIECE: usize = 16 * 1024;
 
 /// Where files are found.
 pub trait Files {
-    /// A reader of a file.
-    type File: Source + Drop;
+    /// Whether the file at a path may hold these bytes.
+    ghost holds: { Self → List ℕ → List ℕ → Type 0 };
 
-    /// Whether a reader of the file at a path, of which nothing was read yet, may have given this.
-    ghost holds: { Self → List ℕ → Given → Type 0 };
-
-    /// Whether the file at a path may not be opened for this reason.
+    /// Whether the file at a path may not be had for this reason.
     ghost refuses: { Self → List ℕ → Reason → Type 0 };
 
-    /// Opens the file at a path.
-    fn open(&self, path: &str) -> Result<Self::File, Reason>
-        ensures opened { IfOk result (λ file. holds self.now path.now (Self.File.given file)) }
-        ensures refused { IfErr result (λ reason. refuses self.now path.now reason) };
+    /// Reads the file at a path to its end. `Memory` where a growth was refused.
+    fn read(&self, alloc: Global, path: &str) -> Result<Vec<u8>, Reason>
+        ensures held { IfOk result (λ bytes. holds self.now path.now bytes.items) }
+        ensures refused { IfErr result (λ reason. refuses self.now path.now reason ⊎ (reason ≡ Reason.Memory)) };
 }
 
-/// The machine's files. Nothing is said of what they hold. `Memory` only where the system says so, else `Unreadable`.
+/// The machine's files. Nothing is said of what they hold. `Unreadable` where a file can't be opened, where a read fails, and where it holds
+/// more than 16 MiB.
 impl Files for HostRuntime {
-    type File = Counted<File>;
+    ghost holds = { λ machine path bytes. length bytes ≤ longest };
 
-    ghost holds = { λ machine path given. given.bytes ≡ [] };
+    ghost refuses = { λ machine path reason. reason ≡ Reason.Unreadable };
 
-    ghost refuses = { λ machine path reason. (reason ≡ Reason.Unreadable) ⊎ (reason ≡ Reason.Memory) };
-
-    fn open(&self, path: &str) -> Result<Counted<File>, Reason> {
+    fn read(&self, alloc: Global, path: &str) -> Result<Vec<u8>, Reason> {
         match File::open(self, path) {
-            Ok(file) => Ok(Counted::new(file)),
+            Ok(file) => read_whole(alloc, &mut Counted::new(file)),
             Err(error) => Err(open_fault(&error)),
         }
     }
@@ -66,6 +62,7 @@ pub fn open_fault(error: &io::Error) -> Reason
 pub fn read_whole<F: Source>(alloc: Global, file: &mut F) -> Result<Vec<u8>, Reason>
     ensures whole { IfOk result (λ bytes. CameWhole (F.given file.old) (F.given file.new) bytes.items) }
     ensures fault { IfErr result (IsFileFault (F.given file.old) (F.given file.new)) }
+    ensures reason { IfErr result (λ reason. (reason ≡ Reason.Unreadable) ⊎ (reason ≡ Reason.Memory)) }
 {
     let mut bytes = Vec::new(alloc);
     while read_piece(file, &mut bytes)? {}

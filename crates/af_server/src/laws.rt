@@ -1,5 +1,7 @@
 ghost use Rattle.af_server.specs.Laws.{AnsweredVersionsClimb, CallsAreAll, DesksAnswerAlike, DesksOpenAlike, EntriesAreGranted, ExchangesAreOneRun, OneReading, VersionsFollow};
+ghost use Rattle.af_server.specs.Programs.{OnceReads, ServeReads, VerifyReads};
 
+use crate::files::Files;
 use af_plane::laws;
 
 /// All exchanges from a desk under a configuration on are one run of the world, whatever others publish between them: its steps are those of
@@ -52,4 +54,12 @@ pub fn desks_answer_alike()
 /// writes, and, but for what it can't see, the desk that it leaves.
 pub fn a_text_has_one_reading()
     ensures { OneReading }
+{}
+
+/// A file that is never refused is read: of files that say what they hold, no program can leave a configuration or a trace unread and say that
+/// it is unreadable. The machine's files say nothing, and may always be refused.
+pub fn files_are_read<F: Files>()
+    ensures once { (files : F) → OnceReads (F.holds files) (F.refuses files) }
+    ensures serve { (files : F) → ServeReads (F.holds files) (F.refuses files) }
+    ensures verify { (files : F) → VerifyReads (F.holds files) (F.refuses files) }
 {}

@@ -1,33 +1,45 @@
 // What the program does of what its words ask for.
-ghost use Rattle.af_server.specs.Programs.{IsOnceAt, IsVerifiedAt, Runs, RunsOnce, RunsVerify};
+ghost use Rattle.af_server.specs.Programs.{Comes, IsOnceAt, Runs, RunsOnce, RunsServe, RunsVerify};
+ghost use Rattle.af_server.specs.Verified.{IsVerified};
 
 use crate::command::Command;
 use crate::console::Console;
 use crate::files::Files;
+use crate::listening::{announce, blame, finish, listen_at};
+use crate::once::once;
 use crate::reason::Reason;
-use crate::running::connection;
 use crate::telling::{ended, usage};
-use crate::verdict::{conclude, verified};
+use crate::verdict::conclude;
+use crate::verifying::verify;
+use crate::worker_count::WorkerCount;
 use af_http::{Ended, Sink, Source};
 use af_names::Instant;
 use std::alloc::Global;
+use std::net::{Net, TcpListener, TcpStream};
 use std::sync::Wait;
+use std::thread::Threads;
+use std::time::Clock;
 
 /// Does what the words ask for, with files found there, and gives the status. `once`: 0 where the connection ended as connections do, 1 where
-/// it was cut short. `verify`: 0 where the answers agree, 1 where they differ. Of wrong words 2; where the configuration or the trace is
-/// refused, also where its file can't be opened, 3.
-pub fn run<H: Wait, F: Files, R: Source, W: Sink, E: Sink>(
-    rt: &H,
-    alloc: Global,
-    files: &F,
-    command: Command,
-    console: &mut Console<R, W, E>,
-) -> u8
+/// it was cut short. `serve`: 1 where the server can't listen, and after its last worker has ended. `verify`: 0 where the answers agree, 1
+/// where they differ. Of wrong words 2; where the configuration or the trace is refused, also where its file can't be had, 3.
+pub fn run<
+    H: Net<Listener = TcpListener, Stream = TcpStream> + Threads + Wait + Clock + Sync,
+    F: Files,
+    R: Source,
+    W: Sink,
+    E: Sink,
+>(rt: &H, alloc: Global, files: &F, command: Command, console: &mut Console<R, W, E>) -> u8
     ensures { Runs (F.holds files.now) (F.refuses files.now) command (R.given console.old.input) (R.given console.new.input)
         (W.taken console.old.output) (W.taken console.new.output) (E.taken console.old.errors) (E.taken console.new.errors) result }
 {
     match command {
         Command::Once { config, now } => once_at(rt, alloc, files, config.as_str(), now, console),
+        Command::Serve {
+            config,
+            port,
+            count,
+        } => serve_at(rt, alloc, files, config.as_str(), port, &count, console),
         Command::Verify { trace } => verify_at(alloc, files, trace.as_str(), console),
         Command::Usage => usage(&mut console.errors),
     }
@@ -70,10 +82,35 @@ fn connection_at<H: Wait, F: Files, R: Source, W: Sink>(
     ensures { IsOnceAt (F.holds files.now) (F.refuses files.now) path.now now (R.given reader.old) (R.given reader.new)
         (W.taken writer.old) (W.taken writer.new) result }
 {
-    match files.open(path) {
-        Ok(mut file) => connection(rt, alloc, &mut file, now, reader, writer),
+    match files.read(alloc, path) {
+        Ok(bytes) => once(rt, alloc, bytes.as_slice(), now, reader, writer),
         Err(reason) => Err(reason),
     }
+}
+
+/// A server under the configuration at a path. Where it listens is printed; why the configuration is refused is told on standard error.
+fn serve_at<
+    H: Net<Listener = TcpListener, Stream = TcpStream> + Threads + Wait + Clock + Sync,
+    F: Files,
+    R: Source,
+    W: Sink,
+    E: Sink,
+>(
+    rt: &H,
+    alloc: Global,
+    files: &F,
+    path: &str,
+    port: u16,
+    count: &WorkerCount,
+    console: &mut Console<R, W, E>,
+) -> u8
+    ensures { RunsServe (F.holds files.now) (F.refuses files.now) path.now (R.given console.old.input) (R.given console.new.input)
+        (W.taken console.old.output) (W.taken console.new.output) (E.taken console.old.errors) (E.taken console.new.errors) result }
+{
+    let outcome = listen_at(rt, alloc, files, path, port);
+    announce(&mut console.output, &outcome);
+    blame(&mut console.errors, &outcome);
+    finish(rt, alloc, outcome, count)
 }
 
 /// Whether the answers of the trace at a path are those of the run of its steps: that is printed, or why it is refused told on standard error.
@@ -92,10 +129,10 @@ fn verify_at<F: Files, R: Source, W: Sink, E: Sink>(
 
 /// Whether the answers of the trace at a path are those of the run of its steps.
 fn verified_at<F: Files>(alloc: Global, files: &F, path: &str) -> Result<bool, Reason>
-    ensures { IsVerifiedAt (F.holds files.now) (F.refuses files.now) path.now result }
+    ensures { Comes (F.holds files.now) (F.refuses files.now) path.now IsVerified result }
 {
-    match files.open(path) {
-        Ok(mut file) => verified(alloc, &mut file),
+    match files.read(alloc, path) {
+        Ok(bytes) => verify(alloc, bytes.as_slice()),
         Err(reason) => Err(reason),
     }
 }

@@ -1,33 +1,11 @@
 // What is told of a trace.
-ghost use Rattle.std.specs.Prelude.{◌≡◌, Bool, Result};
-ghost use Rattle.af_server.specs.declared.reason.Reason.{Reason};
+ghost use Rattle.std.specs.Prelude.{◌≡◌};
 ghost use Rattle.af_server.specs.Tellings.{Tells};
-ghost use Rattle.af_server.specs.Verdicts.{IsVerifiedOf, printed_of, refused_of, status_of};
+ghost use Rattle.af_server.specs.Verdicts.{printed_of, refused_of, status_of};
 
-use crate::files::read_whole;
 use crate::reason::Reason;
 use crate::telling::{line_of, tell};
-use crate::verifying::verify;
-use af_http::{Sink, Source};
-use std::alloc::Global;
-
-/// Whether the answers of the trace that a file holds are those of the run of its steps: prints `agrees`, with status 0, or `differs`, with
-/// status 1. Where the trace is refused, why is told on standard error, with status 3.
-pub fn run_verify<F: Source, W: Sink, E: Sink>(
-    alloc: Global,
-    file: &mut F,
-    output: &mut W,
-    errors: &mut E,
-) -> u8
-    ensures { (outcome : Result Bool Reason)
-        × IsVerifiedOf (F.given file.old) (F.given file.new) outcome
-        × Tells (W.taken output.old) (W.taken output.new) (printed_of outcome)
-        × Tells (E.taken errors.old) (E.taken errors.new) (refused_of outcome)
-        × (result ≡ status_of outcome) }
-{
-    let outcome = verified(alloc, file);
-    conclude(output, errors, outcome)
-}
+use af_http::Sink;
 
 /// Prints what was found out of a trace, or says why it is refused, and gives the status.
 pub fn conclude<W: Sink, E: Sink>(
@@ -42,16 +20,6 @@ pub fn conclude<W: Sink, E: Sink>(
     print(output, outcome);
     refuse(errors, outcome);
     status(outcome)
-}
-
-/// Whether the answers of the trace that a file holds are those of the run of its steps.
-pub fn verified<F: Source>(alloc: Global, file: &mut F) -> Result<bool, Reason>
-    ensures { IsVerifiedOf (F.given file.old) (F.given file.new) result }
-{
-    match read_whole(alloc, file) {
-        Ok(bytes) => verify(alloc, bytes.as_slice()),
-        Err(reason) => Err(reason),
-    }
 }
 
 /// Prints whether the answers agree, if that is known.
