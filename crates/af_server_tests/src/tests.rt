@@ -12,6 +12,7 @@ mod hidden;
 mod histories;
 mod instances;
 mod listings;
+mod loopback;
 mod many;
 mod marks;
 mod pages;

@@ -5,7 +5,10 @@ use super::{BASE, Pieces};
 use af_http::Counted;
 use af_server::{Command, Reason, read_whole};
 use std::alloc::{AllocError, Global};
+use std::net::{Net, TcpListener, TcpStream};
 use std::sync::Wait;
+use std::thread::Threads;
+use std::time::Clock;
 
 /// Adds a word to those of a call.
 fn add_word(alloc: Global, all: &mut Vec<String>, word: &str) -> Result<(), AllocError> {
@@ -33,10 +36,12 @@ pub fn command_of(alloc: Global, words: &[&str]) -> Result<Command, AllocError> 
     }
 }
 
-/// What words may ask for: one connection under the configuration at a path, or whether the trace at a path agrees.
+/// What words may ask for: one connection under the configuration at a path; a server under it, on a port, with so many workers; or whether the
+/// trace at a path agrees.
 #[derive(Clone, Copy)]
 pub enum Asked {
     Once(&'static str),
+    Serve(&'static str, u16, u32),
     Verify(&'static str),
     Usage,
 }
@@ -46,15 +51,25 @@ fn is_asked(command: &Command, asked: Asked) -> bool {
     match command {
         Command::Once { config, .. } => match asked {
             Asked::Once(path) => config.as_str() == path,
-            Asked::Verify(_) | Asked::Usage => false,
+            Asked::Serve(_, _, _) | Asked::Verify(_) | Asked::Usage => false,
+        },
+        Command::Serve {
+            config,
+            port,
+            count,
+        } => match asked {
+            Asked::Serve(path, wanted, workers) => {
+                config.as_str() == path && *port == wanted && count.count() == workers
+            }
+            Asked::Once(_) | Asked::Verify(_) | Asked::Usage => false,
         },
         Command::Verify { trace } => match asked {
             Asked::Verify(path) => trace.as_str() == path,
-            Asked::Once(_) | Asked::Usage => false,
+            Asked::Once(_) | Asked::Serve(_, _, _) | Asked::Usage => false,
         },
         Command::Usage => match asked {
             Asked::Usage => true,
-            Asked::Once(_) | Asked::Verify(_) => false,
+            Asked::Once(_) | Asked::Serve(_, _, _) | Asked::Verify(_) => false,
         },
     }
 }
@@ -68,7 +83,7 @@ pub fn asks(alloc: Global, words: &[&str], wanted: Asked) -> Result<bool, AllocE
 }
 
 /// Words that ask for nothing that there is.
-const WRONG: [&[&str]; 10] = [
+const WRONG: [&[&str]; 19] = [
     &["afplane"],
     &["afplane", "verify"],
     &["afplane", "once", "base.json"],
@@ -83,7 +98,16 @@ const WRONG: [&[&str]; 10] = [
         "2024-01-01T00:00:00Z",
         "more",
     ],
-    &["afplane", "serve", "base.json", "0", "1"],
+    &["afplane", "serve", "base.json", "0"],
+    &["afplane", "serve", "base.json", "0", "1", "more"],
+    &["afplane", "once", "base.json", "0", "1"],
+    &["afplane", "serve", "base.json", "65536", "1"],
+    &["afplane", "serve", "base.json", "4294967376", "1"],
+    &["afplane", "serve", "base.json", "+80", "1"],
+    &["afplane", "serve", "base.json", "", "1"],
+    &["afplane", "serve", "base.json", "0", "0"],
+    &["afplane", "serve", "base.json", "0", "17"],
+    &["afplane", "serve", "base.json", "0", "-1"],
     &["afplane", "twice", "base.json", "2024-01-01T00:00:00Z"],
 ];
 
@@ -95,6 +119,22 @@ fn asks_once(alloc: Global, words: &&[&str]) -> Result<bool, AllocError> {
     asks(alloc, *words, Asked::Once("base.json"))
 }
 
+/// Words that ask for a server, on which port, and with how many workers.
+const SERVE: [(&[&str], u16, u32); 3] = [
+    (&["afplane", "serve", "base.json", "0", "1"], 0, 1),
+    (
+        &["afplane", "serve", "base.json", "65535", "16"],
+        65_535,
+        16,
+    ),
+    (&["afplane", "serve", "base.json", "008080", "04"], 8_080, 4),
+];
+
+/// Whether the words ask for the server that the row says.
+fn asks_serve(alloc: Global, row: &(&[&str], u16, u32)) -> Result<bool, AllocError> {
+    asks(alloc, row.0, Asked::Serve("base.json", row.1, row.2))
+}
+
 /// Whether the words ask for how the program is called.
 fn asks_usage(alloc: Global, words: &&[&str]) -> Result<bool, AllocError> {
     asks(alloc, *words, Asked::Usage)
@@ -104,6 +144,7 @@ fn asks_usage(alloc: Global, words: &&[&str]) -> Result<bool, AllocError> {
 fn the_words_of_the_program(rt: HostRuntime) {
     let once = first_fault(rt.alloc(), &ONCE, asks_once);
     all_go(&rt, once, "one connection");
+    all_go(&rt, first_fault(rt.alloc(), &SERVE, asks_serve), "a server");
     all_go(&rt, first_fault(rt.alloc(), &WRONG, asks_usage), "row");
 }
 
@@ -144,7 +185,11 @@ const CALLS: [Call; 6] = [
 ];
 
 /// Whether a call goes as it should.
-fn goes(rt: &impl Wait, alloc: Global, call: &Call) -> Result<bool, AllocError> {
+fn goes<H: Net<Listener = TcpListener, Stream = TcpStream> + Threads + Wait + Clock + Sync>(
+    rt: &H,
+    alloc: Global,
+    call: &Call,
+) -> Result<bool, AllocError> {
     let (config, input, status, answered, errors) = *call;
     let output = if answered { None } else { Some("") };
     Ok(does(
@@ -222,7 +267,11 @@ const WORDS: [Word; 15] = [
 ];
 
 /// Whether a reason is told by this word.
-fn is_word(rt: &impl Wait, alloc: Global, word: &Word) -> Result<bool, AllocError> {
+fn is_word<H: Net<Listener = TcpListener, Stream = TcpStream> + Threads + Wait + Clock + Sync>(
+    rt: &H,
+    alloc: Global,
+    word: &Word,
+) -> Result<bool, AllocError> {
     let line = ["afplane: configuration refused: ", word.1, "\n"].concat(alloc)?;
     let told = (3, Some(""), line.as_str());
     let is_word = does(rt, alloc, Act::End(word.0), "", told);

@@ -3,9 +3,12 @@ use super::calls::command_of;
 use super::programs::Shelf;
 use super::{Pieces, in_pieces, now};
 use af_http::Counted;
-use af_server::{Console, Reason, ended, run, run_once, run_verify, usage};
+use af_server::{Command, Console, Reason, ended, run, usage};
 use std::alloc::Global;
+use std::net::{Net, TcpListener, TcpStream};
 use std::sync::Wait;
+use std::thread::Threads;
+use std::time::Clock;
 
 /// What the program is to do.
 #[derive(Clone, Copy)]
@@ -13,7 +16,7 @@ pub enum Act<'a> {
     /// One connection under the configuration that a file holds.
     Once(&'a str),
     /// What words say, where there is one file, which holds this.
-    Run(&'static str, &'a [&'a str]),
+    Run(&'a str, &'a [&'a str]),
     /// Whether the trace that a file holds agrees.
     Verify(&'a str),
     /// That a configuration is refused for this reason.
@@ -33,37 +36,51 @@ fn file(text: &str) -> Counted<Pieces<'_>> {
     in_pieces(text.as_bytes(), 4_096)
 }
 
-/// The status of what words say, where there is one file, which holds this; none where there is no memory.
-fn run_words(
-    rt: &impl Wait,
+/// What is asked for, where there is one file; none where there is no memory or no moment.
+fn asked(alloc: Global, what: Act<'_>) -> Option<Command> {
+    let path = String::from_str(alloc, "it").ok()?;
+    match what {
+        Act::Once(_) => Some(Command::Once {
+            config: path,
+            now: now()?,
+        }),
+        Act::Run(_, words) => command_of(alloc, words).ok(),
+        Act::Verify(_) => Some(Command::Verify { trace: path }),
+        Act::End(_) | Act::Usage => Some(Command::Usage),
+    }
+}
+
+/// The status of a command, where there is one file, which holds this; none where there is no memory or no moment.
+fn run_with<H: Net<Listener = TcpListener, Stream = TcpStream> + Threads + Wait + Clock + Sync>(
+    rt: &H,
     alloc: Global,
-    text: &'static str,
-    words: &[&str],
+    text: &str,
+    what: Act<'_>,
     desk: &mut Desk<'_>,
 ) -> Option<u8> {
-    let command = command_of(alloc, words).ok()?;
+    let command = asked(alloc, what)?;
     Some(run(rt, alloc, &Shelf { path: "it", text }, command, desk))
 }
 
 /// The status of what is done, or none where there is no memory or no moment.
-fn status_of(rt: &impl Wait, alloc: Global, what: Act<'_>, desk: &mut Desk<'_>) -> Option<u8> {
+fn status_of<H: Net<Listener = TcpListener, Stream = TcpStream> + Threads + Wait + Clock + Sync>(
+    rt: &H,
+    alloc: Global,
+    what: Act<'_>,
+    desk: &mut Desk<'_>,
+) -> Option<u8> {
     match what {
-        Act::Once(config) => Some(run_once(rt, alloc, &mut file(config), now()?, desk)),
-        Act::Run(text, words) => run_words(rt, alloc, text, words, desk),
-        Act::Verify(trace) => Some(run_verify(
-            alloc,
-            &mut file(trace),
-            &mut desk.output,
-            &mut desk.errors,
-        )),
+        Act::Once(text) | Act::Run(text, _) | Act::Verify(text) => {
+            run_with(rt, alloc, text, what, desk)
+        }
         Act::End(reason) => Some(ended(&mut desk.errors, Err(reason))),
         Act::Usage => Some(usage(&mut desk.errors)),
     }
 }
 
 /// The same with this input, where this is written.
-fn done(
-    rt: &impl Wait,
+fn done<H: Net<Listener = TcpListener, Stream = TcpStream> + Threads + Wait + Clock + Sync>(
+    rt: &H,
     alloc: Global,
     what: Act<'_>,
     input: &str,
@@ -88,7 +105,13 @@ fn is_told(status: Option<u8>, output: &[u8], errors: &[u8], told: Told<'_>) -> 
 }
 
 /// Whether what the program does with this input is told of so.
-pub fn does(rt: &impl Wait, alloc: Global, what: Act<'_>, input: &str, told: Told<'_>) -> bool {
+pub fn does<H: Net<Listener = TcpListener, Stream = TcpStream> + Threads + Wait + Clock + Sync>(
+    rt: &H,
+    alloc: Global,
+    what: Act<'_>,
+    input: &str,
+    told: Told<'_>,
+) -> bool {
     let mut output = Vec::new(alloc);
     let mut errors = Vec::new(alloc);
     let status = done(rt, alloc, what, input, &mut output, &mut errors);

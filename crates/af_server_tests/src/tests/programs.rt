@@ -1,40 +1,35 @@
 //! What the program does of its words, with one file that it finds.
-ghost use Rattle.std.specs.Prelude.{◌≡◌, []};
+ghost use Rattle.std.specs.Prelude.{◌≡◌, ◌≢◌};
 ghost use Rattle.af_server.specs.declared.reason.Reason.{Reason};
 
+use super::BASE;
 use super::asserts::{Fault, all_go, first_fault};
 use super::consoles::{Act, does};
-use super::{BASE, Pieces};
-use af_http::Counted;
 use af_server::{Files, Reason, open_fault};
 use std::alloc::{AllocError, Global};
 use std::io::{self, ErrorKind};
+use std::net::{Net, TcpListener, TcpStream};
 use std::sync::Wait;
+use std::thread::Threads;
+use std::time::Clock;
 
 /// One file: its path, and what it holds.
-#[derive(Drop)]
-pub struct Shelf {
-    pub path: &'static str,
-    pub text: &'static str,
+#[derive(Clone, Copy)]
+pub struct Shelf<'a> {
+    pub path: &'a str,
+    pub text: &'a str,
 }
 
-impl Files for Shelf {
-    type File = Counted<Pieces<'static>>;
+impl<'a> Files for Shelf<'a> {
+    ghost holds = { λ shelf path bytes. (path ≡ shelf.path.now) × (bytes ≡ shelf.text.now) };
 
-    ghost holds = { λ shelf path given. given.bytes ≡ [] };
+    ghost refuses = { λ shelf path reason. (path ≢ shelf.path.now) × (reason ≡ Reason.Unreadable) };
 
-    ghost refuses = { λ shelf path reason. reason ≡ Reason.Unreadable };
-
-    fn open(&self, path: &str) -> Result<Counted<Pieces<'static>>, Reason> {
-        if path == self.path {
-            Ok(Counted::new(Pieces {
-                rest: self.text.as_bytes(),
-                size: 4_096,
-                fails: false,
-            }))
-        } else {
-            Err(Reason::Unreadable)
+    fn read(&self, alloc: Global, path: &str) -> Result<Vec<u8>, Reason> {
+        if path != self.path {
+            return Err(Reason::Unreadable);
         }
+        Ok(Vec::from_slice(alloc, self.text.as_bytes())?)
     }
 }
 
@@ -64,7 +59,7 @@ type Call = (
     &'static str,
 );
 
-const CALLS: [Call; 7] = [
+const CALLS: [Call; 10] = [
     (AGREES, &["afplane", "verify", "it"], 0, "agrees\n", ""),
     (DIFFERS, &["afplane", "verify", "it"], 1, "differs\n", ""),
     (AGREES, &["afplane", "verify", "that"], 3, "", UNREADABLE),
@@ -89,18 +84,40 @@ const CALLS: [Call; 7] = [
         "",
         "afplane: configuration refused: admin\n",
     ),
-    (BASE, &["afplane", "serve", "it", "0", "1"], 2, "", USAGE),
+    (BASE, &["afplane", "serve", "it", "0", "0"], 2, "", USAGE),
+    (BASE, &["afplane", "serve", "it", "0", "17"], 2, "", USAGE),
+    (
+        BASE,
+        &["afplane", "serve", "that", "0", "1"],
+        3,
+        "",
+        UNREADABLE,
+    ),
+    (
+        "{}",
+        &["afplane", "serve", "it", "0", "16"],
+        3,
+        "",
+        "afplane: configuration refused: admin\n",
+    ),
 ];
 
 /// Whether the words do as they should.
-fn is_done(rt: &impl Wait, alloc: Global, call: &Call) -> Result<bool, AllocError> {
+fn is_done<H: Net<Listener = TcpListener, Stream = TcpStream> + Threads + Wait + Clock + Sync>(
+    rt: &H,
+    alloc: Global,
+    call: &Call,
+) -> Result<bool, AllocError> {
     let (text, words, status, written, told) = *call;
     let told = (status, Some(written), told);
     Ok(does(rt, alloc, Act::Run(text, words), VERSION, told))
 }
 
 /// The first row that does not do as it should.
-fn first_undone(rt: &impl Wait, alloc: Global) -> Fault {
+fn first_undone<H: Net<Listener = TcpListener, Stream = TcpStream> + Threads + Wait + Clock + Sync>(
+    rt: &H,
+    alloc: Global,
+) -> Fault {
     for (number, call) in CALLS.iter().enumerate() {
         if !is_done(rt, alloc, call)? {
             return Ok(Some(number));

@@ -6,7 +6,7 @@ use super::scenes::{Scene, state};
 use super::users::policy;
 use super::{Row, now, shown_of, text, token_of};
 use crate::tests::asserts::{holds, row_holds};
-use af_audit::Ledger;
+use af_audit::{Ledger, Presented};
 use af_ops::{Endpoint, Shown, Status};
 use af_policy::Policy;
 use std::alloc::{AllocGlobal, Global};
@@ -45,7 +45,8 @@ fn shown(
 ) -> Shown {
     let (who, endpoint, path, body) = request;
     let op = named(rt, alloc, endpoint, path, body);
-    let served = ledger.answer(alloc, policy, token_of(who), &op, now(rt));
+    let presented = Presented::of(token_of(who));
+    let served = ledger.answer(alloc, policy, presented.as_ref(), &op, now(rt));
     drop(op);
     shown_of(rt, served)
 }

@@ -4,7 +4,7 @@ use crate::tests::plane::calls::{Asked, call};
 use crate::tests::plane::opening::{Dags, Due, opened};
 use crate::tests::plane::told::is_text;
 use crate::tests::plane::users::OF_PLANES;
-use af_audit::{AuditFault, ReportRefusal};
+use af_audit::{AuditFault, Presented, ReportRefusal};
 use af_board::{Board, NotFound};
 use af_names::Instant;
 use af_ops::{Served, Status};
@@ -139,8 +139,9 @@ fn given(
     at: Instant,
 ) -> Result<Option<Served>, Fail> {
     let call = call(alloc, what)?;
+    let presented = Presented::of(token(what.0));
     let request = Request {
-        token: token(what.0),
+        token: presented.as_ref(),
         call: &call,
         at,
     };

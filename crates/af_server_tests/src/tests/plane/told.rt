@@ -14,16 +14,16 @@ pub fn is_text(shown: &Shown, text: &str) -> bool {
     }
 }
 
+/// Whether an answer shows what a row says.
+pub fn is_shown(shown: &Shown, row: Row) -> bool {
+    let (_, status, (version, seq), text) = row;
+    shown.status == status && shown.version == version && shown.seq == seq && is_text(shown, text)
+}
+
 /// Whether what is told is what a row says. Where there was no memory for it, the test ends in words that say so.
 pub fn is_told(gave: &Served, row: Row) -> Result<bool, Fail> {
-    let (_, status, (version, seq), text) = row;
     match gave {
-        Served::Shown(shown) => Ok(
-            shown.status == status
-                && shown.version == version
-                && shown.seq == seq
-                && is_text(shown, text),
-        ),
+        Served::Shown(shown) => Ok(is_shown(shown, row)),
         Served::NothingDone => Err(Fail::new("an answer: OutOfMemory")),
     }
 }

@@ -1,6 +1,6 @@
 //! What is read of the requests of the tests, and what is shown of it.
 use crate::tests::plane::audit::users::token;
-use af_audit::Ledger;
+use af_audit::{Ledger, Presented};
 use af_names::Instant;
 use af_ops::{Call, Endpoint, Op, Served, Shown, read_row};
 use af_policy::Policy;
@@ -77,7 +77,8 @@ pub fn shown_to(
     at: Instant,
 ) -> Result<Shown, Fail> {
     let op = op(alloc, ask)?;
-    let served = ledger.answer(alloc, policy, token(who), &op, at);
+    let presented = Presented::of(token(who));
+    let served = ledger.answer(alloc, policy, presented.as_ref(), &op, at);
     drop(op);
     shown_in(served)
 }

@@ -5,7 +5,7 @@ use crate::tests::plane::audit::requests::Request;
 use crate::tests::plane::audit::rows::{MIXED, PAUSED};
 use crate::tests::plane::audit::stories::{Part, Story, all_go};
 use crate::tests::plane::audit::users::token;
-use af_audit::Ledger;
+use af_audit::{Ledger, Presented};
 use af_listing::Window;
 use af_ops::{Endpoint, Shown, Status};
 use af_policy::Policy;
@@ -75,7 +75,8 @@ fn is_told(shown: &Shown, status: Status, body: &[u8], count: u32) -> bool {
 /// Whether a request for event logs is told what its row says.
 fn is_served(alloc: Global, ledger: &Ledger, policy: &Policy, row: Reading) -> Result<bool, Fail> {
     let asked = Window::read(row.1);
-    let shown = shown_in(ledger.entries(alloc, policy, token(row.0), &asked))?;
+    let presented = Presented::of(token(row.0));
+    let shown = shown_in(ledger.entries(alloc, policy, presented.as_ref(), &asked))?;
     let is_told = is_told(&shown, row.2, row.3, ledger.audit().count());
     drop(shown);
     Ok(is_told)

@@ -10,6 +10,7 @@ use crate::tests::plane::playing::token;
 use crate::tests::plane::solos::rows::{DAGS, DEMOTE, NO_DAGS, OF_PUBLIC};
 use crate::tests::plane::told::Row;
 use crate::tests::plane::users::OF_PLANES;
+use af_audit::Presented;
 use af_board::{Board, Mark};
 use af_names::Instant;
 use af_ops::{Endpoint, Served, Status};
@@ -32,8 +33,9 @@ fn applied(
     ensures { plane.new.pass ≡ plane.old.pass }
 {
     let call = call(alloc, asked)?;
+    let presented = Presented::of(token(asked.0));
     let request = Request {
-        token: token(asked.0),
+        token: presented.as_ref(),
         call: &call,
         at: Instant::read("2024-01-01T00:00:00Z")?,
     };

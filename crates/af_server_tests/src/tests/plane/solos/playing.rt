@@ -5,6 +5,7 @@ use crate::tests::plane::opening::{Dags, opened};
 use crate::tests::plane::playing::token;
 use crate::tests::plane::told::{Row, is_told};
 use crate::tests::plane::users::Users;
+use af_audit::Presented;
 use af_names::Instant;
 use af_ops::{Method, Served, Status, route_of};
 use af_plane::{Grounds, Request, Session, Solo};
@@ -55,7 +56,7 @@ fn holds(session: &Session, row: Row) -> bool {
     let (_, _, (version, _), _) = row;
     match version {
         Some(version) => {
-            session.seen() == version
+            session.seen().0 == version
                 && session.mark().version() == version
                 && has_receipt(session, version) == is_made(row)
         }
@@ -67,8 +68,9 @@ fn holds(session: &Session, row: Row) -> bool {
 fn answer(rt: &impl Wait, alloc: Global, solo: &mut Solo, asked: Asked) -> Result<Served, Fail> {
     let at = Instant::read("2024-01-01T00:00:00Z")?;
     let call = call(alloc, asked)?;
+    let presented = Presented::of(token(asked.0));
     let request = Request {
-        token: token(asked.0),
+        token: presented.as_ref(),
         call: &call,
         at,
     };
@@ -100,7 +102,7 @@ type After = (usize, bool);
 
 fn after(rt: &impl Wait, alloc: Global, solo: &mut Solo, story: &Story) -> Result<After, Fail> {
     let told = answered(rt, alloc, solo, story.rows)?;
-    let ends = (solo.plane().ledger().version(), solo.session().seen());
+    let ends = (solo.plane().ledger().version(), solo.session().seen().0);
     Ok((told, ends == story.ends))
 }
 

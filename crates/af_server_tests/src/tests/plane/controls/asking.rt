@@ -1,0 +1,63 @@
+//! What a session of a control is told, where each call is decided where its data live.
+ghost use Rattle.af_plane.specs.Turns.{IsOfPlane};
+
+use af_audit::Presented;
+use af_names::Instant;
+use af_ops::{Call, PolicyOp, Served};
+use af_plane::{Control, Named, Request, Visitor};
+use std::alloc::Global;
+use std::sync::Wait;
+
+/// What a session is told that asks this, with this token, at a moment.
+pub fn answered<N: Named, R: Wait>(
+    rt: &R,
+    alloc: Global,
+    control: &Control<N>,
+    visitor: &mut Visitor<N>,
+    token: Option<&[u8]>,
+    call: &Call,
+    at: Instant,
+) -> Served {
+    match call {
+        Call::Policy(asked) => administered(rt, alloc, control, visitor, token, asked),
+        Call::State(_) | Call::Entries(_) => turned(rt, alloc, control, visitor, token, call, at),
+    }
+}
+
+/// What is told on the plane.
+fn turned<N: Named, R: Wait>(
+    rt: &R,
+    alloc: Global,
+    control: &Control<N>,
+    visitor: &mut Visitor<N>,
+    token: Option<&[u8]>,
+    call: &Call,
+    at: Instant,
+) -> Served
+    requires { IsOfPlane call.now }
+{
+    let presented = Presented::of(token);
+    let request = Request {
+        token: presented.as_ref(),
+        call,
+        at,
+    };
+    control.call(rt, alloc, visitor, &request)
+}
+
+/// What is told on the board.
+fn administered<N: Named, R: Wait>(
+    rt: &R,
+    alloc: Global,
+    control: &Control<N>,
+    visitor: &mut Visitor<N>,
+    token: Option<&[u8]>,
+    asked: &PolicyOp,
+) -> Served {
+    match asked {
+        PolicyOp::Me => control.me(alloc, visitor, token),
+        PolicyOp::Read(asked) => control.read(alloc, visitor, token, asked),
+        PolicyOp::Unread(kind) => control.unread(alloc, visitor, token, *kind),
+        PolicyOp::Change(ask) => control.submit(rt, alloc, visitor, token, ask),
+    }
+}
