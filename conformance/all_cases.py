@@ -68,11 +68,17 @@ def check_worked(it, write):
         it.case(f"worked: {title}", words, asked)
 
 
-def check_calls(it, folder):
+def check_calls(it, folder, write):
     base = os.path.join(ROOT, "examples", "base.json")
     no_end = b"GET / HT"
-    for words in ([], ["once"], ["once", base], ["once", base, NOW, "x"], ["Once", base, NOW], ["verify", base], ["serve", base, "0", "1"], ["once", "", NOW]):
+    for words in ([], ["once"], ["once", base], ["once", base, NOW, "x"], ["Once", base, NOW], ["verify", base], ["once", "", NOW]):
         it.case(f"call {words}", words, no_end)
+    for words in (["0"], ["0", "0"], ["0", "17"], ["65536", "1"], ["-1", "1"], ["+1", "1"], ["x", "1"], ["0", "1x"], ["", "1"], ["0", ""], ["0", "1", "1"], ["9" * 40, "1"], ["0", "9" * 40]):
+        it.case(f"serve {words}", ["serve", base, *words], b"")
+    for words in (["0", "1"], ["65535", "16"], ["00", "016"]):
+        it.case(f"serve {words} under no file", ["serve", os.path.join(folder, "none"), *words], b"")
+    it.case("serve under a folder", ["serve", folder, "0", "1"], b"")
+    it.case("serve under what is no configuration", ["serve", write(b"{")[1], "0", "1"], b"")
     for moment in MOMENTS:
         it.case(f"moment {moment!r}", ["once", base, moment], request_cases.PLAIN)
     it.case("no such file", ["once", os.path.join(folder, "none"), NOW], no_end)
@@ -83,7 +89,7 @@ def check_calls(it, folder):
 def fixed_cases(it, folder, write):
     """The examples, the calls, the worked connections, and what lies at the limits: once each."""
     check_examples(it)
-    check_calls(it, folder)
+    check_calls(it, folder, write)
     words = ["once", os.path.join(ROOT, "examples", "base.json"), NOW]
     with open(words[1], "rb") as file:
         base = json.load(file)

@@ -9,7 +9,8 @@ It is written from the words that say what afplane does, not from its code: it r
 the operations, oracle_verdict.py the order of the rules, oracle_state.py and oracle_policy.py what is done). Its exit
 status and its words on standard error are the program's own. `--has` names the operations that there are: `landed` (where
 nothing is said), which is all that the program has, or fewer of them: `dags`, `pools`, `variables`, `limits`, `pages`,
-`audit`, `policy`, `verify`, `baseline`, or single ones. Traces are verified too (oracle_world.py).
+`audit`, `policy`, `verify`, `serve`, `baseline`, or single ones. Traces are verified too (oracle_world.py). Of `serve` it judges the arguments and the
+configuration alone.
 """
 import re
 import sys
@@ -138,17 +139,30 @@ def Plane(config, now=0, has=LANDED):
 def run(words, data, has=LANDED):
     """Exit status, standard output and standard error of the program called with these words."""
     verifies = "verify" in has and len(words) == 2 and words[0] == "verify"
-    if not verifies and (len(words) != 3 or words[0] != "once" or instant_of(words[2]) is None):
+    serves = "serve" in has and asks_to_serve(words)
+    if not verifies and not serves and (len(words) != 3 or words[0] != "once" or instant_of(words[2]) is None):
         return 2, b"", f"{USAGE}\n".encode()
     try:
         held = file_of(words[1])
         if verifies:
             return (0, b"agrees\n", b"") if verify(held, has) else (1, b"differs\n", b"")
+        if serves:
+            read_config(held, has)
+            return 70, b"", b"oracle.py: the model opens no port\n"
         plane = Plane(held, instant_of(words[2]), has)
     except Refused as why:
         return 3, b"", f"afplane: configuration refused: {why}\n".encode()
     out, closed = answers(plane, data)
     return 0 if closed else 1, out, b""
+
+
+def asks_to_serve(words):
+    """Whether they call for a server: a configuration, a port, and how many workers."""
+    numbers = words[2:]
+    if len(words) != 4 or words[0] != "serve" or any(re.fullmatch("[0-9]+", it) is None for it in numbers):
+        return False
+    port, workers = (int(it.lstrip("0")[:6] or "0") for it in numbers)
+    return port <= 65535 and 1 <= workers <= 16
 
 
 def file_of(path):
@@ -168,7 +182,7 @@ def main():
         except ValueError as why:
             sys.exit(f"oracle.py: {why}")
         words = words[2:]
-    words = words if words[:1] in (["once"], ["verify"]) else ["once", *words]
+    words = words if words[:1] in (["once"], ["verify"], ["serve"]) else ["once", *words]
     status, out, said = run(words, sys.stdin.buffer.read(), has)
     sys.stdout.buffer.write(out)
     sys.stderr.buffer.write(said)

@@ -100,7 +100,8 @@ def required_on(resource):
 
 
 # Names for sets of names: operations, members of the configuration that are read, and what else a program may have: `pages`, the reading of `limit`
-# and `offset`; `full_history` and `full_versions`, that the limits of the configuration are obeyed; `verify`, that traces are verified.
+# and `offset`; `full_history` and `full_versions`, that the limits of the configuration are obeyed; `verify`, that traces are verified; `serve`,
+# that the words of a server are known.
 GROUPS = {
     "dags": required_on(DAGS),
     "pools": required_on(POOLS),
@@ -111,7 +112,7 @@ GROUPS = {
     "policy": {it.name for it in OPERATIONS if it.on_policy} | {"access_control", "full_versions"},
 }
 GROUPS["baseline"] = set().union(*(GROUPS[it] for it in GROUPS if it != "policy"))
-GROUPS["verify"] = {"verify"}
+GROUPS.update({it: {it} for it in ("verify", "serve")})
 GROUPS["all"] = set().union(*GROUPS.values())
 LANDED = GROUPS["landed"] = GROUPS["all"]
 

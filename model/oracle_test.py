@@ -102,6 +102,12 @@ class Answers(unittest.TestCase):
         usage = b"usage: afplane once CONFIG NOW | serve CONFIG PORT WORKERS | verify TRACE\n"
         self.assertEqual(oracle.run(["once", BASE], b""), (2, b"", usage))
         self.assertEqual(oracle.run(["once", BASE + "x", NOW], b""), (3, b"", b"afplane: configuration refused: unreadable\n"))
+        for words in (["0"], ["0", "0"], ["0", "17"], ["65536", "1"], ["1" + "0" * 30, "1"], ["-1", "1"], ["", "1"], ["0", ""], ["0", "1", "1"], ["\u0661", "1"]):
+            self.assertEqual(oracle.run(["serve", BASE, *words], b""), (2, b"", usage), words)
+        for words in (["0", "1"], ["65535", "16"], ["0" * 30, "0" * 30 + "9"]):
+            self.assertEqual(oracle.run(["serve", BASE, *words], b"")[:2], (70, b""), words)
+            self.assertEqual(oracle.run(["serve", BASE + "x", *words], b""), (3, b"", b"afplane: configuration refused: unreadable\n"))
+        self.assertEqual(oracle.run(["serve", BASE, "0", "1"], b"", having("baseline")), (2, b"", usage))
 
 
 class Connections(unittest.TestCase):

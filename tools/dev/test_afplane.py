@@ -7,16 +7,20 @@ import os
 import pathlib
 import re
 import shutil
+import signal
+import socket
 import subprocess
 import sys
 import tempfile
+import time
 import unittest
 
 TOP = pathlib.Path(__file__).resolve().parents[2]
 EXAMPLES = TOP / "examples"
 NOW = "2024-01-01T00:00:00Z"
 CHECK = "afplane: 'afplane check CONFIG' says which row and member is wrong, and what was expected\n"
-COMMANDS = "sh awk basename cat chmod date dirname env find grep mkdir mktemp mv python3 readlink rm sed tail touch wc"
+PORT = "afplane: the port cannot be listened on (it may be taken), or no worker can take connections any more\n"
+COMMANDS = "sh awk basename cat chmod date dirname env find grep mkdir mktemp mv python3 readlink rm sed sleep tail touch tr wc"
 ENDED = "\nchecked: ended status={0}\nraces: not looked for\nrun=ended status={0} runners=1 races=unchecked proved=no\n"
 
 # Notes its folder and its arguments, a line for each call. `try` also keeps its input and the file of --data; `run` makes the program.
@@ -37,6 +41,33 @@ run)
     chmod +x out/afplane
     ;;
 esac
+"""
+
+# Stands in for a server that `rt try` runs: a process below it listens, and what that prints comes once it has ended. If there is a file `leaves`,
+# it ends before that process does.
+SERVER = r"""
+import os, pathlib, signal, socket, sys
+room = pathlib.Path(os.environ["ROOM"])
+with open(room / "calls", "a") as file:
+    print(os.path.basename(os.getcwd()), *sys.argv[1:], file=file)
+(room / "data").write_bytes(open(sys.argv[sys.argv.index("--data") + 1].partition("=")[2], "rb").read())
+ends, begins = os.pipe()
+child = os.fork()
+if child == 0:
+    listener = socket.create_server(("127.0.0.1", int(sys.argv[-2])))
+    os.close(begins)
+    while (room / "leaves").exists():
+        signal.pause()
+    os.read(ends, 1)
+    os._exit(0)
+signal.signal(signal.SIGTERM, lambda *_: (os.close(begins), (room / "leaves").exists() or os.waitpid(child, 0), os._exit(143)))
+while not (room / "over").exists():
+    signal.sigtimedwait([], 0.1)
+os.close(begins)
+os.waitpid(child, 0)
+sys.stdout.write((room / "out").read_text())
+sys.stderr.write((room / "said").read_text())
+sys.exit(int((room / "status").read_text()))
 """
 
 
@@ -89,12 +120,12 @@ class Words(Case):
     def test_help_and_version(self):
         status, out, err = self.call("--help")
         self.assertEqual((status, err), (0, ""))
-        for it in ("once CONFIG NOW", "verify TRACE", "check CONFIG", "model once CONFIG NOW", "build", "serve is not implemented yet", f"cd {self.top}"):
+        for it in ("serve CONFIG PORT WORKERS", "once CONFIG NOW", "verify TRACE", "check CONFIG", "model once CONFIG NOW", "build", f"cd {self.top}"):
             self.assertIn(it, out)
         self.assertEqual(self.call("--version"), (0, "afplane 1\n", ""))
 
     def test_help_on_a_command(self):
-        for it in ("once", "verify", "check", "model", "build"):
+        for it in ("serve", "once", "verify", "check", "model", "build"):
             self.assertEqual(self.call(it, "--help"), self.call("--help"))
 
     def test_now(self):
@@ -112,16 +143,26 @@ class Words(Case):
         self.assertTrue(err.endswith(f"afplane: NOW is not a timestamp with its offset, such as {NOW}\n"), err)
 
     def test_usage(self):
-        for words in ((), ("once",), ("once", "c"), ("once", "c", NOW, "x"), ("verify",), ("build", "x"), ("check",), ("model",), ("model", "serve", "c", "1"), ("help",)):
+        serves = [("serve",), ("serve", "c", "8080"), ("serve", "c", "8080", "4", "x"), ("model", "serve", "c", "1"), ("model", "serve", "c", "8080", "4", "x")]
+        for words in ((), ("once",), ("once", "c"), ("once", "c", NOW, "x"), ("verify",), ("build", "x"), ("check",), ("model",), ("help",), *serves):
             with self.subTest(words):
                 status, out, err = self.call(*words)
                 self.assertEqual((status, out), (2, ""))
                 self.assertTrue(err.startswith("usage: afplane once CONFIG NOW | "), err)
         self.assertIn("afplane: there is no command 'chekc'\n", self.call("chekc", "c")[2])
         self.assertIn("afplane: once takes a configuration and a timestamp", self.call("once", "c")[2])
-        status, out, err = self.call("serve", "c", "8080", "4")
-        self.assertEqual((status, out), (2, ""))
-        self.assertTrue(err.startswith("afplane: serve is not implemented yet\nusage: "), err)
+        self.assertIn("afplane: serve takes a configuration, a port and a number of workers", self.call("serve", "c", "8080")[2])
+
+    def test_port_and_workers(self):
+        self.with_rt()
+        for name, bounds, wrong in (("PORT", "0 to 65535", ("", "-1", "65536", "80x", "0x50", "1e3", "99999999999")), ("WORKERS", "1 to 16", ("", "0", "000", "17", "4.0"))):
+            for it in wrong:
+                words = (it, "4") if name == "PORT" else ("8080", it)
+                for before in ((), ("model",)):
+                    status, out, err = self.call(*before, "serve", EXAMPLES / "demo.json", *words)
+                    self.assertEqual((status, out), (2, ""))
+                    self.assertIn(f"afplane: {name} is a number from {bounds}, found '{it}'\n", err)
+        self.assertEqual(self.calls(), [])
 
 
 class Model(Case):
@@ -146,6 +187,23 @@ class Model(Case):
         self.assertEqual(self.call("model", "once", EXAMPLES / "base.json", NOW, data=data), (0, expected, said))
         self.assertEqual(self.call("model", "verify", EXAMPLES / "base.json"), (3, "", said + "afplane: configuration refused: trace\n"))
         self.assertEqual(self.call("model", "once", EXAMPLES / "base.json", "now")[0], 2)
+
+    def test_server(self):
+        said = "afplane: answered by the reference model, not by the proved program\n"
+        (self.top / "conformance").mkdir()
+        (self.top / "conformance/other.py").write_text("SAID = 'listening'")
+        server = self.top / "conformance/stand_in.py"
+        server.write_text("import sys, other\nprint(other.SAID, *sys.argv[1:])\nsys.exit(7)")
+        found = self.call("model", "serve", EXAMPLES / "demo.json", "0", "16")
+        self.assertEqual(found, (7, f"listening serve {EXAMPLES}/demo.json 0 16\n", said))
+        server.write_text("raise OSError('Address already in use')")
+        self.assertEqual(self.call("model", "serve", EXAMPLES / "demo.json", "80", "1"), (1, "", said + "afplane: Address already in use\n"))
+        (self.room / "bad.json").write_text("{}")
+        status, out, err = self.call("model", "serve", "bad.json", "0", "4")
+        self.assertEqual((status, out), (3, ""))
+        self.assertTrue(err.startswith("afplane: configuration refused: admin: "), err)
+        server.write_text("import os, signal\nos.kill(os.getpid(), signal.SIGINT)")
+        self.assertEqual(self.call("model", "serve", EXAMPLES / "demo.json", "0", "4"), (-signal.SIGINT, "", said))
 
     def test_no_python(self):
         (self.bin / "python3").unlink()
@@ -210,6 +268,96 @@ class Unproved(Case):
         self.assertEqual(self.call("once", EXAMPLES / "base.json", NOW, script=self.room / "link")[:2], (0, "x"))
 
 
+def with_default_signals():
+    """A process that is about to run a program is ended by signals again."""
+    for it in (signal.SIGTERM, signal.SIGINT, signal.SIGHUP):
+        signal.signal(it, signal.SIG_DFL)
+
+
+class Serving(Case):
+    """serve, where the program is not built."""
+
+    def with_server(self, status=1, out="", said=None):
+        self.with_rt(status, out, said)
+        (self.bin / "rt").write_text(f"#!{sys.executable}{SERVER}")
+
+    def begun(self, port, workers="4"):
+        """The server, once it has said where it listens."""
+        env = {"PATH": str(self.bin), "ROOM": str(self.room), "TMPDIR": str(self.room)}
+        words = [str(self.top / "afplane"), "serve", str(EXAMPLES / "demo.json"), str(port), workers]
+        # whoever starts the tests may ignore signals, as a shell does for what it runs in the background
+        pipes = {"stdout": subprocess.PIPE, "stderr": subprocess.PIPE, "universal_newlines": True, "preexec_fn": with_default_signals}
+        server = subprocess.Popen(words, cwd=self.room, env=env, **pipes)
+        self.addCleanup(server.kill)
+        line = server.stdout.readline()
+        self.assertRegex(line, r"\Alistening on 127\.0\.0\.1:[0-9]+\n\Z")
+        self.port = int(line.rpartition(":")[2])
+        return server
+
+    def ended(self, server):
+        """Exit status, the rest of standard output, and standard error, without the line that it compiles. Nothing is left."""
+        out, err = server.communicate(timeout=30)
+        self.assertTrue(err.startswith("afplane: compiling from source, with run-time checks and not proved"), err)
+        self.assertEqual([*self.room.glob("tmp.*")], [], "a temporary folder is left")
+        for left in range(50, 0, -1):
+            with socket.socket() as peer:
+                if peer.connect_ex(("127.0.0.1", self.port)):
+                    break
+            self.assertGreater(left, 1, "the server goes on")
+            time.sleep(0.1)
+        return server.returncode, out, "".join(err.splitlines(keepends=True)[1:])
+
+    def test_a_signal_ends_it(self):
+        self.with_server()
+        for sent, status in ((signal.SIGTERM, 143), (signal.SIGINT, 130), (signal.SIGHUP, 129)):
+            server = self.begun(0)
+            socket.create_connection(("127.0.0.1", self.port), 10).close()
+            server.send_signal(sent)
+            self.assertEqual(self.ended(server), (status, "", ""))
+        self.assertEqual((self.room / "data").read_bytes(), (EXAMPLES / "demo.json").read_bytes())
+        for call in self.calls():
+            self.assertRegex(call, r"\Aafplane try --seconds 31536000 --data given=\S.*/given -- serve given 0 4\Z")
+
+    def test_the_port_that_is_asked_for(self):
+        self.with_server()
+        with socket.create_server(("127.0.0.1", 0)) as taken:
+            free = taken.getsockname()[1]
+        server = self.begun(f"000000{free}", "016")
+        self.assertEqual(self.port, free)
+        server.terminate()
+        self.assertEqual(self.ended(server)[0], 143)
+        self.assertTrue(self.calls()[0].endswith(f" -- serve given 000000{free} 016"))
+
+    def test_what_rt_leaves_is_ended(self):
+        self.with_server()
+        (self.room / "leaves").touch()
+        server = self.begun(0)
+        server.terminate()
+        self.assertEqual(self.ended(server)[0], 143)
+
+    def test_it_ends_by_itself(self):
+        self.with_server(1, "listening on 127.0.0.1:9\n", "afplane: no more\ninterpreter: no-answer: x\n" + ENDED.format(1))
+        server = self.begun(0)
+        (self.room / "over").touch()
+        self.assertEqual(self.ended(server), (1, "", "afplane: no more\n" + PORT))
+
+    def test_it_does_not_begin(self):
+        for status, said, more in ((1, "", PORT), (3, "afplane: configuration refused: shape\n", CHECK)):
+            self.with_rt(status, "", said + ENDED.format(status))
+            (self.bin / "rt").write_text(RT.replace("${3#given=}", "${5#given=}"))
+            found, out, err = self.call("serve", EXAMPLES / "demo.json", "0", "4")
+            self.assertEqual((found, out), (status, ""))
+            self.assertEqual("".join(err.splitlines(keepends=True)[1:]), said + more)
+        self.assertEqual(self.call("serve", "none.json", "0", "4"), (3, "", "afplane: configuration refused: unreadable\n"))
+
+    def test_no_answer(self):
+        self.with_rt(1, "", "src/main.rt:3: error: no such name\nrun=none proved=no\n")
+        (self.bin / "rt").write_text(RT.replace("${3#given=}", "${5#given=}"))
+        status, out, err = self.call("serve", EXAMPLES / "demo.json", "0", "4")
+        self.assertEqual((status, out), (70, ""))
+        self.assertIn("no such name", err)
+
+
 class Build(Case):
     def steps(self, err):
         return [(int(n), int(of), crate, int(to_go)) for n, of, crate, to_go in re.findall(r"afplane: (\d+) of (\d+): (\w+) \(\d+ min so far, about (\d+) min to go\)", err)]
@@ -229,6 +377,7 @@ class Build(Case):
         self.assertGreater(to_go[-1], 0)
         # from now on the program answers, and rt is not called
         self.assertEqual(self.call("once", "c", NOW, data=b"in"), (1, f"built once c {NOW}\nin", ""))
+        self.assertEqual(self.call("serve", "c", "0", "4"), (1, "built serve c 0 4\n", ""))
         self.assertEqual(self.call("build")[0], 0)
         self.assertEqual(self.calls(), wanted)
 

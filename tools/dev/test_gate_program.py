@@ -113,6 +113,15 @@ class Gate(Case):
         self.assertEqual(passed, "1")
         self.assertGreater(int(failed), 12)
 
+    def test_concurrent_clients(self):
+        """Two minutes of them are a part of the gate, and a program that does not serve fails it."""
+        program = self.script("program", "exit 2")
+        (part,) = [it for it in GATE.parts_for(str(program)) if "concurrent clients" in it.name]
+        self.assertEqual(part.words[1:], ["conformance/many_clients.py", "--program", str(program), "--seconds", "120", "--seed", "1"])
+        status, lines = self.gate(program, only="concurrent")
+        self.assertEqual((status, lines[-1]), (1, "0 passed, 1 failed"))
+        self.assertIn("the server does not say where it listens: b''; standard error: ''", lines)
+
     def test_no_program(self):
         status, lines = self.gate(self.room / "none", "--after", "0", "69 passed, 0 failed")
         self.assertEqual((status, lines[-1]), (1, "69 passed, 1 failed"))

@@ -1,0 +1,158 @@
+#!/usr/bin/env python3
+"""Plays many clients at once on the built server, and checks all that they were answered.
+
+  python3 conformance/many_clients.py                       two minutes of ten clients
+  python3 conformance/many_clients.py --seconds 20 --seed 7 --workers 4 --clients 12
+  python3 conformance/many_clients.py --program 'PATH/PROGRAM'
+
+The clients (crowd_cases.py) list, show, pause, trigger, mark, clear and delete, change pools and variables, and read event logs. Two of them change roles and users.
+Meanwhile the server ticks each second, claims and reports. At the end all event logs are read, and history.py says whether every answer is the model's under
+the version and at the number that it names, each change of the policy in order of version, and each of the state in order of number.
+
+The last line is `N passed, M failed`, N the answers that were compared. The status is 0 only where M is 0. The seed fixes what a client asks for, but not when.
+"""
+import argparse
+import collections
+import shlex
+import shutil
+import sys
+import threading
+import time
+
+import with_model  # noqa: F401
+import crowd_cases
+from exchanges import number_in, rows_of_pages
+from history import fault
+from request_cases import head
+from serving import EMPTY, PROGRAM, Broken, Client, Serving
+
+SECONDS, PAUSE = 120, 0.045  # the mean pause of a client between two writes, in seconds
+LENGTHS = [1, 4, 25, 100, 400, 1000]  # after how many requests a client opens another connection
+NEEDED = ["tick", "claim", "report", "trigger_dag_run", "clear_dag_run", "patch_pool"]  # entries without which so many seconds show little
+LONG = 30
+
+
+class Player(threading.Thread):
+    """Plays one client until a moment, and keeps its connections: each the exchanges of one session."""
+
+    def __init__(self, guest, port, until):
+        super().__init__(daemon=True)
+        self.guest, self.port, self.until, self.sessions, self.broken = guest, port, until, [], None
+
+    def run(self):
+        try:
+            while time.monotonic() < self.until:
+                self.connection()
+        except (Broken, OSError, LookupError, ValueError) as why:
+            self.broken = f"{why!r} (request {len(self.sessions[-1]) + 1} of a connection)" if self.sessions else repr(why)
+
+    def connection(self):
+        rng, session = self.guest.rng, []
+        most = rng.choice(LENGTHS)
+        with Client(self.port) as client:
+            self.sessions.append(session)
+            while time.monotonic() < self.until and len(session) < most and not client.is_closed:
+                found = client.ask_all(self.guest.requests())
+                session += found
+                self.guest.learn(found)
+                time.sleep(max(0, min(rng.choice([0, 0, rng.expovariate(1 / (2.5 * PAUSE))]), self.until - time.monotonic())))
+            if not client.is_closed and rng.random() < 0.5:
+                client.finish()
+
+
+def all_rows(port, token):
+    """The rows of the event logs, and the sessions that read them, page by page."""
+    session, bodies, count = [], [], 0
+    with Client(port) as client:
+        while True:
+            if client.is_closed:
+                raise Broken(f"the event logs are too long for one connection: {count} rows were read")
+            asked = head(b"GET /api/v1/eventLogs?limit=100&offset=%d HTTP/1.1" % count, [b"Host: h", b"Authorization: Bearer " + token])
+            session.append(client.ask(asked))
+            first, _, body = session[-1].answer.partition(EMPTY)
+            if not first.startswith(b"HTTP/1.1 200 "):
+                raise Broken(f"the event logs cannot be read: {session[-1].answer[:300]!r}")
+            before, count = count, count + body.count(b'"event_log_id":')
+            bodies.append(body)
+            if count == before or body.endswith(b'"total_entries":%d}' % count):
+                return rows_of_pages(bodies), session
+
+
+class Played:
+    """What was played: the sessions, the rows of the event logs, and what is wrong as far as that shows without the model."""
+
+    def __init__(self, config, port, guests, seconds):
+        until = time.monotonic() + seconds
+        threads = [Player(it, port, until) for it in guests]
+        for it in threads:
+            it.start()
+        for it in threads:
+            it.join()
+        self.config, self.sessions = config, [session for it in threads for session in it.sessions if session]
+        self.faults = [f"client {place}: {it.broken}" for place, it in enumerate(threads) if it.broken]
+        self.rows = []
+        try:
+            self.rows, session = all_rows(port, crowd_cases.token("adam"))
+            self.sessions.append(session)
+        except (Broken, OSError) as why:
+            self.faults.append(str(why))
+
+    def count(self):
+        return sum(map(len, self.sessions))
+
+    def check(self):
+        """The first thing that is wrong, or None."""
+        return self.faults[0] if self.faults else fault(self.config, self.sessions, self.rows)
+
+    def said(self):
+        """What the clients met, in lines."""
+        events = collections.Counter(it["event"] for it in self.rows)
+        exchanges = [it for session in self.sessions for it in session]
+        statuses = collections.Counter(it.answer[9:12].decode() for it in exchanges)
+        moved = sum(b'"policy moved to version ' in it.answer for it in exchanges)
+        listed = lambda counts: ", ".join(f"{name} {counts[name]}" for name in sorted(counts))
+        versions = max((number_in(it.answer.partition(EMPTY)[0], b"X-Policy-Version") or 0 for it in exchanges), default=0)
+        yield f"{len(exchanges)} answers on {len(self.sessions)} connections: {listed(statuses)}; {moved} of them that the policy moved"
+        yield f"{versions} versions"
+        yield f"{len(self.rows)} entries: {listed(events)}"
+
+    def lacks(self, seconds):
+        """The entries that so long a time has to have brought, and has not."""
+        return [it for it in NEEDED if it not in {row["event"] for row in self.rows}] if seconds >= LONG else []
+
+
+def main():
+    parser = argparse.ArgumentParser(description=__doc__, formatter_class=argparse.RawDescriptionHelpFormatter)
+    parser.add_argument("--program", default=PROGRAM, help="the program and its first words, as a shell would read them")
+    parser.add_argument("--seconds", type=float, default=SECONDS)
+    parser.add_argument("--seed", default="1")
+    parser.add_argument("--workers", type=int, default=8)
+    parser.add_argument("--clients", type=int, default=10)
+    asked = parser.parse_args()
+    program = shlex.split(asked.program)
+    if shutil.which(program[0]) is None:
+        sys.exit(f"many_clients.py: there is no program {program[0]}; ./afplane build makes it")
+    config = crowd_cases.config(time.time_ns() // 1000)
+    try:
+        with Serving(program, config, asked.workers) as server:
+            before = server.memory()
+            played = Played(config, server.port, crowd_cases.guests(asked.seed, config, asked.clients), asked.seconds)
+            after = server.memory()
+    except Broken as why:
+        print(f"{why}\n0 passed, 1 failed")
+        return 1
+    for line in played.said():
+        print(line)
+    print(f"memory: {before / 1e6:.1f} MB, and {after / 1e6:.1f} MB at the end")
+    began = time.monotonic()
+    wrong = [it for it in (played.check(), server.fault()) if it]
+    wrong += [f"no entry of these kinds came: {', '.join(it)}" for it in [played.lacks(asked.seconds)] if it]
+    print(f"checked in {time.monotonic() - began:.0f} s")
+    for it in wrong:
+        print(it[:4000])
+    print(f"{0 if wrong else played.count()} passed, {len(wrong)} failed")
+    return 1 if wrong else 0
+
+
+if __name__ == "__main__":
+    sys.exit(main())

@@ -1,0 +1,175 @@
+#!/usr/bin/env python3
+"""Tests of many_clients.py: a right server passes, and each of some wrong ones is found within a second of many clients.
+
+  python3 conformance/many_clients_test.py
+"""
+import copy
+import random
+import subprocess
+import sys
+import time
+import unittest
+
+import with_model  # noqa: F401
+import crowd_cases
+from many_clients import Played, all_rows
+from oracle_names import isoformat
+from serving_test import STAND_IN
+from stand_in import StandIn, moment
+
+SECONDS, PERIOD, CLIENTS = 0.7, 0.2, 10
+
+
+def played(kind, seconds=SECONDS, seed="1"):
+    config = crowd_cases.config(moment())
+    with kind(config, period=PERIOD).listens(CLIENTS) as port:
+        return Played(config, port, crowd_cases.guests(seed, config, CLIENTS), seconds)
+
+
+class Slow(StandIn):
+    """Right, and slow in changes of the policy, so that two meet."""
+
+    def decided(self, plane, request, body):
+        found = super().decided(plane, request, body)
+        if plane.version() > self.plane.version():
+            time.sleep(0.02)
+        return found
+
+
+class LosesUpdates(StandIn):
+    """Each third change of the state is gone with the next one."""
+
+    def on_state(self, request, body):
+        before, count = self.plane.state, len(self.plane.entries)
+        found = super().on_state(request, body)
+        if count < len(self.plane.entries) and count % 3 == 0:
+            self.plane.state = before
+        return found
+
+
+class ReadsOldStates(StandIn):
+    """Each twentieth reading shows the state as it was two changes before."""
+
+    def __init__(self, config, **more):
+        super().__init__(config, **more)
+        self.states, self.count = [self.plane.state], 0
+
+    def on_state(self, request, body):
+        self.states, self.count = [*self.states, self.plane.state][-20:], self.count + 1
+        if request.method != b"GET" or self.count % 20:
+            return super().on_state(request, body)
+        plane = copy.copy(self.plane)
+        plane.state = self.states[0]
+        return self.decided(plane, request, body)
+
+
+class DecidesUnderOldPolicies(StandIn):
+    """What users may do is what they could under the version before the one that is named."""
+
+    def on_state(self, request, body):
+        versions = self.plane.versions
+        self.plane.versions = [*versions[:-1], versions[max(0, len(versions) - 2)]]
+        found = super().on_state(request, body)
+        self.plane.versions = versions
+        return found
+
+
+class OverwritesPolicies(StandIn):
+    """A change of the policy does not look whether another one came before it."""
+
+    def on_policy(self, request, body):
+        plane = copy.copy(self.plane)
+        plane.versions = list(plane.versions)
+        found = self.decided(plane, request, body)
+        if plane.version() > self.plane.version():
+            time.sleep(0.02)
+        self.plane.versions = max(plane.versions, self.plane.versions, key=len)
+        return found
+
+
+class ConfusesClients(StandIn):
+    """Now and then a request is decided with the token of the request before, whosever it was."""
+
+    token = b"nope"
+
+    def answer(self, request, body, closes):
+        own, request.token = request.token, self.token if random.random() < 0.05 else request.token
+        self.token = own
+        return super().answer(request, body, closes)
+
+
+class KeepsEntriesBack(StandIn):
+    """A change of a variable has no entry."""
+
+    def on_state(self, request, body):
+        count = len(self.plane.entries)
+        found = super().on_state(request, body)
+        if b"/variables" in request.target:
+            del self.plane.entries[count:]
+        return found
+
+
+class EndsInAnswers(StandIn):
+    """A fiftieth of the writes is cut off."""
+
+    def write(self, stream, data):
+        if random.random() < 0.02:
+            super().write(stream, data[:-1])
+            raise OSError
+        super().write(stream, data)
+
+
+class Crowds(unittest.TestCase):
+    def test_right_servers(self):
+        """Nothing is found, and in a few rounds they meet ticks, claims, reports, denials, and that the policy moved."""
+        for kind, words in ((StandIn, ["tick", "claim", "report", "trigger_dag_run", "200 ", "403 ", "401 ", "409 "]), (Slow, ["moved"])):
+            met = ""
+            for seed in "123456789":
+                it = played(kind, seed=seed)
+                self.assertIsNone(it.check())
+                self.assertEqual(it.lacks(1), [])
+                met += "\n".join(it.said()).replace("; 0 of them that the policy moved", "")
+                if all(word in met for word in words):
+                    break
+            else:
+                self.fail(met)
+
+    def test_wrong_servers(self):
+        for kind in (LosesUpdates, ReadsOldStates, DecidesUnderOldPolicies, OverwritesPolicies, ConfusesClients, KeepsEntriesBack, EndsInAnswers):
+            said = next((said for seed in "12345" if (said := played(kind, seed=seed).check())), None)
+            self.assertIsNotNone(said, kind.__name__)
+            self.assertRegex(said, "session|client|event logs", kind.__name__)
+
+    def test_what_is_missing(self):
+        it = played(StandIn, seconds=0)
+        it.rows = [{"event": "tick"}]
+        self.assertEqual(it.lacks(1), [])
+        self.assertIn("report", it.lacks(120))
+
+    def test_the_rows_of_all_pages(self):
+        """More entries than a page has, read while more come."""
+        server = StandIn(crowd_cases.config(moment()))
+        for n in range(250):
+            server.plane.add_entry("patch_dag", "adam", 0, "a")
+        with server.listens(1) as port:
+            rows, session = all_rows(port, b"adam-token")
+        self.assertGreaterEqual(len(rows), 250)
+        self.assertEqual(rows, [{**it, "when": isoformat(it["when"])} for it in server.plane.entries[: len(rows)]])
+        self.assertEqual([it.answer[9:12] for it in session], [b"200"] * 3)
+
+
+class Program(unittest.TestCase):
+    def call(self, *words):
+        ran = subprocess.run([sys.executable, "many_clients.py", *words], cwd=STAND_IN[1].rpartition("/")[0], capture_output=True, text=True)
+        return ran.returncode, ran.stdout.rstrip("\n").split("\n")
+
+    def test_counts(self):
+        status, lines = self.call("--program", " ".join(STAND_IN), "--seconds", "1", "--clients", "3", "--workers", "2")
+        self.assertEqual(status, 0, lines)
+        self.assertRegex(lines[-1], "^[1-9][0-9]+ passed, 0 failed$")
+        status, lines = self.call("--program", "true")
+        self.assertEqual((status, lines[-1]), (1, "0 passed, 1 failed"))
+
+
+if __name__ == "__main__":
+    unittest.main()
