@@ -46,6 +46,8 @@ mod routes;
 mod rows;
 #[path = "baseline/sha256.rs"]
 mod sha256;
+#[path = "baseline/text.rs"]
+mod text;
 
 use answer::{fault, put_fault, put_head, refuse};
 use audit::Author;
@@ -117,7 +119,7 @@ impl Connection {
                 fault.status
             }
         };
-        let seen = Some((self.policy.version, self.plane.audit.entries.len()));
+        let seen = Some((self.policy.version, Some(self.plane.audit.entries.len())));
         put_head(&mut self.out, status, self.reply.len(), None, seen, closes);
         self.out.extend_from_slice(&self.reply);
     }

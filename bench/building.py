@@ -37,9 +37,9 @@ def build(folder, libraries):
         shutil.rmtree(crate, ignore_errors=True)
 
 
-def build_plain(name):
-    """Compiles bench/NAME.rs into bench/out/NAME."""
+def build_plain(name, *words):
+    """Compiles bench/NAME.rs into bench/out/NAME, with more words for rustc."""
     os.makedirs(OUT, exist_ok=True)
-    words = ["rustc", "--edition", "2021", "-C", "opt-level=3", "-o", os.path.join(OUT, name), os.path.join(HERE, f"{name}.rs")]
+    words = ["rustc", "--edition", "2021", "-C", "opt-level=3", *words, "-o", os.path.join(OUT, name), os.path.join(HERE, f"{name}.rs")]
     if subprocess.run(words).returncode:
         sys.exit(f"{name}.rs doesn't compile")

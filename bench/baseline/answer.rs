@@ -1,7 +1,7 @@
 //! Answers: status line, fields, and the body of a fault.
 use std::borrow::Cow;
 
-use crate::rows::{put, put_escaped, put_number};
+use crate::text::{put, put_escaped, put_number};
 
 pub struct Fault {
     pub status: u16,
@@ -40,8 +40,8 @@ pub fn put_fault(out: &mut Vec<u8>, fault: &Fault) {
 }
 
 /// Writes the head of an answer: without a type and a length, where it has no content. Where the answer was decided under a
-/// policy, `seen` is its version and how many entries there are.
-pub fn put_head(out: &mut Vec<u8>, status: u16, length: usize, allow: Option<&str>, seen: Option<(u32, usize)>, closes: bool) {
+/// policy, `seen` is its version, and how many entries there are where it was decided on them.
+pub fn put_head(out: &mut Vec<u8>, status: u16, length: usize, allow: Option<&str>, seen: Option<(u32, Option<usize>)>, closes: bool) {
     put(out, "HTTP/1.1 ");
     put_number(out, status.into());
     put(out, " ");
@@ -61,8 +61,10 @@ pub fn put_head(out: &mut Vec<u8>, status: u16, length: usize, allow: Option<&st
     if let Some((version, entries)) = seen {
         put(out, "\r\nX-Policy-Version: ");
         put_number(out, version.into());
-        put(out, "\r\nX-Plane-Seq: ");
-        put_number(out, entries as u64);
+        if let Some(entries) = entries {
+            put(out, "\r\nX-Plane-Seq: ");
+            put_number(out, entries as u64);
+        }
     }
     put(out, if closes { "\r\nConnection: close\r\n\r\n" } else { "\r\n\r\n" });
 }

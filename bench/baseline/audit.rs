@@ -4,7 +4,7 @@ use std::rc::Rc;
 use crate::answer::{fault, Fault};
 use crate::instant;
 use crate::plane::Dag;
-use crate::rows::{put, put_name, put_number};
+use crate::text::{put, put_name, put_number};
 
 /// Who does something, and when.
 pub struct Author<'a> {

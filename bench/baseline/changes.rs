@@ -8,7 +8,8 @@ use crate::json::Value;
 use crate::names::{is_id, is_run_id};
 use crate::operations::{bad_member, object, place_of, place_of_run};
 use crate::plane::{Instance, Plane};
-use crate::rows::{put, put_chosen, put_run};
+use crate::rows::{put_chosen, put_run};
+use crate::text::put;
 
 fn truth(body: &Value<'_>, name: &str, default: bool) -> Result<bool, Fault> {
     match body.get(name) {

@@ -11,7 +11,8 @@ use crate::policy::Bearer;
 use crate::query::{window, Window};
 use crate::routes::Op;
 use crate::{changes, pools};
-use crate::rows::{close_listing, open_listing, put_dag, put_instance, put_listing, put_run, put_task};
+use crate::rows::{put_dag, put_instance, put_run, put_task};
+use crate::text::{close_listing, open_listing, put_listing};
 
 /// What is asked, with the query and the body that came with it, and by whom and when.
 pub struct Asked<'a> {

@@ -6,7 +6,8 @@ use crate::names::{is_pool_name, is_variable_key};
 use crate::operations::{bad_member, object};
 use crate::plane::{Plane, Pool, MOST_POOLS, MOST_SLOTS, MOST_VARIABLES};
 use crate::query::Window;
-use crate::rows::{put, put_listing, put_number, put_pool, put_variable};
+use crate::rows::{put_pool, put_variable};
+use crate::text::{put, put_listing, put_number};
 
 fn name<'v>(body: &'v Value<'_>, member: &str, is_name: fn(&str) -> bool) -> Result<&'v str, Fault> {
     body.get(member).and_then(Value::text).filter(|it| is_name(it)).ok_or_else(|| bad_member(member))
