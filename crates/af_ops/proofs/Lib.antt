@@ -12,6 +12,7 @@ mod ListingLemmas
 mod MarkingLemmas
 mod NamedLemmas
 mod PageLemmas
+mod PairLemmas
 mod PlainLemmas
 mod PolicyLawLemmas
 pub mod PolicyUnderLemmas

@@ -1,5 +1,5 @@
 -- A member's bytes are the text of the member, and a row's members with their braces the text of the row.
-use Rattle.std.proofs.Common.{Bor, map, subst, ℤ, ◌<◌, inl, inr, pos, negsuc, ◌≡◌, ◌≤◌, ℕ, Bool, true, false, cond, List, [], ◌∷◌, ◌++◌, refl, sym, ◌∙◌, ap, append_assoc, length, nat_le, ◌||◌, ◌==◌}
+use Rattle.std.proofs.Common.{map, subst, ℤ, ◌<◌, inl, inr, pos, negsuc, ◌≡◌, ◌≤◌, ℕ, Bool, true, false, cond, List, [], ◌∷◌, ◌++◌, refl, sym, ◌∙◌, ap, append_assoc, length, nat_le, ◌||◌, ◌==◌}
 use Rattle.std.specs.List.{list_all}
 use Rattle.std.proofs.lemmas.Bool.{and_parts, or_parts, not-true, ne_eqb, le-ltb, false≢true, eqb-false, ltb-false, cases_lt, agree_below_at}
 use Rattle.std.proofs.lemmas.List.{append-nil}
@@ -123,12 +123,6 @@ adds_pieces later old new name head rest d named is items room =
 pub integer_is : (z : ℤ) → number_text (of_integer z) ≡ signed_decimal z
 integer_is (pos n) = refl
 integer_is (negsuc n) = refl
-
--- a list of borrowed texts is the list of the texts
-pub texts_now : (old new : Filling) (name : List ℕ) (borrowed : List (Bor (List ℕ))) (texts : List (List ℕ)) → map (λ text. text.now) borrowed ≡ texts
-    → Adds false old new ((name, array (items_of (map (λ text. string text.now) borrowed))) ∷ []) → Adds false old new ((name, array (items_of (map (λ text. string text) texts))) ∷ [])
-texts_now old new name borrowed texts is adds =
-    subst (λ (items : List Data). Adds false old new ((name, array (items_of items)) ∷ [])) (map_now (λ (text : Bor (List ℕ)). text.now) (λ (text : List ℕ). string text) borrowed ∙ ap (map (λ (text : List ℕ). string text)) is) adds
 
 -- what is told of borrowed items is told of the items
 pub told_now : {X Y : Type 0} (later : Bool) (old new : Filling) (name : List ℕ) (now : X → Y) (told : Y → Data) (borrowed : List X) (items : List Y) → map now borrowed ≡ items

@@ -12,7 +12,7 @@ ghost use Rattle.af_ops.specs.Fields.{instant_data};
 use crate::instant_text::InstantText;
 use crate::plain_bytes::is_plain_text;
 use crate::text::Text;
-use af_names::{DagId, Instant, RunId, TaskId};
+use af_names::{DagId, Instant, Name, NameKind, RunId, TaskId};
 use itoa::Buffer;
 use json::Writer;
 use std::alloc::{AllocError, Global};
@@ -202,27 +202,31 @@ impl Text {
 }
 
 impl Text {
-    /// A list of texts of any bytes.
-    pub fn texts(
+    /// A list of names.
+    pub fn names<K: NameKind>(
         &mut self,
         alloc: Global,
         later: bool,
         name: &str,
-        values: &[&str],
+        values: &[&Name<K>],
     ) -> Result<(), AllocError>
         requires { IsTrue (is_name name.now) }
         ensures { OnOk result (Adds later self.old self.new ((name.now, array (items_of (map (λ value. string value.now) values.now))) ∷ [])) }
     {
         self.reserve(name.len() + 20)?;
         self.push_member(later, name.as_bytes(), b"[");
-        put_texts(alloc, self, values)?;
+        put_names(alloc, self, values)?;
         self.reserve(8)?;
         Ok(())
     }
 }
 
-/// The texts as the items of an array, and the end of that.
-fn put_texts(alloc: Global, out: &mut Text, values: &[&str]) -> Result<(), AllocError>
+/// The names as the items of an array, and the end of that.
+fn put_names<K: NameKind>(
+    alloc: Global,
+    out: &mut Text,
+    values: &[&Name<K>],
+) -> Result<(), AllocError>
     requires { 4 ≤ out.old.ready }
     ensures text { OnOk result (out.new.items ≡ out.old.items ++ items_text false (items_of (map (λ value. string value.now) values.now))) }
     ensures room { OnOk result (2 ≤ out.new.ready) }
@@ -232,7 +236,7 @@ fn put_texts(alloc: Global, out: &mut Text, values: &[&str]) -> Result<(), Alloc
         if later {
             out.push(b",");
         }
-        put_text(alloc, out, *value)?;
+        put_text(alloc, out, value.as_str())?;
         later = true;
     }
     out.push(b"]");

@@ -1,21 +1,28 @@
 // Who brings a token, and a sync of a DAG, as they are told.
-ghost use Rattle.std.specs.Prelude.{◌≡◌, [], ◌∷◌, IfOk, OnOk, codes, map, false, true, string_bytes};
+ghost use Rattle.std.specs.Prelude.{◌≡◌, ◌+◌, ◌≤◌, ◌++◌, [], ◌∷◌, IfOk, OnOk, codes, length, map, false};
 ghost use Rattle.serde_json.specs.Data.{array, string};
 ghost use Rattle.serde_json.specs.View.{items_of};
-ghost use Rattle.serde_json.specs.Written.{compact_text};
+ghost use Rattle.serde_json.specs.Written.{compact_text, items_text};
 ghost use Rattle.af_role.specs.Pairs.{pair_text};
+ghost use Rattle.af_role.specs.Resources.{action_text};
 ghost use Rattle.af_ops.specs.Fields.{object_of};
 ghost use Rattle.af_ops.specs.PolicyTexts.{me_fields, sync_fields};
 ghost use Rattle.af_ops.specs.Texts.{Adds};
 
-use crate::policy_text::pairs_of;
-use crate::row::{Row, row_text};
+use crate::row::{Row, row_text_within};
 use crate::text::Text;
-use af_names::{DagId, RoleName};
 use af_policy::Me;
-use af_role::{Pair, Permissions};
+use af_role::{Action, Pair, Permissions, Resource};
 use std::alloc::{AllocError, Global};
 use std::marker::Model;
+
+/// Bytes set aside for what is told of a user beside the permissions, and for each of these; a longer text grows.
+const ME_ROOM: usize = 256;
+
+const PAIR_ROOM: usize = 40;
+
+/// For so many permissions are bytes set aside at most.
+const MOST_PAIRS: usize = 1_000;
 
 /// Who brings a token, borrowed, and the version of the policy that says so.
 #[derive(Drop)]
@@ -44,83 +51,85 @@ impl<'v, 'a> Row for MeRow<'v, 'a> {
 pub(crate) fn me_text(alloc: Global, me: &Me<'_>, version: u32) -> Result<Vec<u8>, AllocError>
     ensures { IfOk result (λ text. text.items ≡ compact_text (object_of (me_fields (record { me = me.now; version = version })))) }
 {
-    row_text(alloc, &MeRow { me, version })
+    let room = ME_ROOM + PAIR_ROOM * me.permissions.len().min(MOST_PAIRS);
+    row_text_within(alloc, &MeRow { me, version }, room)
 }
 
 fn put_me(alloc: Global, out: &mut Text, me: &Me<'_>, version: u32) -> Result<(), AllocError>
     ensures { OnOk result (Adds false out.old out.new (me_fields (record { me = me.now; version = version }))) }
 {
-    put_permissions(alloc, out, &me.permissions)?;
+    put_permissions(out, &me.permissions)?;
     out.number(true, "policy_version", u64::from(version))?;
-    put_role_names(alloc, out, me.user.roles())?;
+    out.names(alloc, true, "roles", me.user.roles())?;
     out.text(alloc, true, "username", me.user.name().as_str())?;
     Ok(())
 }
 
-fn put_permissions(
-    alloc: Global,
-    out: &mut Text,
-    permissions: &Permissions,
-) -> Result<(), AllocError>
+fn put_permissions(out: &mut Text, permissions: &Permissions) -> Result<(), AllocError>
     ensures { OnOk result (Adds false out.old out.new ((codes "permissions", array (items_of (map (λ pair. string (pair_text pair)) permissions.now))) ∷ [])) }
 {
-    let each = pair_texts(alloc, permissions)?;
-    let borrowed = borrowed_texts(alloc, each.as_slice())?;
-    out.texts(alloc, false, "permissions", borrowed.as_slice())?;
+    out.reserve(40)?;
+    out.push_member(false, b"permissions", b"[");
+    put_pairs(out, permissions)?;
+    out.reserve(8)?;
     Ok(())
 }
 
-/// The texts of permissions, `RESOURCE.ACTION`.
-fn pair_texts(alloc: Global, permissions: &Permissions) -> Result<Vec<String>, AllocError>
-    ensures { IfOk result (λ texts. map (λ text. string_bytes text) texts.items ≡ map pair_text permissions.now) }
+/// The permissions as the items of an array, each a text, and the end of that.
+fn put_pairs(out: &mut Text, permissions: &Permissions) -> Result<(), AllocError>
+    requires { 4 ≤ out.old.ready }
+    ensures text { OnOk result (out.new.items ≡ out.old.items ++ items_text false (items_of (map (λ pair. string (pair_text pair)) permissions.now))) }
+    ensures room { OnOk result (2 ≤ out.new.ready) }
 {
-    let pairs = pairs_of(alloc, permissions)?;
-    let texts = each_text(alloc, pairs.as_slice())?;
-    Ok(texts)
-}
-
-fn each_text(alloc: Global, pairs: &[&Pair]) -> Result<Vec<String>, AllocError>
-    ensures { IfOk result (λ texts. map (λ text. string_bytes text) texts.items ≡ map (λ pair. pair_text pair.now) pairs.now) }
-{
-    let mut texts = Vec::with_capacity(alloc, pairs.len())?;
-    for pair in pairs {
-        texts.push(text_of(alloc, pair)?)?;
+    let mut later = false;
+    for pair in permissions.iter() {
+        if later {
+            out.push(b",");
+        }
+        put_pair_text(out, pair)?;
+        later = true;
     }
-    Ok(texts)
-}
-
-fn text_of(alloc: Global, pair: &Pair) -> Result<String, AllocError>
-    ensures { IfOk result (λ text. string_bytes text ≡ pair_text pair.now) }
-{
-    format!(in alloc; "{pair}")
-}
-
-fn borrowed_texts(alloc: Global, texts: &[String]) -> Result<Vec<&str>, AllocError>
-    ensures { IfOk result (λ borrowed. map (λ text. text.now) borrowed.items ≡ map (λ text. string_bytes text) texts.now) }
-{
-    let mut borrowed = Vec::with_capacity(alloc, texts.len())?;
-    for text in texts {
-        borrowed.push(text.as_str())?;
-    }
-    Ok(borrowed)
-}
-
-fn put_role_names(alloc: Global, out: &mut Text, names: &[&RoleName]) -> Result<(), AllocError>
-    ensures { OnOk result (Adds true out.old out.new ((codes "roles", array (items_of (map (λ name. string name.now) names.now))) ∷ [])) }
-{
-    let borrowed = borrowed_names(alloc, names)?;
-    out.texts(alloc, true, "roles", borrowed.as_slice())?;
+    out.push(b"]");
     Ok(())
 }
 
-fn borrowed_names<'a>(alloc: Global, names: &[&'a RoleName]) -> Result<Vec<&'a str>, AllocError>
-    ensures { IfOk result (λ borrowed. map (λ text. text.now) borrowed.items ≡ map (λ name. name.now) names.now) }
+/// Appends the text of a permission, `RESOURCE.ACTION`, in quotation marks. No byte of it wants an escape.
+fn put_pair_text(out: &mut Text, pair: &Pair) -> Result<(), AllocError>
+    ensures text { OnOk result (out.new.items ≡ out.old.items ++ compact_text (string (pair_text pair.now))) }
+    ensures room { OnOk result (4 ≤ out.new.ready) }
 {
-    let mut borrowed = Vec::with_capacity(alloc, names.len())?;
-    for name in names {
-        borrowed.push(name.as_str())?;
+    let action = action_end(pair.action());
+    match pair.resource() {
+        Resource::Kind(kind) => put_pieces(out, b"\"", kind.text(), action),
+        Resource::Dag(dag_id) => put_pieces(out, b"\"DAG:", dag_id.as_str(), action),
     }
-    Ok(borrowed)
+}
+
+/// Appends three pieces, of which the first and the last are short.
+#[inline(always)]
+fn put_pieces(out: &mut Text, front: &[u8], middle: &str, end: &[u8]) -> Result<(), AllocError>
+    requires { length front.now + length end.now ≤ 20 }
+    ensures text { OnOk result (out.new.items ≡ out.old.items ++ (front.now ++ (middle.now ++ end.now))) }
+    ensures room { OnOk result (4 ≤ out.new.ready) }
+{
+    out.reserve(middle.len() + 24)?;
+    out.push(front);
+    out.push(middle.as_bytes());
+    out.push(end);
+    Ok(())
+}
+
+/// What follows the resource in the text of a permission: the action, and the quotation mark.
+fn action_end(action: Action) -> &'static [u8]
+    ensures text { result.now ≡ codes "." ++ (action_text action ++ 34 ∷ []) }
+    ensures short { length result.now ≤ 12 }
+{
+    match action {
+        Action::Create => b".can_create\"",
+        Action::Read => b".can_read\"",
+        Action::Edit => b".can_edit\"",
+        Action::Delete => b".can_delete\"",
+    }
 }
 
 /// A DAG whose access control was taken over, borrowed, and the version that this made.

@@ -124,7 +124,7 @@ fn put_role(
 }
 
 /// The permissions, borrowed.
-pub(crate) fn pairs_of(alloc: Global, permissions: &Permissions) -> Result<Vec<&Pair>, AllocError>
+fn pairs_of(alloc: Global, permissions: &Permissions) -> Result<Vec<&Pair>, AllocError>
     ensures { IfOk result (λ pairs. map (λ pair. pair.now) pairs.items ≡ permissions.now) }
 {
     permissions.iter().collect(alloc)

@@ -8,8 +8,8 @@ ghost use Rattle.af_ops.specs.Texts.{Adds, is_name};
 use crate::text::Text;
 use std::alloc::{AllocError, Global};
 
-/// Bytes set aside for a row; a longer text grows.
-const ROW_ROOM: usize = 160;
+/// Bytes set aside for a row, as many as most rows have; a longer text grows.
+const ROW_ROOM: usize = 384;
 
 /// A row that is told as an object.
 pub trait Row {
@@ -33,7 +33,18 @@ impl<R: Row> Row for &R {
 pub fn row_text<R: Row>(alloc: Global, row: &R) -> Result<Vec<u8>, AllocError>
     ensures { IfOk result (λ text. text.items ≡ compact_text (object_of (R.fields row.now))) }
 {
-    let mut out = Text::with_room(alloc, ROW_ROOM)?;
+    row_text_within(alloc, row, ROW_ROOM)
+}
+
+/// The same, where so many bytes are set aside; a longer text grows.
+pub(crate) fn row_text_within<R: Row>(
+    alloc: Global,
+    row: &R,
+    room: usize,
+) -> Result<Vec<u8>, AllocError>
+    ensures { IfOk result (λ text. text.items ≡ compact_text (object_of (R.fields row.now))) }
+{
+    let mut out = Text::with_memory(alloc, room)?;
     put_row(alloc, &mut out, row)?;
     Ok(out.into_bytes())
 }

@@ -5,6 +5,6 @@ use Rattle.af_ops.proofs.me_text.put_me.Goals as goal
 
 pub returns : goal.returns
 returns c =
-    let roles = told_now true c.number.new.self c.put_role_names.new.out (codes "roles") (λ name. name.now) (λ text. string text) c.roles.result.now c.args.me.now.user.roles c.roles.ensures c.in_ok-put_role_names.ensures in
+    let roles = told_now true c.number.new.self c.names.new.self (codes "roles") (λ name. name.now) (λ text. string text) c.roles.result.now c.args.me.now.user.roles c.roles.ensures c.in_ok-names.ensures in
     rw (← c.from.ensures, ← c.name.ensures, ← c.as_str.ensures.text)
     (more (more (more c.in_ok-put_permissions.ensures c.in_ok-number.ensures) roles) c.in_ok-text.ensures)
