@@ -15,7 +15,7 @@ use Rattle.af_plane.specs.Visits.{PlaneRows, Visit}
 
 module _ (name : Name) (old new : PlaneRows) (was now : Visit) (token : Option (List ℕ)) (t : ℕ) (gave : Served) (basis : Basis) where
   -- a call that is placed on the plane is decided there
-  placed_so : (it : Call) → IsPlaced name.site (record { token = token; call = it; at = t }) old was gave new now basis it → IsDecidedBy (as_solo name.site old was) (record { token = token; call = it; at = t }) gave (as_solo name.site new now) basis it
+  pub placed_so : (it : Call) → IsPlaced name.site (record { token = token; call = it; at = t }) old was gave new now basis it → IsDecidedBy (as_solo name.site old was) (record { token = token; call = it; at = t }) gave (as_solo name.site new now) basis it
   placed_so (call.State op) is = is
   placed_so (call.Entries window) is = is
   placed_so (call.Policy asked) is = absurd is
@@ -53,8 +53,8 @@ operations_are_events name versions old session x asked was now basis is found n
 
 pub deeds_are_events : DeedsAreEvents
 deeds_are_events name versions old session was now found = (
-  λ t told it here. ((refl, record { was = was; now = now; of = record { found = found; visits = refl }; does = subst (λ (p : PlaneRows). TickIs p.ledger t told it.new.ledger) here it.does.1 }), it.left),
-  λ t told it here. ((refl, record { was = was; now = now; of = record { found = found; visits = refl }; does = subst (λ (p : PlaneRows). ClaimIs p.ledger t told it.new.ledger) here it.does.1 }), it.left),
+  λ t told it here. ((refl, record { was = was; now = now; of = record { found = found; visits = refl }; does = subst (λ (p : PlaneRows). TickIs p.ledger t told it.new.ledger) here it.on.does.1 }), it.on.left),
+  λ t told it here. ((refl, record { was = was; now = now; of = record { found = found; visits = refl }; does = subst (λ (p : PlaneRows). ClaimIs p.ledger t told it.new.ledger) here it.on.does.1 }), it.on.left),
   λ claim outcome t told it here.
-      ((refl, record { was = was; now = now; of = record { found = found; visits = refl }; does = subst (λ (p : PlaneRows). ReportIs p.ledger claim outcome t told it.new.ledger) here it.does.1 }), it.left),
+      ((refl, record { was = was; now = now; of = record { found = found; visits = refl }; does = subst (λ (p : PlaneRows). ReportIs p.ledger claim outcome t told it.new.ledger) here it.on.does.1 }), it.on.left),
 )

@@ -11,6 +11,7 @@ pub mod RunLemmas
 pub mod EventLemmas
 pub mod SharedLemmas
 mod ControlLemmas
+mod StayLemmas
 pub mod NameLemmas
 mod CallLemmas
 pub mod Threads

@@ -36,7 +36,7 @@ use Rattle.af_audit.specs.Ledgers.{Climb, LedgerRows}
 use Rattle.af_board.specs.Marks.{Site, policy_of}
 use Rattle.af_plane.specs.declared.grounds.Grounds.{Grounds}
 use Rattle.af_plane.specs.declared.grounds.Grounds.TheVariants as grounds
-use Rattle.af_plane.specs.Administered.{IsAdministered, IsGiven}
+use Rattle.af_plane.specs.Administered.{HasAsked, IsAdministered, IsGiven}
 use Rattle.af_plane.specs.Events.{AreAnswered, Exchange, named_by, named_in}
 use Rattle.af_plane.specs.Laws.{NamedVersionsNeverFall}
 use Rattle.af_plane.specs.Looks.{Basis, Missed, On, Openly, looked}
@@ -167,6 +167,7 @@ module _ (site : Site) (token : Option (List ℕ)) (t : ℕ) (old new : PlaneRow
       let it = is.1 opens in none_named shown now (open_names asked t old.ledger shown opens it.served.0)
   by_open asked false basis closed is = acted_names (call.State asked) basis (is.0 closed)
 
+module _ (site : Site) (token : Option (List ℕ)) (was now : Visit) (shown : Shown) where
   given_names : (asked : PolicyOp) (it : Grounds) → IsGiven site token asked (served.Shown shown) now it → NamesLast (served.Shown shown) now
   given_names asked (grounds.Under m) is = names_last shown m.version now is.last.1.last (named_told m.version _ shown is.told)
   given_names asked (grounds.Made r) is =
@@ -181,13 +182,18 @@ module _ (site : Site) (token : Option (List ℕ)) (t : ℕ) (old new : PlaneRow
   administered_names asked Missed is = missed_names shown now is.0.told
   administered_names asked (On it) is = given_names asked it is.given
 
+-- so does the answer to an operation on the policy
+pub asked_names : (site : Site) (token : Option (List ℕ)) (asked : PolicyOp) (was : Visit) (gave : Served) (now : Visit) → HasAsked site token asked was gave now → NamesLast gave now
+asked_names site token asked was (served.Shown shown) now is = administered_names site token was now shown asked is.basis is.administered
+asked_names site token asked was served.NothingDone now is = tt
+
 decided_so : (old new : SoloRows) (token : Option (List ℕ)) (t : ℕ) (basis : Basis) (shown : Shown) (it : Call) → IsDecidedBy old (record { token = token; call = it; at = t }) (served.Shown shown) new basis it → NamesLast (served.Shown shown) new.session
 decided_so old new token t basis shown (call.State asked) is =
     by_open old.site token t old.plane new.plane old.session new.session shown asked (is_open (endpoint_of asked)) basis refl is
 decided_so old new token t basis shown (call.Entries window) is =
     acted_names old.site token t old.plane new.plane old.session new.session shown (call.Entries window) basis is
 decided_so old new token t basis shown (call.Policy asked) is =
-    administered_names old.site token t old.plane new.plane old.session new.session shown asked basis is.0
+    administered_names old.site token old.session new.session shown asked basis is.0
 
 pub decided_names : (old new : SoloRows) (asked : RequestRows) (gave : Served) (basis : Basis) → IsDecidedBy old asked gave new basis asked.call → NamesLast gave new.session
 decided_names old new asked (served.Shown shown) basis is = decided_so old new asked.token asked.at basis shown asked.call is
@@ -195,19 +201,19 @@ decided_names old new asked served.NothingDone basis is = tt
 
 -- ---- of all calls
 
-module _ (mid : SoloRows) (ns : List ℕ) (rest : (n : ℕ) → n + 1 ≤ length mid.session.pass.places → Climb n ns) where
-  by_version : (low : ℕ) (o : Option ℕ) → low + 1 ≤ length mid.session.pass.places → IfSome o (λ v. length mid.session.pass.places ≡ v + 1) → Climb low (option_to_list o ++ ns)
+module _ (mid : Visit) (ns : List ℕ) (rest : (n : ℕ) → n + 1 ≤ length mid.pass.places → Climb n ns) where
+  by_version : (low : ℕ) (o : Option ℕ) → low + 1 ≤ length mid.pass.places → IfSome o (λ v. length mid.pass.places ≡ v + 1) → Climb low (option_to_list o ++ ns)
   by_version low None le is = rest low le
   by_version low (Some v) le is = (omega (arith, le, is), rest v (omega (arith, is)))
 
-  climbs : (low : ℕ) (gave : Served) → low + 1 ≤ length mid.session.pass.places → NamesLast gave mid.session → Climb low (named_by gave ++ ns)
+  pub climbs : (low : ℕ) (gave : Served) → low + 1 ≤ length mid.pass.places → NamesLast gave mid → Climb low (named_by gave ++ ns)
   climbs low (served.Shown shown) le is = by_version low shown.version le is
   climbs low served.NothingDone le is = rest low le
 
 all_climb : (old : SoloRows) (exchanges : List Exchange) (new : SoloRows) (low : ℕ) → low + 1 ≤ length old.session.pass.places → AreAnswered old exchanges new → Climb low (named_in exchanges)
 all_climb old [] new low le are = tt
 all_climb old (x ∷ xs) new low le (mid, (basis, answered, later)) =
-    climbs mid (named_in xs) (λ n more. all_climb mid xs new n more later) low x.served
+    climbs mid.session (named_in xs) (λ n more. all_climb mid xs new n more later) low x.served
     (omega (arith, le, prefix_length old.session.pass.places mid.session.pass.places answered.longer)) answered.names
 
 pub never_fall : NamedVersionsNeverFall

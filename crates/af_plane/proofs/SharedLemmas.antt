@@ -33,7 +33,7 @@ use Rattle.af_plane.specs.Laws.{CallsOfAllAreOneRun, EntriesOfAllAreGranted, Ver
 use Rattle.af_plane.specs.Looks.{Basis}
 use Rattle.af_plane.specs.Names.{IsNamed, Name}
 use Rattle.af_plane.specs.Planes.{ClaimIs, ReportIs, TickIs, over, try_of}
-use Rattle.af_plane.specs.Shared.{AreEvents, Called, Claimed, Event, Happens, IsHeld, IsTaken, Opened, Reported, SharedRows, Ticked, as_solo, first_versions, opening_of, turns_at, turns_of_claim, turns_of_report, turns_of_tick}
+use Rattle.af_plane.specs.Shared.{AreHappenings, Called, Claimed, Happening, Happens, IsHeld, IsTaken, Opened, Reported, SharedRows, Ticked, as_solo, first_versions, opening_of, turns_of_happening, turns_of_claim, turns_of_report, turns_of_tick}
 use Rattle.af_plane.specs.Sheets.{Sheet, having_seen, sheet, world_over}
 use Rattle.af_plane.specs.Visits.{Visit}
 use Rattle.af_plane.proofs.RunLemmas.{MayRun, call_runs, no_fewer, run_join}
@@ -161,7 +161,7 @@ is_state ledger is = replayed ledger.audit.entries ledger.opening ledger.state i
 held_visits : (old : SharedRows) (session : ℕ) (was now : Visit) (new : SharedRows) → IsHeld old session was now new → length old.visits ≤ length new.visits
 held_visits old session was now new is = omega (arith, ap length is.visits, set_length old.visits session now)
 
-more_visits : (site : Site) (versions : VersionRows) (old : SharedRows) (e : Event) (left : VersionRows) (new : SharedRows) → Happens site versions old e left new → length old.visits ≤ length new.visits
+more_visits : (site : Site) (versions : VersionRows) (old : SharedRows) (e : Happening) (left : VersionRows) (new : SharedRows) → Happens site versions old e left new → length old.visits ≤ length new.visits
 more_visits site versions old (Opened visit) left new is =
     omega (arith, ap length is.2, length-append old.visits (visit ∷ []))
 more_visits site versions old (Called session x basis) left new is = held_visits old session is.1.was is.1.now new is.1.of
@@ -182,7 +182,7 @@ module _ (n : ℕ) (name : Name) (versions : VersionRows) (old : SharedRows) (le
       (omega (arith, slice_get_within old.visits session is.was is.of.found, ap length is.of.visits, set_length old.visits session is.now, all)) (no_fewer name.site versions basis)
       (call_runs session versions (as_solo name.site old.plane is.was) (as_solo name.site new.plane is.now) x.asked.token x.asked.at x.served basis state still x.asked.call is.decided is.stands)
 
-  pub event_leads : (e : Event) → Happens name.site versions old e left new → LeadsFrom (turns_at new.plane.ledger e) left
+  pub event_leads : (e : Happening) → Happens name.site versions old e left new → LeadsFrom (turns_of_happening new.plane.ledger e) left
   event_leads (Opened visit) is =
       subst (LeadsFrom []) (sym is.0) (same_leads n versions old.plane.ledger new.plane.ledger holder sessions seen still is.1)
   event_leads (Called session x basis) is =
@@ -199,7 +199,7 @@ module _ (n : ℕ) (name : Name) (versions : VersionRows) (old : SharedRows) (le
 
 -- ---- all events
 
-all_visits : (name : Name) (versions : VersionRows) (old : SharedRows) (events : List Event) (turns : List AnsweredStep) (left : VersionRows) (new : SharedRows) → AreEvents name versions old events turns left new → length old.visits ≤ length new.visits
+all_visits : (name : Name) (versions : VersionRows) (old : SharedRows) (events : List Happening) (turns : List AnsweredStep) (left : VersionRows) (new : SharedRows) → AreHappenings name versions old events turns left new → length old.visits ≤ length new.visits
 all_visits name versions old [] turns left new are = omega (arith, ap (λ (s : SharedRows). length s.visits) are.2)
 all_visits name versions old (e ∷ es) turns left new (mid, (between, (later, is, are, joined))) =
     omega (arith, more_visits name.site versions old e mid between is.0, all_visits name mid between es later left new are)
@@ -218,14 +218,14 @@ nothing_happens : (versions left : VersionRows) (old new : SharedRows) → left 
 nothing_happens versions left old new same alike =
     ap (λ (v : VersionRows). sheet v new.plane.ledger) same ∙ ap (λ (s : SharedRows). sheet versions s.plane.ledger) alike
 
-all_lead : (n : ℕ) (name : Name) (versions : VersionRows) (old : SharedRows) (events : List Event) (turns : List AnsweredStep) (left : VersionRows) (new : SharedRows) (holder : Option ℕ) (sessions : List Seen) → AreSeen n versions sessions → length new.visits ≤ n → IsState old.plane.ledger.state → AreEvents name versions old events turns left new → Leads n (sheet versions old.plane.ledger) holder sessions turns (sheet left new.plane.ledger)
+all_lead : (n : ℕ) (name : Name) (versions : VersionRows) (old : SharedRows) (events : List Happening) (turns : List AnsweredStep) (left : VersionRows) (new : SharedRows) (holder : Option ℕ) (sessions : List Seen) → AreSeen n versions sessions → length new.visits ≤ n → IsState old.plane.ledger.state → AreHappenings name versions old events turns left new → Leads n (sheet versions old.plane.ledger) holder sessions turns (sheet left new.plane.ledger)
 all_lead n name versions old [] turns left new holder sessions seen all state are =
     subst (λ (ts : List AnsweredStep). Leads n (sheet versions old.plane.ledger) holder sessions ts (sheet left new.plane.ledger)) (sym are.0)
     (no_turn n (sheet versions old.plane.ledger) holder sessions seen (sheet left new.plane.ledger) (nothing_happens versions left old new are.1 are.2))
 all_lead n name versions old (e ∷ es) turns left new holder sessions seen all state (mid, (between, (later, is, are, joined))) =
     let within : length between.visits ≤ n = omega (arith, all_visits name mid between es later left new are, all) in
     let one = event_leads n name versions old mid between holder sessions seen within state is.1 e is.0 in
-    and_then n (sheet versions old.plane.ledger) (sheet mid between.plane.ledger) (sheet left new.plane.ledger) holder sessions (turns_at between.plane.ledger e) later turns joined one
+    and_then n (sheet versions old.plane.ledger) (sheet mid between.plane.ledger) (sheet left new.plane.ledger) holder sessions (turns_of_happening between.plane.ledger e) later turns joined one
     (all_lead n name mid between es later left new one.then_holder one.then_sessions one.seen all (is_state between.plane.ledger is.1.ledger) are)
 
 pub calls_of_all_are_one_run : CallsOfAllAreOneRun

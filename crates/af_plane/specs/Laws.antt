@@ -33,6 +33,7 @@ use Rattle.af_plane.specs.Shared as shared
 use Rattle.af_plane.specs.Shared.{Called, IsFirst, SharedRows, first_versions, opening_of}
 use Rattle.af_plane.specs.Sheets.{Administers, LooksAndActs, sheet}
 use Rattle.af_plane.specs.Solos.{IsOpening, alone}
+use Rattle.af_plane.specs.Stays.{Calls, HasGoneOn}
 use Rattle.af_plane.specs.Turns.{IsActedUnder}
 use Rattle.af_plane.specs.Visits.{PlaneRows, SoloRows, Visit}
 
@@ -104,7 +105,7 @@ abbrev pub CallsAreEvents : Type 0
 CallsAreEvents =
     (name : Name) (versions : VersionRows) (old : SharedRows) (session : ℕ) (x : Exchange) (was now : Visit)
     → slice_get old.visits session ≡ Some was → (it : IsCall name x.asked was x.served now) → it.old ≡ old.plane → StandsFor name.site now versions it.turn.0
-    → shared.IsEvent name versions old (Called session x it.turn.0) (left_by name.site versions it.turn.0) (record { plane = it.new; visits = slice_set old.visits session now })
+    → shared.IsHappening name versions old (Called session x it.turn.0) (left_by name.site versions it.turn.0) (record { plane = it.new; visits = slice_set old.visits session now })
 
 -- so is what it asks of the policy, on the plane that there is
 abbrev pub OperationsAreEvents : Type 0
@@ -112,43 +113,49 @@ OperationsAreEvents =
     (name : Name) (versions : VersionRows) (old : SharedRows) (session : ℕ) (x : Exchange) (asked : PolicyOp) (was now : Visit) (basis : Basis)
     → x.asked.call ≡ call.Policy asked → slice_get old.visits session ≡ Some was → IsNamed name old.plane
     → IsAdministered name.site x.asked.token asked was x.served now basis → StandsFor name.site now versions basis
-    → shared.IsEvent name versions old (Called session x basis) (left_by name.site versions basis) (record { plane = old.plane; visits = slice_set old.visits session now })
+    → shared.IsHappening name versions old (Called session x basis) (left_by name.site versions basis) (record { plane = old.plane; visits = slice_set old.visits session now })
 
 -- so is what the scheduler or an executor does, while a session of theirs has the lock
 abbrev pub DeedsAreEvents : Type 0
 DeedsAreEvents =
     (name : Name) (versions : VersionRows) (old : SharedRows) (session : ℕ) (was now : Visit) → slice_get old.visits session ≡ Some was
     → ((t : ℕ) (told : Result Bool AuditFault) (it : IsDone name was now (λ l m. IsTicked t l m told × TickIs l t told m)) → it.old ≡ old.plane
-    → shared.IsEvent name versions old (shared.Ticked session t told) versions (record { plane = it.new; visits = slice_set old.visits session now }))
+    → shared.IsHappening name versions old (shared.Ticked session t told) versions (record { plane = it.new; visits = slice_set old.visits session now }))
     × ((t : ℕ) (told : Result (Option Claim) AuditFault) (it : IsDone name was now (λ l m. IsClaimed t l m told × ClaimIs l t told m)) → it.old ≡ old.plane
-    → shared.IsEvent name versions old (shared.Claimed session t told) versions (record { plane = it.new; visits = slice_set old.visits session now }))
+    → shared.IsHappening name versions old (shared.Claimed session t told) versions (record { plane = it.new; visits = slice_set old.visits session now }))
     × ((claim : Claim) (outcome : Outcome) (t : ℕ) (told : Result (Unit {0}) ReportRefusal) (it : IsDone name was now (λ l m. IsReported t claim outcome l m told × ReportIs l claim outcome t told m)) → it.old ≡ old.plane
-    → shared.IsEvent name versions old (shared.Reported session claim outcome t told) versions (record { plane = it.new; visits = slice_set old.visits session now }))
+    → shared.IsHappening name versions old (shared.Reported session claim outcome t told) versions (record { plane = it.new; visits = slice_set old.visits session now }))
 
 -- All that sessions over one plane ask for, in the order in which they took its lock, and all that happens there between, is one run of the
 -- world of as many sessions: its steps are those of the events, with the answers that were given.
 abbrev pub CallsOfAllAreOneRun : Type 0
 CallsOfAllAreOneRun =
-    (name : Name) (first : SharedRows) (events : List shared.Event) (turns : List AnsweredStep) (left : VersionRows) (new : SharedRows)
-    → IsFirst name first → shared.AreEvents name (first_versions name) first events turns left new
-    → shared.AreOneRun (opening_of name (length new.visits)) turns left new
+    (name : Name) (first : SharedRows) (events : List shared.Happening) (turns : List AnsweredStep) (left : VersionRows) (new : SharedRows)
+    → IsFirst name first → shared.AreHappenings name (first_versions name) first events turns left new
+    → shared.IsRunOfAll (opening_of name (length new.visits)) turns left new
 
 -- the entries lead from the opening state to the one that stands, and each of a user's stands under a version in which that user's roles
 -- list a permission for each requirement, on the state before it; whichever session the user came by
 abbrev pub EntriesOfAllAreGranted : Type 0
 EntriesOfAllAreGranted =
-    (opening : OpeningRows) (turns : List AnsweredStep) (left : VersionRows) (new : SharedRows) → shared.AreOneRun opening turns left new
+    (opening : OpeningRows) (turns : List AnsweredStep) (left : VersionRows) (new : SharedRows) → shared.IsRunOfAll opening turns left new
     → AreGranted (all_versions left) opening.state new.plane.ledger.audit.entries new.plane.ledger.state
 
 -- each later version is made of the one before it by an author whose roles there list all that the change requires, whichever session it
 -- was made by
 abbrev pub VersionsOfAllFollow : Type 0
 VersionsOfAllFollow =
-    (opening : OpeningRows) (turns : List AnsweredStep) (left : VersionRows) (new : SharedRows) → shared.AreOneRun opening turns left new
+    (opening : OpeningRows) (turns : List AnsweredStep) (left : VersionRows) (new : SharedRows) → shared.IsRunOfAll opening turns left new
     → FollowEachOther (all_versions left)
 
 -- the versions that the answers to one session name never fall, whatever the others do between
 abbrev pub VersionsToldToEachClimb : Type 0
 VersionsToldToEachClimb =
-    (opening : OpeningRows) (turns : List AnsweredStep) (left : VersionRows) (new : SharedRows) (session : ℕ) → shared.AreOneRun opening turns left new
+    (opening : OpeningRows) (turns : List AnsweredStep) (left : VersionRows) (new : SharedRows) (session : ℕ) → shared.IsRunOfAll opening turns left new
     → Climb 0 (told session (steps_in turns) (answers_in turns))
+
+-- No session goes back: after any calls of one session it has still seen all versions and entries that it had seen, and the versions that
+-- its answers name never fall. This needs no order of the calls of others.
+abbrev pub NoSessionGoesBack : Type 0
+NoSessionGoesBack =
+    (name : Name) (was : Visit) (exchanges : List Exchange) (now : Visit) → Calls name was exchanges now → HasGoneOn was exchanges now

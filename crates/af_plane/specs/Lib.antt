@@ -1,5 +1,6 @@
 pub mod Requests
 pub mod Visits
+pub mod Logs
 pub mod Growth
 pub mod Looks
 pub mod Planes
@@ -12,4 +13,5 @@ pub mod Sheets
 pub mod Alone
 pub mod Events
 pub mod Shared
+pub mod Stays
 pub mod Laws

@@ -46,8 +46,8 @@ pub record IsNamed (name : Name) (plane : PlaneRows) : Type 0 where
   pub ledger : IsLedger plane.ledger
   pub entries : plane.keeper.entries ≡ plane.ledger.audit.entries
 
--- A call of a session is a turn on a plane that the name means, and leaves such a plane. Which one it finds is not said but that the session
--- had seen no more entries than that plane has.
+-- A call of a session is a turn on a plane that the name means, and leaves such a plane. Which one it finds is not said; but for an open
+-- operation, the session had seen no more entries than that plane has.
 pub record IsCall (name : Name) (asked : RequestRows) (was : Visit) (gave : Served) (now : Visit) : Type 0 where
   pub old : PlaneRows
   pub new : PlaneRows
@@ -60,10 +60,14 @@ pub record IsCall (name : Name) (asked : RequestRows) (was : Visit) (gave : Serv
 
 -- What the scheduler or an executor does to the ledger of the plane that the name means, while a session of theirs has the lock. It is done
 -- under the version at which that plane looked last.
-pub record IsDone (name : Name) (was now : Visit) (Does : LedgerRows → LedgerRows → Type 0) : Type 0 where
-  pub old : PlaneRows
-  pub new : PlaneRows
+pub record IsDoneOn (name : Name) (old new : PlaneRows) (was now : Visit) (Does : LedgerRows → LedgerRows → Type 0) : Type 0 where
   pub found : IsNamed name old
   pub left : IsNamed name new
   pub visited : HasVisited name.site name.keeper old was new now
   pub does : Does old.ledger new.ledger
+
+-- It is done on a plane that the name means. Which one is not said but that the session had seen no more entries than that plane has.
+pub record IsDone (name : Name) (was now : Visit) (Does : LedgerRows → LedgerRows → Type 0) : Type 0 where
+  pub old : PlaneRows
+  pub new : PlaneRows
+  pub on : IsDoneOn name old new was now Does

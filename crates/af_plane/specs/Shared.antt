@@ -53,15 +53,15 @@ opening_of name sessions = record {
 
 -- ---- what happens
 
-pub data Event : Type 0 where
+pub data Happening : Type 0 where
   -- a session was opened, and holds this
-  Opened : (visit : Visit) → Event
+  Opened : (visit : Visit) → Happening
   -- a session's call, and what its answer rests on
-  Called : (session : ℕ) (exchange : Exchange) (basis : Basis) → Event
+  Called : (session : ℕ) (exchange : Exchange) (basis : Basis) → Happening
   -- a tick of the scheduler, a claim and a report of executors, each at a moment, while a session of theirs had the lock, and what it came to
-  Ticked : (session t : ℕ) (told : Result Bool AuditFault) → Event
-  Claimed : (session t : ℕ) (told : Result (Option Claim) AuditFault) → Event
-  Reported : (session : ℕ) (claim : Claim) (outcome : Outcome) (t : ℕ) (told : Result (Unit {0}) ReportRefusal) → Event
+  Ticked : (session t : ℕ) (told : Result Bool AuditFault) → Happening
+  Claimed : (session t : ℕ) (told : Result (Option Claim) AuditFault) → Happening
+  Reported : (session : ℕ) (claim : Claim) (outcome : Outcome) (t : ℕ) (told : Result (Unit {0}) ReportRefusal) → Happening
 
 -- a session held this, and then that; the others hold what they held
 pub record IsHeld (old : SharedRows) (session : ℕ) (was now : Visit) (new : SharedRows) : Type 0 where
@@ -89,7 +89,7 @@ pub record IsVisited (old : SharedRows) (session : ℕ) (Does : LedgerRows → L
   pub does : Does old.plane.ledger new.plane.ledger
 
 -- what happens on a board, from a list of versions, a plane and sessions to others
-abbrev pub Happens : Site → VersionRows → SharedRows → Event → VersionRows → SharedRows → Type 0
+abbrev pub Happens : Site → VersionRows → SharedRows → Happening → VersionRows → SharedRows → Type 0
 Happens site versions old (Opened visit) left new =
     (left ≡ versions) × (new.plane.ledger ≡ old.plane.ledger) × (new.visits ≡ old.visits ++ visit ∷ [])
 Happens site versions old (Called session x basis) left new =
@@ -102,8 +102,8 @@ Happens site versions old (Reported session claim outcome t told) left new =
     (left ≡ versions) × IsVisited old session (λ was now. ReportIs was claim outcome t told now) new
 
 -- and the plane that it leaves is still the one that the name means
-abbrev pub IsEvent : Name → VersionRows → SharedRows → Event → VersionRows → SharedRows → Type 0
-IsEvent name versions old e left new = Happens name.site versions old e left new × IsNamed name new.plane
+abbrev pub IsHappening : Name → VersionRows → SharedRows → Happening → VersionRows → SharedRows → Type 0
+IsHappening name versions old e left new = Happens name.site versions old e left new × IsNamed name new.plane
 
 -- ---- what it is in the world
 
@@ -126,25 +126,25 @@ turns_of_report left claim outcome t (Err (refusal.Fault fault)) = (step.Report 
 turns_of_report left claim outcome t (Err (refusal.Audit HistoryFull)) = (step.Report (try_of claim outcome) t, Some (report_told left NoRoom)) ∷ []
 turns_of_report left claim outcome t (Err (refusal.Audit OutOfMemory)) = []
 
--- an event that left this ledger; in the world all sessions are there from the beginning
-abbrev pub turns_at : LedgerRows → Event → List AnsweredStep
-turns_at left (Opened visit) = []
-turns_at left (Called session x basis) = turns_by session x.asked x.served basis
-turns_at left (Ticked session t told) = turns_of_tick left t told
-turns_at left (Claimed session t told) = turns_of_claim left t told
-turns_at left (Reported session claim outcome t told) = turns_of_report left claim outcome t told
+-- what happened and left this ledger; in the world all sessions are there from the beginning
+abbrev pub turns_of_happening : LedgerRows → Happening → List AnsweredStep
+turns_of_happening left (Opened visit) = []
+turns_of_happening left (Called session x basis) = turns_by session x.asked x.served basis
+turns_of_happening left (Ticked session t told) = turns_of_tick left t told
+turns_of_happening left (Claimed session t told) = turns_of_claim left t told
+turns_of_happening left (Reported session claim outcome t told) = turns_of_report left claim outcome t told
 
--- ---- of all events
+-- ---- of all that happens
 
 -- one after another, with what they are in the world
-abbrev pub AreEvents : Name → VersionRows → SharedRows → List Event → List AnsweredStep → VersionRows → SharedRows → Type 0
-AreEvents name versions old [] turns left new = (turns ≡ []) × (left ≡ versions) × (new ≡ old)
-AreEvents name versions old (e ∷ es) turns left new =
-    (mid : VersionRows) × ((between : SharedRows) × ((later : List AnsweredStep) × IsEvent name versions old e mid between
-    × AreEvents name mid between es later left new × (turns ≡ turns_at between.plane.ledger e ++ later)))
+abbrev pub AreHappenings : Name → VersionRows → SharedRows → List Happening → List AnsweredStep → VersionRows → SharedRows → Type 0
+AreHappenings name versions old [] turns left new = (turns ≡ []) × (left ≡ versions) × (new ≡ old)
+AreHappenings name versions old (e ∷ es) turns left new =
+    (mid : VersionRows) × ((between : SharedRows) × ((later : List AnsweredStep) × IsHappening name versions old e mid between
+    × AreHappenings name mid between es later left new × (turns ≡ turns_of_happening between.plane.ledger e ++ later)))
 
 -- the steps lead from an opening to a world over these versions and the plane's ledger, and their answers are those
-pub record AreOneRun (opening : OpeningRows) (turns : List AnsweredStep) (left : VersionRows) (shared : SharedRows) : Type 0 where
+pub record IsRunOfAll (opening : OpeningRows) (turns : List AnsweredStep) (left : VersionRows) (shared : SharedRows) : Type 0 where
   pub holder : Option ℕ
   pub sessions : List Seen
   pub leads : Reaches opening (steps_in turns) (answers_in turns) (over left shared.plane.ledger holder sessions)

@@ -5,15 +5,18 @@ ghost use Rattle.af_audit.specs.Claimed.{IsClaimed};
 ghost use Rattle.af_audit.specs.Reported.{IsReported};
 ghost use Rattle.af_audit.specs.Ticked.{IsTicked};
 ghost use Rattle.af_plane.specs.Administered.{HasAsked};
+ghost use Rattle.af_plane.specs.Logs.{HasAskedOnce, HasCalled, HasClaimed, HasReported, HasTicked, new_visitor};
+ghost use Rattle.af_plane.specs.Looks.{held};
 ghost use Rattle.af_plane.specs.Names.{IsCall, IsDone, IsOfName};
 ghost use Rattle.af_plane.specs.Planes.{ClaimIs, ReportIs, TickIs};
+ghost use Rattle.af_plane.specs.Solos.{first_mark};
 ghost use Rattle.af_plane.specs.Turns.{IsOfPlane};
 
-use crate::locked::Locked;
+use crate::door::Door;
 use crate::named::Named;
 use crate::parts::Parts;
 use crate::request::Request;
-use crate::visitor::Visitor;
+use crate::visitor::{Locked, Visitor};
 use af_audit::{AuditFault, ReportRefusal};
 use af_board::Board;
 use af_names::Instant;
@@ -21,7 +24,6 @@ use af_ops::Served;
 use af_policy::{Ask, ChangeKind, PolicyRead};
 use af_sched::{Claim, Outcome};
 use std::alloc::Global;
-use std::marker::PhantomData;
 use std::sync::{Mutex, Wait};
 
 /// A board, and a plane behind a lock, which threads share, each with a session of its own.
@@ -33,20 +35,18 @@ pub struct Control<N: Named> {
 }
 
 impl<N: Named> Control<N> {
-    /// A control of these parts, which the name means. It takes no memory.
-    pub fn of(parts: Parts) -> Control<N>
+    /// A control of these parts, which the name means, and the door at which its sessions are opened. It takes no memory.
+    pub fn of(parts: Parts) -> (Control<N>, Door<N>)
         requires board { parts.board ≡ N.name.site }
         requires plane { IsOfName N.name parts.plane }
     {
+        let door = Door::of(&parts);
         let Parts { board, plane } = parts;
-        let locked = Locked {
-            plane,
-            of: PhantomData,
-        };
-        Control {
+        let control = Control {
             board,
-            locked: Mutex::new(locked),
-        }
+            locked: Mutex::new(Locked::of(plane)),
+        };
+        (control, door)
     }
 
     /// The versions of the policy. They are read and made without the plane's lock.
@@ -56,12 +56,16 @@ impl<N: Named> Control<N> {
         &self.board
     }
 
-    /// A session that has seen what the plane has.
-    pub fn session(&self, rt: &impl Wait) -> Visitor<N> {
-        self.locked.lock(rt).session(&self.board)
+    /// A session. It has done nothing yet, and holds the mark of version 0.
+    pub fn session(&self, rt: &impl Wait, door: &Door<N>) -> Visitor<N>
+        ensures mark { held result.visit.grounds ≡ first_mark }
+        ensures new { result ≡ new_visitor result.visit }
+    {
+        self.locked.lock(rt).session(&self.board, door)
     }
 
-    /// Answers a call on the state, or for event logs, by one turn under the lock.
+    /// Answers a call on the state, or for event logs, by one turn under the lock. It does nothing else: the session then has this call, with
+    /// this answer, and no more.
     pub fn call(
         &self,
         rt: &impl Wait,
@@ -70,21 +74,23 @@ impl<N: Named> Control<N> {
         request: &Request<'_>,
     ) -> Served
         requires { IsOfPlane request.now.call }
-        ensures { IsCall N.name request.now session.old result session.new }
+        ensures call { IsCall N.name request.now session.old.visit result session.new.visit }
+        ensures once { HasCalled session.old request.now.call result session.new }
     {
         self.locked
             .lock(rt)
             .turn(alloc, &self.board, session, request)
     }
 
-    /// Reports who the token's owner is, on the board. It takes no lock and waits for nobody.
+    /// Reports who the token's owner is, on the board. It waits for nobody, and is no turn.
     pub fn me(&self, alloc: Global, session: &mut Visitor<N>, token: Option<&[u8]>) -> Served
-        ensures { HasAsked N.name.site (option_copied token.entry) asks.Me session.old result session.new }
+        ensures asked { HasAsked N.name.site (option_copied token.entry) asks.Me session.old.visit result session.new.visit }
+        ensures once { HasAskedOnce session.old session.new }
     {
-        session.session.me(alloc, &self.board, token)
+        session.me(alloc, &self.board, token)
     }
 
-    /// Reports roles or users, on the board. It takes no lock and waits for nobody.
+    /// Reports roles or users, on the board. It waits for nobody, and is no turn.
     pub fn read(
         &self,
         alloc: Global,
@@ -92,12 +98,13 @@ impl<N: Named> Control<N> {
         token: Option<&[u8]>,
         asked: &PolicyRead,
     ) -> Served
-        ensures { HasAsked N.name.site (option_copied token.entry) (asks.Read asked.now) session.old result session.new }
+        ensures asked { HasAsked N.name.site (option_copied token.entry) (asks.Read asked.now) session.old.visit result session.new.visit }
+        ensures once { HasAskedOnce session.old session.new }
     {
-        session.session.read(alloc, &self.board, token, asked)
+        session.read(alloc, &self.board, token, asked)
     }
 
-    /// Reports why a change of this kind, whose body was not read, makes no version. It takes no lock and waits for nobody.
+    /// Reports why a change of this kind, whose body was not read, makes no version. It waits for nobody, and is no turn.
     pub fn unread(
         &self,
         alloc: Global,
@@ -105,13 +112,14 @@ impl<N: Named> Control<N> {
         token: Option<&[u8]>,
         kind: ChangeKind,
     ) -> Served
-        ensures { HasAsked N.name.site (option_copied token.entry) (asks.Unread kind) session.old result session.new }
+        ensures asked { HasAsked N.name.site (option_copied token.entry) (asks.Unread kind) session.old.visit result session.new.visit }
+        ensures once { HasAskedOnce session.old session.new }
     {
-        session.session.unread(alloc, &self.board, token, kind)
+        session.unread(alloc, &self.board, token, kind)
     }
 
-    /// Makes the next version of the policy by a change, or reports why there is none, on the board. It does not take the plane's lock. It may
-    /// wait for another thread that grows the board's table.
+    /// Makes the next version of the policy by a change, or reports why there is none, on the board. It is no turn. It may wait for another
+    /// thread that grows the board's table.
     pub fn submit<R: Wait>(
         &self,
         rt: &R,
@@ -120,9 +128,10 @@ impl<N: Named> Control<N> {
         token: Option<&[u8]>,
         ask: &Ask,
     ) -> Served
-        ensures { HasAsked N.name.site (option_copied token.entry) (asks.Change ask.now) session.old result session.new }
+        ensures asked { HasAsked N.name.site (option_copied token.entry) (asks.Change ask.now) session.old.visit result session.new.visit }
+        ensures once { HasAskedOnce session.old session.new }
     {
-        session.session.submit(rt, alloc, &self.board, token, ask)
+        session.submit(rt, alloc, &self.board, token, ask)
     }
 
     /// Ticks at a moment, and returns whether that changed the state; then there is one entry, of the scheduler. `HistoryFull` where there is
@@ -134,7 +143,8 @@ impl<N: Named> Control<N> {
         session: &mut Visitor<N>,
         at: Instant,
     ) -> Result<bool, AuditFault>
-        ensures { IsDone N.name session.old session.new (λ old new. IsTicked at old new result × TickIs old at result new) }
+        ensures done { IsDone N.name session.old.visit session.new.visit (λ old new. IsTicked at old new result × TickIs old at result new) }
+        ensures once { HasTicked session.old at result session.new }
     {
         self.locked.lock(rt).tick(alloc, &self.board, session, at)
     }
@@ -148,7 +158,8 @@ impl<N: Named> Control<N> {
         session: &mut Visitor<N>,
         at: Instant,
     ) -> Result<Option<Claim>, AuditFault>
-        ensures { IsDone N.name session.old session.new (λ old new. IsClaimed at old new result × ClaimIs old at result new) }
+        ensures done { IsDone N.name session.old.visit session.new.visit (λ old new. IsClaimed at old new result × ClaimIs old at result new) }
+        ensures once { HasClaimed session.old at result session.new }
     {
         self.locked.lock(rt).claim(alloc, &self.board, session, at)
     }
@@ -164,7 +175,8 @@ impl<N: Named> Control<N> {
         outcome: Outcome,
         at: Instant,
     ) -> Result<(), ReportRefusal>
-        ensures { IsDone N.name session.old session.new (λ old new. IsReported at claim.now outcome old new result × ReportIs old claim.now outcome at result new) }
+        ensures done { IsDone N.name session.old.visit session.new.visit (λ old new. IsReported at claim.now outcome old new result × ReportIs old claim.now outcome at result new) }
+        ensures once { HasReported session.old claim.now result session.new }
     {
         self.locked
             .lock(rt)

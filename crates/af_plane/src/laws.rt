@@ -1,5 +1,5 @@
 // What the calls are in the world. Each law is the contract of a function that does nothing.
-ghost use Rattle.af_plane.specs.Laws.{AppliesAreActs, CallsAreEvents, CallsOfAllAreOneRun, ChangesAreSteps, DeedsAreEvents, EntriesAreGranted, EntriesOfAllAreGranted, EventsAreOneRun, LooksAreLooks, NamedVersionsNeverFall, OperationsAreEvents, ReadingsAreSteps, TurnsLookAndAct, VersionsFollow, VersionsOfAllFollow, VersionsToldToEachClimb};
+ghost use Rattle.af_plane.specs.Laws.{AppliesAreActs, CallsAreEvents, CallsOfAllAreOneRun, ChangesAreSteps, DeedsAreEvents, EntriesAreGranted, EntriesOfAllAreGranted, EventsAreOneRun, LooksAreLooks, NamedVersionsNeverFall, NoSessionGoesBack, OperationsAreEvents, ReadingsAreSteps, TurnsLookAndAct, VersionsFollow, VersionsOfAllFollow, VersionsToldToEachClimb};
 
 use af_world::laws;
 
@@ -98,3 +98,9 @@ pub fn versions_told_to_each_climb()
 {
     laws::answered_versions_climb();
 }
+
+/// No session goes back: after any calls of a session it has still seen all versions and entries that it had seen. The versions that its
+/// answers name never fall, and none is before the last that it had seen. Nothing is asked of the order in which others call.
+pub fn no_session_goes_back()
+    ensures { NoSessionGoesBack }
+{}

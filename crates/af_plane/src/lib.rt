@@ -2,9 +2,9 @@
 #![tactic(auto)]
 
 mod control;
+mod door;
 mod grounds;
 pub mod laws;
-mod locked;
 mod named;
 mod parts;
 mod plane;
@@ -14,6 +14,7 @@ mod solo;
 mod visitor;
 
 pub use control::Control;
+pub use door::Door;
 pub use grounds::Grounds;
 pub use named::Named;
 pub use parts::Parts;

@@ -1,7 +1,7 @@
 use std::marker::Brand;
 
 /// Which board, which keeper of entries, which opening state and how many entries a control has. What is generic over a name speaks of one
-/// control; a program picks the name where it makes the control.
+/// control. A program calls it at `Brand`, and its proof picks there what the name means.
 pub trait Named {
     ghost use Rattle.af_plane.specs.Names.{Name};
 

@@ -147,8 +147,8 @@ impl Plane {
         }
     }
 
-    /// Ticks at a moment, and tells whether that changed the state; then there is one entry, of the scheduler. `HistoryFull` where there is no
-    /// room for it, `OutOfMemory` only where a growth was refused; then the plane is as before.
+    /// Ticks at a moment, and returns whether that changed the state; then there is one entry, of the scheduler. `HistoryFull` if there is no
+    /// room for it; `OutOfMemory`. After an error the plane is as before.
     #[tactic(auto, using(crate::proofs::VersionLemmas::ticked_version, crate::proofs::VersionLemmas::ticked_one))]
     pub fn tick(&mut self, alloc: Global, at: Instant) -> Result<bool, AuditFault>
         ensures stays { HasStayed self.old self.new }
@@ -161,7 +161,7 @@ impl Plane {
     }
 
     /// Claims the first queued instance at a moment, if there is one; then there is one entry, of an executor, that names it. `HistoryFull`
-    /// where there is no room for it, `OutOfMemory` only where a growth was refused; then the plane is as before.
+    /// if there is no room for it; `OutOfMemory`. After an error the plane is as before.
     #[tactic(auto, using(crate::proofs::VersionLemmas::claimed_version, crate::proofs::VersionLemmas::claimed_one))]
     pub fn claim(&mut self, alloc: Global, at: Instant) -> Result<Option<Claim>, AuditFault>
         ensures stays { HasStayed self.old self.new }
@@ -173,8 +173,8 @@ impl Plane {
         told
     }
 
-    /// Takes the outcome of a claimed try at a moment; then there is one entry, of an executor. The report's own faults are told first, then
-    /// a full history, then out of memory; after each the plane is as before.
+    /// Takes the outcome of a claimed try at a moment; then there is one entry, of an executor. The report's own errors come first, then a
+    /// full history, then out of memory. After an error the plane is as before.
     #[tactic(auto, using(crate::proofs::VersionLemmas::reported_version, crate::proofs::VersionLemmas::reported_one))]
     pub fn report(
         &mut self,

@@ -1,34 +1,135 @@
 ghost use Rattle.std.specs.Prelude.{◌≡◌, ◌+◌, length};
+ghost use Rattle.std.specs.Option.{option_copied};
+ghost use Rattle.af_ops.specs.declared.policy_op.PolicyOp.TheVariants as asks;
+ghost use Rattle.af_plane.specs.Administered.{HasAsked};
+ghost use Rattle.af_plane.specs.Logs.{HasAskedOnce, new_visitor};
+ghost use Rattle.af_plane.specs.Looks.{IsOn};
 
+use crate::door::Door;
 use crate::named::Named;
 use crate::session::Session;
+use af_audit::{AuditFault, ReportRefusal};
+use af_board::Board;
+use af_names::Instant;
+use af_ops::{Call, Served};
+use af_policy::{Ask, ChangeKind, PolicyRead};
+use af_sched::Claim;
+use http_server::Log;
+use std::alloc::Global;
 use std::marker::{Model, PhantomData};
+use std::sync::Wait;
 
-/// A session of one control.
+mod locked;
+
+pub(crate) use locked::Locked;
+
+/// A session of one control. Contracts see what it holds, and all that it has done there. What it has done takes no memory: it is known in
+/// proofs alone.
 #[derive(Drop)]
 pub struct Visitor<N: Named> {
-    pub(crate) session: Session,
-    pub(crate) of: PhantomData<N>,
+    session: Session,
+    calls: Log<Call, Served>,
+    ticks: Log<Instant, Result<bool, AuditFault>>,
+    claims: Log<Instant, Result<Option<Claim>, AuditFault>>,
+    reports: Log<Claim, Result<(), ReportRefusal>>,
+    asks: Log<u8, u8>,
+    of: PhantomData<N>,
 }
 
 impl<N: Named> Model for Visitor<N> {
-    ghost use Rattle.std.specs.Prelude.{◌≡◌};
+    ghost use Rattle.std.specs.Prelude.{◌≡◌, length};
     ghost use Rattle.af_plane.specs.Looks.{IsOn};
-    ghost use Rattle.af_plane.specs.Visits.{Visit};
+    ghost use Rattle.af_plane.specs.Visits.{VisitorRows};
 
-    ghost Value = { Visit };
+    ghost Value = { VisitorRows };
 
-    ghost view = { λ v. v.session };
+    ghost view = { λ v. record { visit = v.session; calls = v.calls.items; ticks = v.ticks.items; claims = v.claims.items; reports = v.reports.items; asks = length v.asks.items } };
 
     ghost invariant = { λ v. IsOn N.name.site v.session × (v.session.entries.keeper ≡ N.name.keeper) };
 }
 
 impl<N: Named> Visitor<N> {
+    /// A session that is opened at the control's door. It has done nothing yet.
+    fn open(session: Session, _door: &Door<N>) -> Visitor<N>
+        requires on { IsOn N.name.site session }
+        requires keeper { session.entries.keeper ≡ N.name.keeper }
+        ensures { result ≡ new_visitor session }
+    {
+        Visitor {
+            session,
+            calls: Log::new(),
+            ticks: Log::new(),
+            claims: Log::new(),
+            reports: Log::new(),
+            asks: Log::new(),
+            of: PhantomData,
+        }
+    }
+
     /// The last version that it has seen, and how many entries it has seen.
     pub fn seen(&self) -> (u32, u32)
-        ensures version { length self.now.pass.places ≡ result.0 + 1 }
-        ensures entries { length self.now.entries.entries ≡ result.1 }
+        ensures version { length self.now.visit.pass.places ≡ result.0 + 1 }
+        ensures entries { length self.now.visit.entries.entries ≡ result.1 }
     {
         self.session.seen()
+    }
+
+    /// Reports who the token's owner is, on the board.
+    pub(crate) fn me(&mut self, alloc: Global, board: &Board, token: Option<&[u8]>) -> Served
+        requires { board.now ≡ N.name.site }
+        ensures asked { HasAsked N.name.site (option_copied token.entry) asks.Me self.old.visit result self.new.visit }
+        ensures once { HasAskedOnce self.old self.new }
+    {
+        self.asks = self.asks.and(&0, &0);
+        self.session.me(alloc, board, token)
+    }
+
+    /// Reports roles or users, on the board.
+    pub(crate) fn read(
+        &mut self,
+        alloc: Global,
+        board: &Board,
+        token: Option<&[u8]>,
+        asked: &PolicyRead,
+    ) -> Served
+        requires { board.now ≡ N.name.site }
+        ensures asked { HasAsked N.name.site (option_copied token.entry) (asks.Read asked.now) self.old.visit result self.new.visit }
+        ensures once { HasAskedOnce self.old self.new }
+    {
+        self.asks = self.asks.and(&0, &0);
+        self.session.read(alloc, board, token, asked)
+    }
+
+    /// Reports why a change of this kind, whose body was not read, makes no version.
+    pub(crate) fn unread(
+        &mut self,
+        alloc: Global,
+        board: &Board,
+        token: Option<&[u8]>,
+        kind: ChangeKind,
+    ) -> Served
+        requires { board.now ≡ N.name.site }
+        ensures asked { HasAsked N.name.site (option_copied token.entry) (asks.Unread kind) self.old.visit result self.new.visit }
+        ensures once { HasAskedOnce self.old self.new }
+    {
+        self.asks = self.asks.and(&0, &0);
+        self.session.unread(alloc, board, token, kind)
+    }
+
+    /// Makes the next version of the policy by a change, or reports why there is none, on the board.
+    pub(crate) fn submit<R: Wait>(
+        &mut self,
+        rt: &R,
+        alloc: Global,
+        board: &Board,
+        token: Option<&[u8]>,
+        ask: &Ask,
+    ) -> Served
+        requires { board.now ≡ N.name.site }
+        ensures asked { HasAsked N.name.site (option_copied token.entry) (asks.Change ask.now) self.old.visit result self.new.visit }
+        ensures once { HasAskedOnce self.old self.new }
+    {
+        self.asks = self.asks.and(&0, &0);
+        self.session.submit(rt, alloc, board, token, ask)
     }
 }

@@ -5,7 +5,8 @@ ghost use Rattle.af_ops.specs.Endpoints.{endpoint_of};
 ghost use Rattle.af_ops.specs.Table.{is_open};
 ghost use Rattle.af_ops.specs.declared.call.Call.TheVariants as call;
 ghost use Rattle.af_board.specs.Marks.{IsLast};
-ghost use Rattle.af_plane.specs.Looks.{AreOver, Basis, HasMet, HasSame, On, looked};
+ghost use Rattle.af_plane.specs.Looks.{AreOver, Basis, HasMet, HasSame, On, held, looked};
+ghost use Rattle.af_plane.specs.Solos.{first_mark};
 ghost use Rattle.af_plane.specs.Turns.{IsActed, IsOfPlane, IsOpenly, IsPlaced, IsTurn};
 
 use crate::grounds::Grounds;
@@ -49,6 +50,7 @@ impl Plane {
         ensures over { AreOver board.now self.old.keeper.keeper self.new result }
         ensures ledger { self.new.ledger ≡ self.old.ledger }
         ensures seen { (result.pass ≡ self.new.pass) × (result.entries ≡ self.new.keeper) × (self.new.keeper ≡ self.old.keeper) }
+        ensures mark { held result.grounds ≡ first_mark }
     {
         let pass = board.split(&mut self.pass);
         Session::open(pass, self.keeper.give(), board.opening())

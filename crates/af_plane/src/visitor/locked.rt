@@ -2,10 +2,14 @@ ghost use Rattle.std.specs.Prelude.{◌≡◌};
 ghost use Rattle.af_audit.specs.Claimed.{IsClaimed};
 ghost use Rattle.af_audit.specs.Reported.{IsReported};
 ghost use Rattle.af_audit.specs.Ticked.{IsTicked};
-ghost use Rattle.af_plane.specs.Names.{IsCall, IsDone, IsNamed, IsOfName};
+ghost use Rattle.af_plane.specs.Logs.{HasCalled, HasClaimed, HasReported, HasTicked, new_visitor};
+ghost use Rattle.af_plane.specs.Looks.{held};
+ghost use Rattle.af_plane.specs.Names.{IsCall, IsDoneOn, IsOfName};
 ghost use Rattle.af_plane.specs.Planes.{ClaimIs, ReportIs, TickIs};
+ghost use Rattle.af_plane.specs.Solos.{first_mark};
 ghost use Rattle.af_plane.specs.Turns.{IsOfPlane};
 
+use crate::door::Door;
 use crate::named::Named;
 use crate::plane::Plane;
 use crate::request::Request;
@@ -21,12 +25,22 @@ use std::marker::PhantomData;
 /// The plane that a name means, as it lies behind a lock.
 #[derive(Drop)]
 pub(crate) struct Locked<N: Named> {
-    pub(crate) plane: Plane,
-    pub(crate) of: PhantomData<N>,
+    plane: Plane,
+    of: PhantomData<N>,
     ghost whose: { IsOfName N.name plane },
 }
 
 impl<N: Named> Locked<N> {
+    /// The plane that the name means.
+    pub(crate) fn of(plane: Plane) -> Locked<N>
+        requires { IsOfName N.name plane }
+    {
+        Locked {
+            plane,
+            of: PhantomData,
+        }
+    }
+
     /// One turn of a session.
     pub(crate) fn turn(
         &mut self,
@@ -37,15 +51,15 @@ impl<N: Named> Locked<N> {
     ) -> Served
         requires board { board.now ≡ N.name.site }
         requires call { IsOfPlane request.now.call }
-        ensures { IsCall N.name request.now session.old result session.new }
+        ensures once { HasCalled session.old request.now.call result session.new }
+        ensures call { (it : IsCall N.name request.now session.old.visit result session.new.visit) × (it.old ≡ self.old.plane) × (it.new ≡ self.new.plane) }
     {
         self.plane.conditions();
         let turn = self.plane.turn(alloc, board, &mut session.session, request);
         self.plane.conditions();
-        match turn {
-            Some(served) => served,
-            None => unreachable!(),
-        }
+        let Some(served) = turn else { unreachable!() };
+        session.calls = session.calls.and(request.call, &served);
+        served
     }
 
     /// A tick, while a session visits.
@@ -57,11 +71,13 @@ impl<N: Named> Locked<N> {
         at: Instant,
     ) -> Result<bool, AuditFault>
         requires { board.now ≡ N.name.site }
-        ensures { IsDone N.name session.old session.new (λ old new. IsTicked at old new result × TickIs old at result new) }
+        ensures done { IsDoneOn N.name self.old.plane self.new.plane session.old.visit session.new.visit (λ old new. IsTicked at old new result × TickIs old at result new) }
+        ensures once { HasTicked session.old at result session.new }
     {
         self.plane.conditions();
         let told = self.plane.tick_with(alloc, board, &mut session.session, at);
         self.plane.conditions();
+        session.ticks = session.ticks.and(&at, &told);
         told
     }
 
@@ -74,13 +90,15 @@ impl<N: Named> Locked<N> {
         at: Instant,
     ) -> Result<Option<Claim>, AuditFault>
         requires { board.now ≡ N.name.site }
-        ensures { IsDone N.name session.old session.new (λ old new. IsClaimed at old new result × ClaimIs old at result new) }
+        ensures done { IsDoneOn N.name self.old.plane self.new.plane session.old.visit session.new.visit (λ old new. IsClaimed at old new result × ClaimIs old at result new) }
+        ensures once { HasClaimed session.old at result session.new }
     {
         self.plane.conditions();
         let told = self
             .plane
             .claim_with(alloc, board, &mut session.session, at);
         self.plane.conditions();
+        session.claims = session.claims.and(&at, &told);
         told
     }
 
@@ -95,23 +113,25 @@ impl<N: Named> Locked<N> {
         at: Instant,
     ) -> Result<(), ReportRefusal>
         requires { board.now ≡ N.name.site }
-        ensures { IsDone N.name session.old session.new (λ old new. IsReported at claim.now outcome old new result × ReportIs old claim.now outcome at result new) }
+        ensures done { IsDoneOn N.name self.old.plane self.new.plane session.old.visit session.new.visit (λ old new. IsReported at claim.now outcome old new result × ReportIs old claim.now outcome at result new) }
+        ensures once { HasReported session.old claim.now result session.new }
     {
         self.plane.conditions();
         let told = self
             .plane
             .report_with(alloc, board, &mut session.session, claim, outcome, at);
         self.plane.conditions();
+        session.reports = session.reports.and(claim, &told);
         told
     }
 
-    /// A session that has seen what the plane has.
-    pub(crate) fn session(&mut self, board: &Board) -> Visitor<N>
+    /// A session that is opened at the control's door. It has done nothing yet, and holds the mark of version 0.
+    pub(crate) fn session(&mut self, board: &Board, door: &Door<N>) -> Visitor<N>
         requires { board.now ≡ N.name.site }
+        ensures plane { self.new.plane.ledger ≡ self.old.plane.ledger }
+        ensures mark { held result.visit.grounds ≡ first_mark }
+        ensures new { result ≡ new_visitor result.visit }
     {
-        Visitor {
-            session: self.plane.session(board),
-            of: PhantomData,
-        }
+        Visitor::open(self.plane.session(board), door)
     }
 }
