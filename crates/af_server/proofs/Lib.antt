@@ -8,3 +8,5 @@ pub mod VerifiedLemmas
 pub mod VariableLemmas
 pub mod ConfigurationLemmas
 pub mod ProgramLemmas
+pub mod AttendanceLemmas
+mod TickerLemmas

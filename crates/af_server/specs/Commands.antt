@@ -1,6 +1,7 @@
 -- What the words that the program is given ask for (this product's own rule).
-use Rattle.std.specs.Prelude.{◌≡◌, ◌⊎◌, ◌+◌, ◌*◌, ◌-◌, ◌&&◌, ℕ, Bool, List, [], ◌∷◌, bytes_eq, codes, cond, min, nat_le, nat_lt, string_bytes, Option, Some, None, Ok, IsErr, MatchBool}
-use Rattle.std.specs.Char.{is_ascii_digit}
+use Rattle.std.specs.Prelude.{◌≡◌, ◌≤◌, ◌⊎◌, ℕ, List, [], ◌∷◌, bytes_eq, codes, string_bytes, Option, Some, None, Ok, IsErr, MatchBool}
+use Rattle.std.specs.Option.{SomeIff}
+use Rattle.std.specs.Str.Parse.{IsNumeral, digits_value}
 use Rattle.af_names.specs.Instants.{instant_of}
 use Rattle.af_server.specs.declared.command.Command.{Command}
 use Rattle.af_server.specs.declared.command.Command.TheVariants.{Once, Serve, Verify, Usage}
@@ -14,32 +15,22 @@ few_words words = None
 
 -- ---- numbers
 
--- what a greater number counts as
+-- A text states a number in a range: it is decimal digits, one at least, and what they write is in the range. Else it states none.
+abbrev pub States : ℕ → ℕ → List ℕ → Option ℕ → Type 0
+States least most text number =
+    SomeIff number (IsNumeral 10 text × (least ≤ digits_value 10 text) × (digits_value 10 text ≤ most)) (digits_value 10 text)
+
+-- the greatest number among the words
 abbrev pub most_number : ℕ
-most_number = 65_536
-
--- the number that decimal digits write behind this one, if all are digits
-abbrev pub digits_from : ℕ → List ℕ → Option ℕ
-digits_from n [] = Some n
-digits_from n (b ∷ bytes) = cond (is_ascii_digit b) (digits_from (min (n * 10 + (b - 48)) most_number) bytes) None
-
--- the number that a text writes, if it is decimal digits, and one at least; one past 65,536 counts as that
-abbrev pub number_in : List ℕ → Option ℕ
-number_in [] = None
-number_in (b ∷ bytes) = digits_from 0 (b ∷ bytes)
-
--- a number, if it is one of these
-abbrev pub among : (ℕ → Bool) → Option ℕ → Option ℕ
-among fits None = None
-among fits (Some n) = cond (fits n) (Some n) None
+most_number = 65_535
 
 -- a port is a number from 0 to 65,535
-abbrev pub port_in : List ℕ → Option ℕ
-port_in text = among (λ n. nat_lt n most_number) (number_in text)
+abbrev pub IsPortIn : List ℕ → Option ℕ → Type 0
+IsPortIn text port = States 0 most_number text port
 
 -- there are 1 to 16 workers
-abbrev pub count_in : List ℕ → Option ℕ
-count_in text = among (λ n. nat_le 1 n && nat_le n 16) (number_in text)
+abbrev pub IsCountIn : List ℕ → Option ℕ → Type 0
+IsCountIn text count = States 1 16 text count
 
 -- ---- commands
 
@@ -55,9 +46,9 @@ AsksOnce path moment Usage = IsErr (instant_of moment)
 -- none, how the program is called is asked for
 abbrev pub AsksServe : List ℕ → List ℕ → List ℕ → Command → Type 0
 AsksServe path port workers (Once config now) = ⊥
-AsksServe path port workers (Serve config p count) = (string_bytes config ≡ path) × (port_in port ≡ Some p) × (count_in workers ≡ Some count)
+AsksServe path port workers (Serve config p count) = (string_bytes config ≡ path) × IsPortIn port (Some p) × IsCountIn workers (Some count)
 AsksServe path port workers (Verify trace) = ⊥
-AsksServe path port workers Usage = (port_in port ≡ None) ⊎ (count_in workers ≡ None)
+AsksServe path port workers Usage = IsPortIn port None ⊎ IsCountIn workers None
 
 -- whether the answers of the trace at this path are those of the run of its steps
 abbrev pub AsksVerify : List ℕ → Command → Type 0

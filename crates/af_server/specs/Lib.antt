@@ -19,6 +19,11 @@ pub mod Commands
 pub mod Tellings
 pub mod Verified
 pub mod Verdicts
-pub mod Programs
+pub mod Machines
+pub mod Attendances
 pub mod Workers
+pub mod Rounds
+pub mod Listenings
+pub mod Servers
+pub mod Programs
 pub mod Worked

@@ -1,14 +1,19 @@
 -- What the program does of what its words ask for: it finds the file at the path, and serves under what it holds, or checks what it records
 -- (this product's own rule).
-use Rattle.std.specs.Prelude.{◌≡◌, ◌⊎◌, ◌++◌, ◌∷◌, ℕ, List, [], Bool, codes, decimal, string_bytes, Option, Some, None, Result, Ok, Err, IsOk}
+use Rattle.std.specs.Prelude.{◌≡◌, ◌⊎◌, ◌++◌, ◌∷◌, ℕ, List, [], Bool, codes, decimal, string_bytes, None, Result, Ok, Err, IfOk, IsOk}
+use Rattle.std.specs.declared.io.ErrorKind.{ErrorKind}
 use Rattle.af_http.specs.Streams.{Given, Taken}
 use Rattle.af_http.specs.declared.ended.Ended.{Ended}
 use Rattle.af_server.specs.declared.command.Command.{Command}
 use Rattle.af_server.specs.declared.command.Command.TheVariants.{Once, Serve, Verify, Usage}
+use Rattle.af_server.specs.declared.done.Done.{Done}
 use Rattle.af_server.specs.declared.reason.Reason.{Reason}
 use Rattle.af_server.specs.declared.reason.Reason.TheVariants.{Memory}
 use Rattle.af_server.specs.Configurations.{ConfigurationRows, configuration_of}
+use Rattle.af_server.specs.Listenings.{ListeningRows}
+use Rattle.af_server.specs.Machines.{Behaviour}
 use Rattle.af_server.specs.Once.{IsOnce, IsUntouched}
+use Rattle.af_server.specs.Servers.{HasServed, IsAt, IsServerOf}
 use Rattle.af_server.specs.Tellings.{Tells, refusal_line, said_of, status_of, usage_line}
 use Rattle.af_server.specs.Verdicts as verdicts
 use Rattle.af_server.specs.Verdicts.{printed_of, refused_of}
@@ -16,28 +21,29 @@ use Rattle.af_server.specs.Verified.{IsVerified}
 
 -- ---- the server
 
--- What became of a server: the bytes of its configuration were accepted, and it said on which port it listens, or said nothing since it could
--- not. Nothing more is said of it: not which port that is, nor what its workers did. Where the bytes are refused, or there is no memory for
--- what they say, the reason is told.
-abbrev pub IsServed : List ℕ → Result (Option ℕ) Reason → Type 0
-IsServed bytes (Ok port) = (configuration : ConfigurationRows) × (configuration_of bytes ≡ Ok configuration)
+-- What became of a server: the bytes of its configuration were accepted, and it listens under what they say, or the machine gave it no port.
+-- Where the bytes are refused, or there is no memory for what they say, the reason is told.
+abbrev pub IsServed : List ℕ → Result (Result ListeningRows ErrorKind) Reason → Type 0
+IsServed bytes (Ok found) =
+    (configuration : ConfigurationRows)
+    × ((configuration_of bytes ≡ Ok configuration) × IfOk found (λ listening. IsServerOf configuration listening.server))
 IsServed bytes (Err reason) = (configuration_of bytes ≡ Err reason) ⊎ (reason ≡ Memory)
 
 abbrev pub listening_line : ℕ → List ℕ
 listening_line port = codes "listening on 127.0.0.1:" ++ (decimal port ++ 10 ∷ [])
 
 -- what is printed, what is told on standard error, and the status
-abbrev pub announced : Result (Option ℕ) Reason → List ℕ
-announced (Ok None) = []
-announced (Ok (Some port)) = listening_line port
+abbrev pub announced : Result (Result ListeningRows ErrorKind) Reason → List ℕ
+announced (Ok (Ok listening)) = listening_line listening.port
+announced (Ok (Err error)) = []
 announced (Err reason) = []
 
-abbrev pub blamed : Result (Option ℕ) Reason → List ℕ
-blamed (Ok port) = []
+abbrev pub blamed : Result (Result ListeningRows ErrorKind) Reason → List ℕ
+blamed (Ok found) = []
 blamed (Err reason) = refusal_line reason
 
-abbrev pub served_status : Result (Option ℕ) Reason → ℕ
-served_status (Ok port) = 1
+abbrev pub served_status : Result (Result ListeningRows ErrorKind) Reason → ℕ
+served_status (Ok found) = 1
 served_status (Err reason) = 3
 
 -- Holds: what the file at a path may hold. Refuses: why it may not be had.
@@ -61,11 +67,13 @@ module _ (Holds : List ℕ → List ℕ → Type 0) (Refuses : List ℕ → Reas
       (outcome : Result Ended Reason) × IsOnceAt path now before after start finish outcome × Tells told told' (said_of outcome)
       × (status ≡ status_of outcome)
 
-  -- nothing is read of standard input, and where the server listens is printed
-  abbrev pub RunsServe : List ℕ → Given → Given → Taken → Taken → Taken → Taken → ℕ → Type 0
-  RunsServe path before after start finish told told' status =
-      (outcome : Result (Option ℕ) Reason) × Comes path IsServed outcome × (after ≡ before) × Tells start finish (announced outcome)
-      × Tells told told' (blamed outcome) × (status ≡ served_status outcome)
+  -- Nothing is read of standard input. The server listens on a port that the machine may give for the one that is asked for, and that port is
+  -- printed; then so many workers serve under the configuration, beside a scheduler. One outcome is announced, and served.
+  abbrev pub RunsServe : Behaviour → List ℕ → ℕ → ℕ → Given → Given → Taken → Taken → Taken → Taken → Done → Type 0
+  RunsServe behaviour path port count before after start finish told told' done =
+      (outcome : Result (Result ListeningRows ErrorKind) Reason) × Comes path IsServed outcome × IfOk outcome (IsAt behaviour port) × (after ≡ before)
+      × Tells start finish (announced outcome) × Tells told told' (blamed outcome) × (done.status ≡ served_status outcome)
+      × HasServed behaviour count outcome done.shift
 
   -- nothing is read of standard input, and what is found out is printed
   abbrev pub RunsVerify : List ℕ → Given → Given → Taken → Taken → Taken → Taken → ℕ → Type 0
@@ -73,12 +81,20 @@ module _ (Holds : List ℕ → List ℕ → Type 0) (Refuses : List ℕ → Reas
       (outcome : Result Bool Reason) × Comes path IsVerified outcome × (after ≡ before) × Tells start finish (printed_of outcome)
       × Tells told told' (refused_of outcome) × (status ≡ verdicts.status_of outcome)
 
+  -- what is done alone, without a server
+  abbrev pub IsAlone : (ℕ → Type 0) → Done → Type 0
+  IsAlone Runs done = Runs done.status × (done.shift ≡ None)
+
   -- by what is asked for; of wrong words how the program is called
-  abbrev pub Runs : Command → Given → Given → Taken → Taken → Taken → Taken → ℕ → Type 0
-  Runs (Once config now) before after start finish told told' status = RunsOnce (string_bytes config) now before after start finish told told' status
-  Runs (Serve config port count) before after start finish told told' status = RunsServe (string_bytes config) before after start finish told told' status
-  Runs (Verify trace) before after start finish told told' status = RunsVerify (string_bytes trace) before after start finish told told' status
-  Runs Usage before after start finish told told' status = IsUntouched before after start finish × Tells told told' usage_line × (status ≡ 2)
+  abbrev pub Runs : Behaviour → Command → Given → Given → Taken → Taken → Taken → Taken → Done → Type 0
+  Runs behaviour (Once config now) before after start finish told told' done =
+      IsAlone (RunsOnce (string_bytes config) now before after start finish told told') done
+  Runs behaviour (Serve config port count) before after start finish told told' done =
+      RunsServe behaviour (string_bytes config) port count before after start finish told told' done
+  Runs behaviour (Verify trace) before after start finish told told' done =
+      IsAlone (RunsVerify (string_bytes trace) before after start finish told told') done
+  Runs behaviour Usage before after start finish told told' done =
+      IsAlone (λ status. IsUntouched before after start finish × Tells told told' usage_line × (status ≡ 2)) done
 
   -- ---- what a refusal shows
 

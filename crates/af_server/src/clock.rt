@@ -1,7 +1,8 @@
 // The time of the machine's clock, as an instant.
-ghost use Rattle.std.specs.Prelude.{◌≡◌, ◌/◌, min, IfOk, IfErr};
+ghost use Rattle.std.specs.Prelude.{◌≡◌, ◌/◌, min};
 ghost use Rattle.std.specs.Duration.{as_nanos};
 ghost use Rattle.af_names.specs.Instants.{last_micros};
+ghost use Rattle.af_server.specs.Machines.{IsTold, instant_by};
 
 use af_names::Instant;
 use std::io;
@@ -11,14 +12,15 @@ use std::time::{Clock, Duration};
 const LAST_MICROS: u64 = 253_370_764_799_999_999;
 
 /// The time now: of one outside the range of instants its nearest end, and the first instant where the clock can't be read.
-pub fn time_now<R: Clock>(rt: &R) -> Instant {
-    instant_of(rt.since_1970())
+pub fn time_now<R: Clock>(rt: &R) -> Instant
+    ensures { IsTold result }
+{
+    instant_by(rt.since_1970())
 }
 
 /// The instant of what the clock has answered.
-fn instant_of(answer: io::Result<Duration>) -> Instant
-    ensures ok { IfOk answer (λ time. result ≡ min (as_nanos time / 1000) last_micros) }
-    ensures err { IfErr answer (λ _. result ≡ 0) }
+fn instant_by(answer: io::Result<Duration>) -> Instant
+    ensures { result ≡ instant_by answer }
 {
     let micros = match answer {
         Ok(time) => micros_of(time),

@@ -1,7 +1,7 @@
 // The words that the program is given.
 ghost use Rattle.std.specs.Prelude.{◌≡◌, map, option_map, string_bytes};
 ghost use Rattle.std.specs.Vec.Iter.{into_iter_items};
-ghost use Rattle.af_server.specs.Commands.{Asks, AsksOf, AsksOnce, AsksServe, few_words, port_in};
+ghost use Rattle.af_server.specs.Commands.{Asks, AsksOf, AsksOnce, AsksServe, few_words};
 
 use crate::number::number_in;
 use crate::worker_count::WorkerCount;
@@ -69,7 +69,7 @@ impl Command {
     fn serve(config: String, port: &str, count: &str) -> Command
         ensures { AsksServe (string_bytes config) port.now count.now result }
     {
-        match (port_in(port), WorkerCount::read(count)) {
+        match (number_in(port), WorkerCount::read(count)) {
             (Some(port), Some(count)) => Command::Serve {
                 config,
                 port,
@@ -77,16 +77,6 @@ impl Command {
             },
             _ => Command::Usage,
         }
-    }
-}
-
-/// The port that a text states, from 0 to 65,535.
-fn port_in(text: &str) -> Option<u16>
-    ensures { result ≡ port_in text.now }
-{
-    match number_in(text.as_bytes()) {
-        Some(number) => u16::try_from(number).ok(),
-        None => None,
     }
 }
 

@@ -1,23 +1,26 @@
-ghost use Rattle.std.specs.Prelude.{◌≡◌, IfErr, IfOk, IfSome, string_bytes};
-ghost use Rattle.af_server.specs.Configurations.{configuration_of};
+ghost use Rattle.std.specs.Prelude.{◌≡◌, IfErr, IfOk, string_bytes};
+ghost use Rattle.af_server.specs.Listenings.{server_of};
 ghost use Rattle.af_server.specs.Programs.{Comes, IsServed, announced, blamed, listening_line, served_status};
+ghost use Rattle.af_server.specs.Servers.{HasServed, IsAt};
 ghost use Rattle.af_server.specs.Tellings.{Tells};
 
 use crate::config::Configuration;
+use crate::done::Done;
 use crate::files::Files;
+use crate::machine::Machine;
 use crate::reason::Reason;
 use crate::server::{Server, serve};
 use crate::telling::{line_of, tell};
 use crate::worker_count::WorkerCount;
 use af_http::Sink;
 use std::alloc::Global;
+use std::io::ErrorKind;
 use std::marker::Model;
-use std::net::{Net, TcpListener, TcpStream};
+use std::net::TcpListener;
 use std::sync::Wait;
 use std::thread::Threads;
-use std::time::Clock;
 
-/// A server that listens on a port of 127.0.0.1. Contracts see the port.
+/// A server that listens on a port of 127.0.0.1. Contracts see the server and the port.
 #[derive(Drop)]
 pub struct Listening {
     server: Server,
@@ -28,22 +31,29 @@ pub struct Listening {
 }
 
 impl Model for Listening {
-    ghost use Rattle.std.specs.Prelude.{ℕ};
+    ghost use Rattle.af_server.specs.Listenings.{ListeningRows, server_of};
 
-    ghost Value = { ℕ };
+    ghost Value = { ListeningRows };
 
-    ghost view = { λ listening. listening.port };
+    ghost view = { λ listening. record {
+      server = server_of listening.server.parts.board listening.server.parts.plane listening.server.scripted;
+      port = listening.port;
+    } };
 }
 
-/// Listens under the configuration at a path; none if it can't listen on that port.
-pub fn listen_at<H: Net<Listener = TcpListener, Stream = TcpStream>, F: Files>(
+/// A server that listens, or why the machine gives it no port.
+type Found = Result<Listening, ErrorKind>;
+
+/// Listens under the configuration at a path.
+pub fn listen_at<H: Machine, F: Files>(
     rt: &H,
     alloc: Global,
     files: &F,
     path: &str,
     port: u16,
-) -> Result<Option<Listening>, Reason>
-    ensures { Comes (F.holds files.now) (F.refuses files.now) path.now IsServed result }
+) -> Result<Found, Reason>
+    ensures served { Comes (F.holds files.now) (F.refuses files.now) path.now IsServed result }
+    ensures port { IfOk result (IsAt H.behaviour port) }
 {
     match files.read(alloc, path) {
         Ok(bytes) => listen_under(rt, alloc, bytes.as_slice(), port),
@@ -52,13 +62,14 @@ pub fn listen_at<H: Net<Listener = TcpListener, Stream = TcpStream>, F: Files>(
 }
 
 /// Listens under these bytes of a configuration.
-fn listen_under<H: Net<Listener = TcpListener, Stream = TcpStream>>(
+fn listen_under<H: Machine>(
     rt: &H,
     alloc: Global,
     config: &[u8],
     port: u16,
-) -> Result<Option<Listening>, Reason>
-    ensures { IsServed config.now result }
+) -> Result<Found, Reason>
+    ensures served { IsServed config.now result }
+    ensures port { IfOk result (IsAt H.behaviour port) }
 {
     let configuration = Configuration::read(alloc, config)?;
     let server = Server::open(alloc, configuration)?;
@@ -66,19 +77,17 @@ fn listen_under<H: Net<Listener = TcpListener, Stream = TcpStream>>(
 }
 
 /// Listens on a port, of which 0 is any that is free.
-fn listen<H: Net<Listener = TcpListener, Stream = TcpStream>>(
-    rt: &H,
-    alloc: Global,
-    server: Server,
-    port: u16,
-) -> Result<Option<Listening>, Reason>
-    ensures { IfErr result (λ reason. reason ≡ Reason.Memory) }
+fn listen<H: Machine>(rt: &H, alloc: Global, server: Server, port: u16) -> Result<Found, Reason>
+    ensures server { IfOk result (λ found. IfOk found (λ l. l.server ≡ server_of server.parts.board server.parts.plane server.scripted)) }
+    ensures port { IfOk result (IsAt H.behaviour port) }
+    ensures memory { IfErr result (λ reason. reason ≡ Reason.Memory) }
 {
-    let Some((listener, port)) = bind(rt, port) else {
-        return Ok(None);
+    let (listener, port) = match rt.listen(port) {
+        Ok(found) => found,
+        Err(error) => return Ok(Err(error)),
     };
     match listening_line(alloc, port) {
-        Ok(line) => Ok(Some(Listening {
+        Ok(line) => Ok(Ok(Listening {
             server,
             listener,
             port,
@@ -86,16 +95,6 @@ fn listen<H: Net<Listener = TcpListener, Stream = TcpStream>>(
         })),
         Err(reason) => Err(reason),
     }
-}
-
-/// A listener on a port, and which it is.
-fn bind<H: Net<Listener = TcpListener, Stream = TcpStream>>(
-    rt: &H,
-    port: u16,
-) -> Option<(TcpListener, u16)> {
-    let listener = TcpListener::bind(rt, ("127.0.0.1", port)).ok()?;
-    let port = listener.local_addr().ok()?.port();
-    Some((listener, port))
 }
 
 /// The line that says on which port a server listens.
@@ -107,29 +106,29 @@ fn listening_line(alloc: Global, port: u16) -> Result<String, Reason>
 }
 
 /// Prints on which port the server listens, if it does.
-pub fn announce<W: Sink>(output: &mut W, outcome: &Result<Option<Listening>, Reason>)
+pub fn announce<W: Sink>(output: &mut W, outcome: &Result<Found, Reason>)
     ensures { Tells (W.taken output.old) (W.taken output.new) (announced outcome.now) }
 {
     tell(output, announced(outcome));
 }
 
-fn announced(outcome: &Result<Option<Listening>, Reason>) -> &str
+fn announced(outcome: &Result<Found, Reason>) -> &str
     ensures { result.now ≡ announced outcome.now }
 {
     match outcome {
-        Ok(Some(listening)) => listening.line.as_str(),
-        Ok(None) | Err(_) => "",
+        Ok(Ok(listening)) => listening.line.as_str(),
+        Ok(Err(_)) | Err(_) => "",
     }
 }
 
 /// Says why the configuration is refused, if it is.
-pub fn blame<E: Sink>(errors: &mut E, outcome: &Result<Option<Listening>, Reason>)
+pub fn blame<E: Sink>(errors: &mut E, outcome: &Result<Found, Reason>)
     ensures { Tells (E.taken errors.old) (E.taken errors.new) (blamed outcome.now) }
 {
     tell(errors, blamed(outcome));
 }
 
-fn blamed(outcome: &Result<Option<Listening>, Reason>) -> &'static str
+fn blamed(outcome: &Result<Found, Reason>) -> &'static str
     ensures { result.now ≡ blamed outcome.now }
 {
     match outcome {
@@ -139,25 +138,34 @@ fn blamed(outcome: &Result<Option<Listening>, Reason>) -> &'static str
 }
 
 /// Serves, if the server listens, with so many workers until all have ended, and gives the status.
-pub fn finish<H: Threads + Wait + Clock + Sync>(
+pub fn finish<H: Threads + Wait + Machine + Sync>(
     rt: &H,
     alloc: Global,
-    outcome: Result<Option<Listening>, Reason>,
+    outcome: Result<Found, Reason>,
     count: &WorkerCount,
-) -> u8
-    ensures { result ≡ served_status outcome }
+) -> Done
+    ensures status { result.status ≡ served_status outcome }
+    ensures served { HasServed H.behaviour count.now outcome result.shift }
 {
     match outcome {
-        Ok(Some(listening)) => {
+        Ok(Ok(listening)) => {
             let Listening {
                 server,
                 listener,
                 ..
             } = listening;
-            serve(rt, alloc, server, &listener, count);
-            1
+            Done {
+                status: 1,
+                shift: Some(serve(rt, alloc, server, &listener, count)),
+            }
         }
-        Ok(None) => 1,
-        Err(_) => 3,
+        Ok(Err(_)) => Done {
+            status: 1,
+            shift: None,
+        },
+        Err(_) => Done {
+            status: 3,
+            shift: None,
+        },
     }
 }

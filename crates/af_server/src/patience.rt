@@ -18,19 +18,14 @@ pub struct Patience {
 }
 
 impl Patience {
-    /// It is the peer's turn to send, from now on.
-    pub fn new<R: Clock>(rt: &R, limit: Duration) -> io::Result<Patience> {
-        Ok(Patience {
+    /// It is the peer's turn to send, from now on. It has no time where the clock can't be read.
+    pub fn new<R: Clock>(rt: &R, limit: Duration) -> Patience {
+        Patience {
             limit,
-            since: Cell::new(rt.monotonic()?),
+            since: Cell::new(rt.monotonic().unwrap_or(Duration::ZERO)),
             writing: Cell::new(false),
             taken: Cell::new(false),
-        })
-    }
-
-    /// How long one turn may last.
-    pub fn limit(&self) -> Duration {
-        self.limit
+        }
     }
 
     /// How long the peer is still waited for, to take what is written or to send what is read. `TimedOut` if its time is up.

@@ -20,48 +20,27 @@ pub struct Peer<'a, R: Clock> {
     rt: &'a R,
     stream: &'a TcpStream,
     patience: &'a Patience,
-    /// The time-out that the stream has now.
-    set: Cell<Duration>,
+    /// The time-out that the stream was given last.
+    set: Cell<Option<Duration>>,
 }
 
 impl<'a, R: Clock> Peer<'a, R> {
-    /// The peer as a reader.
-    pub fn reader(
-        rt: &'a R,
-        stream: &'a TcpStream,
-        patience: &'a Patience,
-    ) -> io::Result<Peer<'a, R>> {
-        stream.set_read_timeout(Some(patience.limit()))?;
-        Ok(Peer {
+    /// The peer at the other end of a stream.
+    pub fn new(rt: &'a R, stream: &'a TcpStream, patience: &'a Patience) -> Peer<'a, R> {
+        Peer {
             rt,
             stream,
             patience,
-            set: Cell::new(patience.limit()),
-        })
-    }
-
-    /// The peer as a writer. What is written goes out at once.
-    pub fn writer(
-        rt: &'a R,
-        stream: &'a TcpStream,
-        patience: &'a Patience,
-    ) -> io::Result<Peer<'a, R>> {
-        stream.set_nodelay(true)?;
-        stream.set_write_timeout(Some(patience.limit()))?;
-        Ok(Peer {
-            rt,
-            stream,
-            patience,
-            set: Cell::new(patience.limit()),
-        })
+            set: Cell::new(None),
+        }
     }
 
     /// Sets the time-out of reads to what is left of the peer's time.
     fn limit_read(&self) -> io::Result<()> {
         let left = self.patience.left(self.rt, false)?;
-        if left != self.set.get() {
+        if self.set.get() != Some(left) {
             self.stream.set_read_timeout(Some(left))?;
-            self.set.set(left);
+            self.set.set(Some(left));
         }
         Ok(())
     }
@@ -69,9 +48,9 @@ impl<'a, R: Clock> Peer<'a, R> {
     /// Sets the time-out of writes to what is left of the peer's time.
     fn limit_write(&self) -> io::Result<()> {
         let left = self.patience.left(self.rt, true)?;
-        if left != self.set.get() {
+        if self.set.get() != Some(left) {
             self.stream.set_write_timeout(Some(left))?;
-            self.set.set(left);
+            self.set.set(Some(left));
         }
         Ok(())
     }
@@ -115,8 +94,8 @@ impl<'a, R: Clock> Write for Peer<'a, R> {
 /// unread.
 pub fn part<R: Clock>(rt: &R, stream: &TcpStream) -> io::Result<()> {
     stream.shutdown(Shutdown::Write)?;
-    let patience = Patience::new(rt, Duration::from_millis(LAST_MILLIS))?;
-    let mut reader = Peer::reader(rt, stream, &patience)?;
+    let patience = Patience::new(rt, Duration::from_millis(LAST_MILLIS));
+    let mut reader = Peer::new(rt, stream, &patience);
     let mut buffer = [0u8; 16_384];
     for _ in 0..LAST_READS {
         if reader.read(&mut buffer)? == 0 {

@@ -4,8 +4,10 @@ ghost use Rattle.af_server.specs.Verified.{IsVerified};
 
 use crate::command::Command;
 use crate::console::Console;
+use crate::done::Done;
 use crate::files::Files;
 use crate::listening::{announce, blame, finish, listen_at};
+use crate::machine::Machine;
 use crate::once::once;
 use crate::reason::Reason;
 use crate::telling::{ended, usage};
@@ -15,33 +17,40 @@ use crate::worker_count::WorkerCount;
 use af_http::{Ended, Sink, Source};
 use af_names::Instant;
 use std::alloc::Global;
-use std::net::{Net, TcpListener, TcpStream};
 use std::sync::Wait;
 use std::thread::Threads;
-use std::time::Clock;
 
-/// Does what the words ask for, with files found there, and gives the status. `once`: 0 where the connection ended as connections do, 1 where
+/// Does what the words ask for, with files found there, and gives the status, and what the threads of a server did, where one has listened. `once`: 0 where the connection ended as connections do, 1 where
 /// it was cut short. `serve`: 1 where the server can't listen, and after its last worker has ended. `verify`: 0 where the answers agree, 1
 /// where they differ. Of wrong words 2; where the configuration or the trace is refused, also where its file can't be had, 3.
-pub fn run<
-    H: Net<Listener = TcpListener, Stream = TcpStream> + Threads + Wait + Clock + Sync,
-    F: Files,
-    R: Source,
-    W: Sink,
-    E: Sink,
->(rt: &H, alloc: Global, files: &F, command: Command, console: &mut Console<R, W, E>) -> u8
-    ensures { Runs (F.holds files.now) (F.refuses files.now) command (R.given console.old.input) (R.given console.new.input)
+pub fn run<H: Machine + Threads + Wait + Sync, F: Files, R: Source, W: Sink, E: Sink>(
+    rt: &H,
+    alloc: Global,
+    files: &F,
+    command: Command,
+    console: &mut Console<R, W, E>,
+) -> Done
+    ensures { Runs (F.holds files.now) (F.refuses files.now) H.behaviour command (R.given console.old.input) (R.given console.new.input)
         (W.taken console.old.output) (W.taken console.new.output) (E.taken console.old.errors) (E.taken console.new.errors) result }
 {
     match command {
-        Command::Once { config, now } => once_at(rt, alloc, files, config.as_str(), now, console),
+        Command::Once { config, now } => Done {
+            status: once_at(rt, alloc, files, config.as_str(), now, console),
+            shift: None,
+        },
         Command::Serve {
             config,
             port,
             count,
         } => serve_at(rt, alloc, files, config.as_str(), port, &count, console),
-        Command::Verify { trace } => verify_at(alloc, files, trace.as_str(), console),
-        Command::Usage => usage(&mut console.errors),
+        Command::Verify { trace } => Done {
+            status: verify_at(alloc, files, trace.as_str(), console),
+            shift: None,
+        },
+        Command::Usage => Done {
+            status: usage(&mut console.errors),
+            shift: None,
+        },
     }
 }
 
@@ -88,14 +97,9 @@ fn connection_at<H: Wait, F: Files, R: Source, W: Sink>(
     }
 }
 
-/// A server under the configuration at a path. Where it listens is printed; why the configuration is refused is told on standard error.
-fn serve_at<
-    H: Net<Listener = TcpListener, Stream = TcpStream> + Threads + Wait + Clock + Sync,
-    F: Files,
-    R: Source,
-    W: Sink,
-    E: Sink,
->(
+/// A server under the configuration at a path, on a port, with so many workers. Where it listens is printed; why the configuration is refused is
+/// told on standard error.
+fn serve_at<H: Machine + Threads + Wait + Sync, F: Files, R: Source, W: Sink, E: Sink>(
     rt: &H,
     alloc: Global,
     files: &F,
@@ -103,8 +107,8 @@ fn serve_at<
     port: u16,
     count: &WorkerCount,
     console: &mut Console<R, W, E>,
-) -> u8
-    ensures { RunsServe (F.holds files.now) (F.refuses files.now) path.now (R.given console.old.input) (R.given console.new.input)
+) -> Done
+    ensures { RunsServe (F.holds files.now) (F.refuses files.now) H.behaviour path.now port count.now (R.given console.old.input) (R.given console.new.input)
         (W.taken console.old.output) (W.taken console.new.output) (E.taken console.old.errors) (E.taken console.new.errors) result }
 {
     let outcome = listen_at(rt, alloc, files, path, port);

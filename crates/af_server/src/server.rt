@@ -1,23 +1,30 @@
-ghost use Rattle.std.specs.Prelude.{◌≡◌, ◌≤◌, IfOk};
-ghost use Rattle.af_audit.specs.Ledgers as ledgers;
+ghost use Rattle.std.specs.Prelude.{◌≡◌, ◌≤◌, All, IfOk, None, length};
 ghost use Rattle.af_plane.specs.Names.{IsOfName};
+ghost use Rattle.af_server.specs.Attendances.{HasEnded};
+ghost use Rattle.af_server.specs.Listenings.{server_of};
+ghost use Rattle.af_server.specs.Rounds.{HasScheduled};
+ghost use Rattle.af_server.specs.Servers.{IsServerOf, IsShift};
+ghost use Rattle.af_server.specs.Workers.{IsAttended};
 
 use crate::config::Configuration;
 use crate::gate::Open;
+use crate::hub::Hub;
+use crate::machine::Machine;
 use crate::shared::Shared;
+use crate::shift::Shift;
 use crate::stop::Stop;
 use crate::worker_count::WorkerCount;
 use crate::workers::Workers;
 use af_board::OutOfMemory;
-use af_plane::{Control, Named, Parts};
-use af_sched::{Executor, Scripted};
+use af_plane::{Named, Parts};
+use af_sched::Scripted;
 use std::alloc::Global;
 use std::marker::Brand;
 use std::net::TcpListener;
 use std::sync::Wait;
 use std::thread;
 use std::thread::Threads;
-use std::time::{Clock, Duration};
+use std::time::Duration;
 
 /// What a server runs: a board with a plane over it, and the scripts by which its tasks end.
 #[derive(Drop)]
@@ -29,9 +36,7 @@ pub struct Server {
 impl Server {
     /// What a configuration says. `OutOfMemory` if an allocation failed.
     pub fn open(alloc: Global, configuration: Configuration) -> Result<Server, OutOfMemory>
-        ensures board { IfOk result (λ s. (s.parts.board.opening ≡ configuration.policy) × (s.parts.board.word.last ≡ configuration.limits.versions)) }
-        ensures plane { IfOk result (λ s. s.parts.plane.ledger ≡ ledgers.opened configuration.state configuration.limits.history) }
-        ensures scripts { IfOk result (λ s. s.scripted ≡ configuration.scripts) }
+        ensures { IfOk result (λ s. IsServerOf configuration (server_of s.parts.board s.parts.plane s.scripted)) }
     {
         let Configuration {
             policy,
@@ -46,58 +51,69 @@ impl Server {
         })
     }
 
-    /// Serves with so many workers until each has ended, and ticks each second meanwhile.
-    pub fn run<N: Named + Send + Sync, R: Threads + Wait + Clock + Sync>(
+    /// Serves with so many workers until each has ended, and has a round of the scheduler each second meanwhile.
+    pub fn run<N: Named + Send + Sync, R: Threads + Wait + Machine + Sync>(
         self,
         rt: &R,
         alloc: Global,
         listener: &TcpListener,
         count: u32,
-    )
+    ) -> Shift
         requires board { self.parts.board ≡ N.name.site }
         requires plane { IsOfName N.name self.parts.plane }
-        requires some { 1 ≤ count }
         requires few { count ≤ 16 }
+        ensures all { length result.attendance ≡ count }
+        ensures each { All (IsAttended R.behaviour N.name None) result.attendance }
+        ensures scheduled { HasScheduled R.behaviour.tells N.name self.scripted result.waiting }
     {
         let Server { parts, scripted } = self;
         let mut scripted = scripted;
-        let control = Control::<N>::of(parts);
-        run_threads(rt, alloc, &control, &mut scripted, listener, count);
+        let hub = Hub::<N>::of(parts);
+        run_threads(rt, alloc, &hub, &mut scripted, listener, count)
     }
 }
 
 /// Runs the workers and, beside them, the scheduler, until each worker has ended.
-fn run_threads<C: Shared + Sync, E: Executor + Send, R: Threads + Wait + Clock + Sync>(
+fn run_threads<C: Shared + Sync, R: Threads + Wait + Machine + Sync>(
     rt: &R,
     alloc: Global,
     shared: &C,
-    executor: &mut E,
+    scripted: &mut Scripted,
     listener: &TcpListener,
     count: u32,
-)
-    requires some { 1 ≤ count }
-    requires few { count ≤ 16 }
+) -> Shift
+    requires { count ≤ 16 }
+    ensures all { length result.attendance ≡ count }
+    ensures each { All (λ a. C.attends shared.now R.behaviour.tells a.connections × HasEnded R.behaviour.fails None a) result.attendance }
+    ensures scheduled { C.schedules shared.now R.behaviour.tells scripted.old result.waiting }
 {
     let workers = Workers::new(Open, count);
     let stop = Stop::new();
     // The scheduler comes first: where no thread can be made, `join` runs its first closure last.
-    thread::join(
+    let (waiting, attendance) = thread::join(
         rt,
-        || shared.schedule(rt, alloc, executor, Duration::from_secs(1), &stop),
+        || shared.schedule(rt, alloc, scripted, Duration::from_secs(1), &stop),
         || {
-            let _served = workers.run(rt, alloc, shared, listener, None);
+            let attendance = workers.run(rt, alloc, shared, listener, None);
             stop.tell(rt);
+            attendance
         },
     );
+    Shift {
+        attendance,
+        waiting,
+    }
 }
 
 /// Serves with so many workers until each has ended. The name of the control is picked here.
-pub fn serve<R: Threads + Wait + Clock + Sync>(
+pub fn serve<R: Threads + Wait + Machine + Sync>(
     rt: &R,
     alloc: Global,
     server: Server,
     listener: &TcpListener,
     count: &WorkerCount,
-) {
-    server.run::<Brand, R>(rt, alloc, listener, count.count());
+) -> Shift
+    ensures { IsShift R.behaviour count.now (server_of server.parts.board server.parts.plane server.scripted) result }
+{
+    server.run::<Brand, R>(rt, alloc, listener, count.count())
 }

@@ -1,22 +1,33 @@
-ghost use Rattle.std.specs.Prelude.{◌≤◌, IfSome};
+ghost use Rattle.std.specs.Prelude.{ℕ, List};
+ghost use Rattle.af_sched.specs.Scripts.{ScriptRow};
+ghost use Rattle.af_server.specs.Attendances.{HasEnded};
+ghost use Rattle.af_server.specs.Rounds.{WaitingRows};
 
-use crate::attending::attend;
+use crate::attended::Attended;
 use crate::gate::Gate;
+use crate::hub::Hub;
+use crate::machine::Machine;
 use crate::stop::Stop;
 use crate::ticker::Ticker;
+use crate::waiting::Waiting;
 use crate::worker::Worker;
-use af_plane::{Control, Named};
-use af_sched::Executor;
+use af_plane::Named;
+use af_sched::Scripted;
 use std::alloc::Global;
 use std::net::TcpListener;
 use std::sync::Wait;
-use std::time::{Clock, Duration};
+use std::time::Duration;
 
 /// What threads share: each works on it with a session of its own.
 pub trait Shared {
-    /// Serves the connections of a listener, one after another, and returns how many. It ends after so many if there is a number, and if the
-    /// listener takes no more.
-    fn attend<R: Wait + Clock, G: Gate>(
+    /// Whether a worker may attend to so many connections with a session of its own, where the clock may tell these instants.
+    ghost attends: { Self → (ℕ → Type 0) → ℕ → Type 0 };
+
+    /// Whether a scheduler by these scripts may have waited so, where the clock may tell these instants.
+    ghost schedules: { Self → (ℕ → Type 0) → List ScriptRow → WaitingRows → Type 0 };
+
+    /// Serves the connections of a listener, one after another. It ends after so many if there is a number, and if the machine gives no more.
+    fn attend<R: Wait + Machine, G: Gate>(
         &self,
         rt: &R,
         alloc: Global,
@@ -24,22 +35,31 @@ pub trait Shared {
         listener: &TcpListener,
         patience: Duration,
         connections: Option<u32>,
-    ) -> u64
-        ensures { IfSome connections (λ n. result ≤ n) };
+    ) -> Attended
+        ensures attends { attends self.now R.behaviour.tells result.connections }
+        ensures ended { HasEnded R.behaviour.fails connections result };
 
-    /// Ticks once in each period, and then has an executor run what is queued, until it is told to stop.
-    fn schedule<R: Wait + Clock, E: Executor>(
+    /// Ticks once in each period, and then runs what is queued by scripts, until it is told to stop.
+    fn schedule<R: Wait + Machine>(
         &self,
         rt: &R,
         alloc: Global,
-        executor: &mut E,
+        scripted: &mut Scripted,
         period: Duration,
         stop: &Stop,
-    );
+    ) -> Waiting
+        ensures { schedules self.now R.behaviour.tells scripted.old result };
 }
 
-impl<N: Named> Shared for Control<N> {
-    fn attend<R: Wait + Clock, G: Gate>(
+impl<N: Named> Shared for Hub<N> {
+    ghost use Rattle.af_server.specs.Rounds.{HasScheduled};
+    ghost use Rattle.af_server.specs.Workers.{HasAttended};
+
+    ghost attends = { λ hub tells connections. HasAttended tells N.name connections };
+
+    ghost schedules = { λ hub tells scripts waiting. HasScheduled tells N.name scripts waiting };
+
+    fn attend<R: Wait + Machine, G: Gate>(
         &self,
         rt: &R,
         alloc: Global,
@@ -47,19 +67,20 @@ impl<N: Named> Shared for Control<N> {
         listener: &TcpListener,
         patience: Duration,
         connections: Option<u32>,
-    ) -> u64 {
+    ) -> Attended {
         let mut worker = Worker::open(rt, alloc, self, gate);
-        attend(rt, alloc, listener, patience, connections, &mut worker)
+        Attended::to(rt, alloc, listener, patience, connections, &mut worker)
     }
 
-    fn schedule<R: Wait + Clock, E: Executor>(
+    fn schedule<R: Wait + Machine>(
         &self,
         rt: &R,
         alloc: Global,
-        executor: &mut E,
+        scripted: &mut Scripted,
         period: Duration,
         stop: &Stop,
-    ) {
-        Ticker::open(rt, alloc, self).run(executor, period, stop);
+    ) -> Waiting {
+        let mut ticker = Ticker::open(rt, alloc, self);
+        ticker.run(scripted, period, stop)
     }
 }

@@ -1,67 +1,132 @@
-use crate::clock::time_now;
-use crate::stop::Stop;
-use af_plane::{Control, Named, Visitor};
-use af_sched::Executor;
-use std::alloc::Global;
-use std::sync::Wait;
-use std::time::{Clock, Duration};
+ghost use Rattle.std.specs.Prelude.{◌≡◌, true, MatchBool, MatchOption, Ok, Some};
+ghost use Rattle.af_server.specs.Rounds.{AreRounds, Claims, HasStopped, HasTried, HasWorked, IsRound, Reports};
+ghost use Rattle.af_server.specs.Workers.{IsNew};
 
-/// The scheduler's thread, with a session of its own: it ticks, and then an executor runs what is queued.
+use crate::hub::Hub;
+use crate::machine::Machine;
+use crate::stop::Stop;
+use crate::waiting::Waiting;
+use af_audit::AuditFault;
+use af_plane::{Control, Named, Visitor};
+use af_sched::{Claim, Executor, Outcome, Scripted};
+use std::alloc::Global;
+use std::marker::Model;
+use std::sync::Wait;
+use std::time::Duration;
+
+/// The scheduler's thread, with a session of its own: it ticks, and then runs what is queued by scripts. Contracts see the session.
 #[derive(Drop)]
-pub struct Ticker<'a, N: Named, R: Wait + Clock> {
+pub struct Ticker<'a, N: Named, R: Wait + Machine> {
     rt: &'a R,
     alloc: Global,
     control: &'a Control<N>,
     visitor: Visitor<N>,
 }
 
-impl<'a, N: Named, R: Wait + Clock> Ticker<'a, N, R> {
-    /// A scheduler of this control.
-    pub fn open(rt: &'a R, alloc: Global, control: &'a Control<N>) -> Ticker<'a, N, R> {
+impl<'a, N: Named, R: Wait + Machine> Model for Ticker<'a, N, R> {
+    ghost use Rattle.af_plane.specs.Visits.{VisitorRows};
+
+    ghost Value = { VisitorRows };
+
+    ghost view = { λ ticker. ticker.visitor };
+}
+
+impl<'a, N: Named, R: Wait + Machine> Ticker<'a, N, R> {
+    /// A scheduler of what threads share.
+    pub fn open(rt: &'a R, alloc: Global, hub: &'a Hub<N>) -> Ticker<'a, N, R>
+        ensures { IsNew result }
+    {
         Ticker {
             rt,
             alloc,
-            control,
-            visitor: control.session(rt),
+            control: hub.control(),
+            visitor: hub.session(rt),
         }
     }
 
-    /// Ticks once in each period until it is told to stop.
-    pub fn run<E: Executor>(&mut self, executor: &mut E, period: Duration, stop: &Stop) {
+    /// Has a round after each period until it is told to stop.
+    pub fn run(&mut self, scripted: &mut Scripted, period: Duration, stop: &Stop) -> Waiting
+        ensures rounds { AreRounds R.behaviour.tells N.name scripted.old result.periods self.old self.new }
+        ensures told { result.told ≡ true }
+    {
+        let mut waiting = Waiting::new();
         for _ in self.rt.forever() {
-            if stop.waits(self.rt, period) {
-                break;
+            if waiting.wait(self.rt, stop, period) {
+                return waiting;
             }
-            self.tick(executor);
+            self.round(scripted);
         }
+        unreachable!()
     }
 
     /// One tick; then instances are claimed and their outcomes reported until a claim gives none, or an error. An error of a tick or of a
     /// report leaves all as it was, and the next tick comes.
-    fn tick<E: Executor>(&mut self, executor: &mut E) {
-        let at = time_now(self.rt);
+    fn round(&mut self, scripted: &mut Scripted)
+        ensures round { IsRound R.behaviour.tells N.name scripted.old self.old self.new }
+        ensures kept { scripted.new ≡ scripted.old }
+    {
+        let at = self.rt.time();
         let _ = self
             .control
             .tick(self.rt, self.alloc, &mut self.visitor, at);
+        self.work(scripted);
+    }
+
+    /// Tries what is queued, until no more is claimed.
+    fn work(&mut self, scripted: &mut Scripted)
+        ensures work { HasWorked R.behaviour.tells N.name scripted.old self.old self.new }
+        ensures kept { scripted.new ≡ scripted.old }
+    {
         for _ in self.rt.forever() {
-            if !self.work(executor) {
-                break;
+            if !self.attempt(scripted) {
+                return;
             }
+        }
+        unreachable!()
+    }
+
+    /// Claims an instance, if there is one, and reports the outcome of its try.
+    fn attempt(&mut self, scripted: &mut Scripted) -> bool
+        ensures tried { MatchBool result (HasTried R.behaviour.tells N.name scripted.old self.old self.new) (HasStopped R.behaviour.tells N.name self.old self.new) }
+        ensures kept { scripted.new ≡ scripted.old }
+    {
+        match self.claim() {
+            Some(claim) => {
+                let outcome = scripted.run(&claim);
+                self.report(&claim, outcome);
+                true
+            }
+            None => false,
         }
     }
 
-    /// Claims an instance, if there is one, and reports its outcome.
-    fn work<E: Executor>(&mut self, executor: &mut E) -> bool {
-        let at = time_now(self.rt);
-        let claimed = self
+    /// Claims an instance, if one is queued.
+    fn claim(&mut self) -> Option<Claim>
+        ensures { MatchOption result (HasStopped R.behaviour.tells N.name self.old self.new) (λ claim. Claims R.behaviour.tells N.name self.old (Ok (Some claim)) self.new) }
+    {
+        match self.claim_next() {
+            Ok(Some(claim)) => Some(claim),
+            Ok(None) => None,
+            Err(_) => None,
+        }
+    }
+
+    /// Claims the first instance that is queued, if there is one.
+    fn claim_next(&mut self) -> Result<Option<Claim>, AuditFault>
+        ensures { Claims R.behaviour.tells N.name self.old result self.new }
+    {
+        let at = self.rt.time();
+        self.control
+            .claim(self.rt, self.alloc, &mut self.visitor, at)
+    }
+
+    /// Reports the outcome of a claimed try.
+    fn report(&mut self, claim: &Claim, outcome: Outcome)
+        ensures { Reports R.behaviour.tells N.name self.old claim.now outcome self.new }
+    {
+        let at = self.rt.time();
+        let _ = self
             .control
-            .claim(self.rt, self.alloc, &mut self.visitor, at);
-        let Ok(Some(claim)) = claimed else {
-            return false;
-        };
-        let outcome = executor.run(&claim);
-        let at = time_now(self.rt);
-        let _ = self.control.report(self.rt, self.alloc, &mut self.visitor, &claim, outcome, at);
-        true
+            .report(self.rt, self.alloc, &mut self.visitor, claim, outcome, at);
     }
 }

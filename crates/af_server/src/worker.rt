@@ -2,60 +2,57 @@ ghost use Rattle.std.specs.Prelude.{◌≡◌};
 ghost use Rattle.std.specs.Option.{option_copied};
 ghost use Rattle.af_ops.specs.declared.call.Call.TheVariants as calls;
 ghost use Rattle.af_plane.specs.Turns.{IsOfPlane};
-ghost use Rattle.af_server.specs.Workers.{Works};
+ghost use Rattle.af_server.specs.Workers.{IsNew, Works};
 
-use crate::clock::time_now;
 use crate::gate::Gate;
-use af_audit::LastToken;
+use crate::hub::Hub;
+use crate::machine::Machine;
+use af_audit::RecentTokens;
 use af_http::Service;
 use af_ops::{Call, PolicyOp, Served};
 use af_plane::{Control, Named, Request, Visitor};
 use std::alloc::Global;
 use std::marker::Model;
 use std::sync::Wait;
-use std::time::Clock;
 
-/// Answers the calls that one worker thread reads, with a session of its own. Each answer passes the gate before it is written. Contracts see
-/// what the session has seen.
+/// Answers the calls that one worker thread reads, with a session of its own. Each answer passes the gate before it is written. It can open no
+/// other session. Contracts see the session.
 #[derive(Drop)]
-pub struct Worker<'a, N: Named, R: Wait + Clock, G: Gate> {
+pub struct Worker<'a, N: Named, R: Wait + Machine, G: Gate> {
     rt: &'a R,
     alloc: Global,
     control: &'a Control<N>,
     gate: &'a G,
     visitor: Visitor<N>,
-    last_token: LastToken,
+    tokens: RecentTokens,
 }
 
-impl<'a, N: Named, R: Wait + Clock, G: Gate> Model for Worker<'a, N, R, G> {
-    ghost use Rattle.af_plane.specs.Visits.{Visit};
+impl<'a, N: Named, R: Wait + Machine, G: Gate> Model for Worker<'a, N, R, G> {
+    ghost use Rattle.af_plane.specs.Visits.{VisitorRows};
 
-    ghost Value = { Visit };
+    ghost Value = { VisitorRows };
 
     ghost view = { λ worker. worker.visitor };
 }
 
-impl<'a, N: Named, R: Wait + Clock, G: Gate> Worker<'a, N, R, G> {
-    /// A worker of this control.
-    pub fn open(
-        rt: &'a R,
-        alloc: Global,
-        control: &'a Control<N>,
-        gate: &'a G,
-    ) -> Worker<'a, N, R, G> {
+impl<'a, N: Named, R: Wait + Machine, G: Gate> Worker<'a, N, R, G> {
+    /// A worker over what threads share.
+    pub fn open(rt: &'a R, alloc: Global, hub: &'a Hub<N>, gate: &'a G) -> Worker<'a, N, R, G>
+        ensures { IsNew result }
+    {
         Worker {
             rt,
             alloc,
-            control,
+            control: hub.control(),
             gate,
-            visitor: control.session(rt),
-            last_token: LastToken::new(),
+            visitor: hub.session(rt),
+            tokens: RecentTokens::new(alloc),
         }
     }
 
     /// Decides a call where its data live, at the time of the clock.
     fn decide(&mut self, token: Option<&[u8]>, call: &Call) -> Served
-        ensures { Works N.name self.old (option_copied token.entry) call.now result self.new }
+        ensures { Works R.behaviour.tells N.name self.old (option_copied token.entry) call.now result self.new }
     {
         match call {
             Call::Policy(asked) => self.administer(token, asked),
@@ -66,13 +63,13 @@ impl<'a, N: Named, R: Wait + Clock, G: Gate> Worker<'a, N, R, G> {
     /// Decides a call on the plane, by one turn under the lock. The token is hashed before.
     fn take_turn(&mut self, token: Option<&[u8]>, call: &Call) -> Served
         requires { IsOfPlane call.now }
-        ensures { Works N.name self.old (option_copied token.entry) call.now result self.new }
+        ensures { Works R.behaviour.tells N.name self.old (option_copied token.entry) call.now result self.new }
     {
-        let presented = self.last_token.present(token);
+        let presented = self.tokens.present(token);
         let request = Request {
             token: presented.as_ref(),
             call,
-            at: time_now(self.rt),
+            at: self.rt.time(),
         };
         self.control
             .call(self.rt, self.alloc, &mut self.visitor, &request)
@@ -80,7 +77,7 @@ impl<'a, N: Named, R: Wait + Clock, G: Gate> Worker<'a, N, R, G> {
 
     /// Decides an operation on the policy, on the board, without the plane's lock.
     fn administer(&mut self, token: Option<&[u8]>, asked: &PolicyOp) -> Served
-        ensures { Works N.name self.old (option_copied token.entry) (calls.Policy asked.now) result self.new }
+        ensures { Works R.behaviour.tells N.name self.old (option_copied token.entry) (calls.Policy asked.now) result self.new }
     {
         match asked {
             PolicyOp::Me => self.control.me(self.alloc, &mut self.visitor, token),
@@ -97,8 +94,8 @@ impl<'a, N: Named, R: Wait + Clock, G: Gate> Worker<'a, N, R, G> {
     }
 }
 
-impl<'a, N: Named, R: Wait + Clock, G: Gate> Service for Worker<'a, N, R, G> {
-    ghost answers = { λ old token call served new. Works N.name old token call served new };
+impl<'a, N: Named, R: Wait + Machine, G: Gate> Service for Worker<'a, N, R, G> {
+    ghost answers = { λ old token call served new. Works R.behaviour.tells N.name old token call served new };
 
     fn answer(&mut self, token: Option<&[u8]>, call: &Call) -> Served {
         let served = self.decide(token, call);

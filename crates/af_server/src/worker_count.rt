@@ -1,5 +1,5 @@
 ghost use Rattle.std.specs.Prelude.{◌≡◌, ◌≤◌};
-ghost use Rattle.af_server.specs.Commands.{count_in};
+ghost use Rattle.af_server.specs.Commands.{IsCountIn};
 
 use crate::number::number_in;
 use std::marker::Model;
@@ -23,10 +23,12 @@ impl Model for WorkerCount {
 impl WorkerCount {
     /// The number that a text states.
     pub fn read(text: &str) -> Option<WorkerCount>
-        ensures { result ≡ count_in text.now }
+        ensures { IsCountIn text.now result }
     {
-        match number_in(text.as_bytes()) {
-            Some(count) if 1 <= count && count <= 16 => Some(WorkerCount { count }),
+        match number_in(text) {
+            Some(count) if 1 <= count && count <= 16 => Some(WorkerCount {
+                count: u32::from(count),
+            }),
             _ => None,
         }
     }

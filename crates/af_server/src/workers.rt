@@ -1,13 +1,17 @@
-ghost use Rattle.std.specs.Prelude.{◌≡◌, ◌≤◌, All, IfSome, IfOk, vec_len};
+ghost use Rattle.std.specs.Prelude.{◌≡◌, ◌≤◌, ◌<◌, ℕ, All, IsSomeAnd, None, length, slice_index_or};
+ghost use Rattle.af_server.specs.Attendances.{HasEnded};
 
+use crate::attendance::{Attendance, SEATS};
+use crate::attended::Attended;
 use crate::gate::Gate;
+use crate::machine::Machine;
 use crate::shared::Shared;
-use std::alloc::{AllocError, Global};
+use std::alloc::Global;
 use std::net::TcpListener;
 use std::sync::Wait;
 use std::thread;
 use std::thread::Threads;
-use std::time::{Clock, Duration};
+use std::time::Duration;
 
 /// For how many seconds a peer is waited for.
 const PATIENCE: u64 = 10;
@@ -18,13 +22,13 @@ pub struct Workers<G: Gate> {
     gate: G,
     count: u32,
     patience: Duration,
+    ghost few: { count ≤ 16 },
 }
 
 impl<G: Gate + Sync> Workers<G> {
     /// So many threads, each of whose answers passes the gate. A peer has ten seconds to send a request, and ten to take what answers it.
     pub fn new(gate: G, count: u32) -> Workers<G>
-        requires some { 1 ≤ count }
-        requires few { count ≤ 16 }
+        requires { count ≤ 16 }
         ensures { result.count ≡ count }
     {
         Workers {
@@ -46,22 +50,55 @@ impl<G: Gate + Sync> Workers<G> {
         }
     }
 
-    /// Serves until each worker has ended, and returns how many connections each has served. A worker has one session for its life. It ends
-    /// after so many connections if there is a number, and if its listener takes no more. `AllocError` if there is no memory for the numbers;
-    /// then the workers have ended too.
-    pub fn run<C: Shared + Sync, R: Threads + Wait + Clock + Sync>(
+    /// Serves until each worker has ended. A worker has one session for its life. It ends after so many connections if there is a number, and
+    /// if the machine gives no more. It takes no memory.
+    pub fn run<C: Shared + Sync, R: Threads + Wait + Machine + Sync>(
         &self,
         rt: &R,
         alloc: Global,
         shared: &C,
         listener: &TcpListener,
         connections: Option<u32>,
-    ) -> Result<Vec<u64>, AllocError>
-        ensures all { IfOk result (λ v. vec_len v ≡ self.entry.now.count) }
-        ensures each { IfOk result (λ v. IfSome connections (λ n. All (λ served. served ≤ n) v.items)) }
+    ) -> Attendance
+        ensures all { length result ≡ self.entry.now.count }
+        ensures each { All (λ a. C.attends shared.now R.behaviour.tells a.connections × HasEnded R.behaviour.fails connections a) result }
     {
+        let mut seats: [Option<Attended>; SEATS] = [
+            None, None, None, None, None, None, None, None, None, None, None, None, None, None,
+            None, None,
+        ];
+        let count = self.count as usize;
+        self.seat(
+            rt,
+            alloc,
+            shared,
+            listener,
+            connections,
+            &mut seats[..count],
+        );
+        Attendance::of(seats)
+    }
+
+    /// Serves with a worker for each seat, until each has ended and taken its seat.
+    fn seat<C: Shared + Sync, R: Threads + Wait + Machine + Sync>(
+        &self,
+        rt: &R,
+        alloc: Global,
+        shared: &C,
+        listener: &TcpListener,
+        connections: Option<u32>,
+        seats: &mut [Option<Attended>],
+    )
+        ensures { (i : ℕ) → i < length seats.old → IsSomeAnd (slice_index_or seats.new i None) (λ a. C.attends shared.now R.behaviour.tells a.connections × HasEnded R.behaviour.fails connections a) }
+    {
+        let count = seats.len();
+        if count == 0 {
+            return;
+        }
         let (gate, patience) = (&self.gate, self.patience);
-        let work = |_| shared.attend(rt, alloc, gate, listener, patience, connections);
-        thread::map_indices(rt, alloc, self.count as usize, &work)
+        let work = |_: usize, seat: &mut Option<Attended>| {
+            *seat = Some(shared.attend(rt, alloc, gate, listener, patience, connections));
+        };
+        thread::for_each_mut(rt, seats, count, &work);
     }
 }

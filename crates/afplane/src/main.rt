@@ -14,7 +14,7 @@ fn main(rt: HostRuntime) -> ExitCode {
         errors: Counted::new(rt.stderr()),
     };
     let status = match env::args(&rt) {
-        Ok(words) => run(&rt, rt.alloc(), &rt, Command::of_words(words), &mut console),
+        Ok(words) => run(&rt, rt.alloc(), &rt, Command::of_words(words), &mut console).status,
         Err(_) => ended(&mut console.errors, Err(Reason::Memory)),
     };
     ExitCode::from(status)

@@ -7,6 +7,9 @@ use Rattle.boxcar.proofs.tag.Tag.TheSendSync as tag
 use Rattle.af_plane.proofs.Threads.{plane_send}
 use Rattle.af_server.proofs.server.Server.run.Goals as goal
 
--- a control may be shared by threads
+-- a control and its door may be shared by threads
 pub run_threads-requires-sync-C : goal.run_threads-requires-sync-C
 run_threads-requires-sync-C g c κs within = search (sendable, crosses, plane_send, compiled_sync, compiled_send, word.the_sync, slot.the_send, slot.the_sync, tag.the_sync) depth 60 fits 100000
+
+pub returns-clause-each : goal.returns-clause-each
+returns-clause-each g c = λ k d below. let both = c.run_threads.ensures.each k d below in record { attends = both.0; ended = both.1 }
