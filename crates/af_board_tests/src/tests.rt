@@ -2,6 +2,7 @@ mod asserts;
 mod changes;
 mod drafts;
 mod marks;
+mod memory;
 mod playing;
 mod raced;
 mod reports;

@@ -2,6 +2,7 @@ mod answers;
 mod asserts;
 mod cases;
 mod cut;
+mod endless;
 mod endpoints;
 mod faults;
 mod limits;

@@ -3,11 +3,11 @@ ghost use Rattle.std.specs.Prelude.{◌≡◌};
 ghost use Rattle.af_board.specs.Drafts.{IsReceipt};
 
 use crate::tests::asserts::{has_memory, holds};
-use crate::tests::changes::{Step, ask_of};
+use crate::tests::changes::empty_role;
 use crate::tests::playing::opened;
 use af_board::{Board, Receipt, SubmitFault};
 use af_names::RoleName;
-use af_policy::{Policy, PolicyRead};
+use af_policy::{Ask, Change, Policy, PolicyRead};
 use af_word::Pass;
 use std::alloc::Global;
 use std::process::Abort;
@@ -15,25 +15,31 @@ use std::sync::Wait;
 use std::test::*;
 use std::thread::{Threads, join};
 
-/// Who submits in a thread: the user's name and token, and the roles that the user adds.
+/// Who submits in a thread: the user's name and token, and the letter with which the names of the user's roles begin.
 #[derive(Clone, Copy)]
 struct Author {
     name: &'static str,
     token: &'static str,
-    roles: &'static [&'static str],
+    letter: &'static str,
 }
 
 const ADAM: Author = Author {
     name: "adam",
     token: "admin",
-    roles: &["x1", "x2", "x3", "x4"],
+    letter: "x",
 };
 
 const ZOE: Author = Author {
     name: "zoe",
     token: "password",
-    roles: &["y1", "y2", "y3", "y4"],
+    letter: "y",
 };
+
+/// How many roles each user adds.
+const ROLES: usize = 100;
+
+/// How often each thread tries at most.
+const TRIES: usize = 50_000;
 
 /// A board that threads share: a thread knows it by this bound alone.
 trait Submits {
@@ -68,8 +74,7 @@ impl Submits for Board {
     }
 }
 
-/// Adds the author's roles, trying again where another was first. Each try that fails sees a version of the other thread's, so that
-/// eight are enough for four roles of each.
+/// Adds the author's roles, trying again where another was first.
 fn made(
     rt: &(impl Wait + Abort),
     alloc: Global,
@@ -81,14 +86,34 @@ fn made(
     ensures { result.1.word ≡ board.now.word }
 {
     let mut made = Vec::new(alloc);
-    for _ in 0..8 {
-        if let Some(role) = author.roles.get(made.len()) {
-            if let Some(version) = submitted(rt, alloc, board, &mut pass, author, role) {
+    for _ in 0..TRIES {
+        if made.len() < ROLES {
+            let number = made.len().saturating_add(1);
+            if let Some(version) = added(rt, alloc, board, &mut pass, author, number) {
                 made.push(version).expect(rt, "room for a version");
             }
         }
     }
     (made, pass)
+}
+
+/// The version that the author's role of this number makes; none where another version was published first.
+fn added(
+    rt: &(impl Wait + Abort),
+    alloc: Global,
+    board: &Board,
+    pass: &mut Pass,
+    author: Author,
+    number: usize,
+) -> Option<u32>
+    requires { pass.old.word ≡ board.now.word }
+    ensures { pass.new.word ≡ board.now.word }
+{
+    let letter = author.letter;
+    let role = format!(in alloc; "{letter}{number}").expect(rt, "the name of a role");
+    let version = submitted(rt, alloc, board, pass, author, role.as_str());
+    drop(role);
+    version
 }
 
 /// The version that a further role makes; none where another version was published first.
@@ -98,12 +123,12 @@ fn submitted(
     board: &Board,
     pass: &mut Pass,
     author: Author,
-    role: &'static str,
+    role: &str,
 ) -> Option<u32>
     requires { pass.old.word ≡ board.now.word }
     ensures { pass.new.word ≡ board.now.word }
 {
-    let ask = ask_of(rt, alloc, Step::AddRole(role));
+    let ask = Ask::Made(Change::AddRole(empty_role(rt, alloc, role)));
     let made = board.submit(rt, alloc, pass, Some(author.token.as_bytes()), &ask);
     drop(ask);
     match made {
@@ -184,17 +209,24 @@ fn raced<B: Submits + Sync, R: Threads + Wait + Abort + Sync>(
     )
 }
 
-/// Ends the test where the versions of both are not 1 to 8, each once.
+/// Whether these are all versions from 1 to that of the last role, in order.
+fn are_in_order(made: &[u32]) -> bool {
+    for (version, wanted) in made.iter().zip(1u32..=200) {
+        if *version != wanted {
+            return false;
+        }
+    }
+    made.len() == 200
+}
+
+/// Ends the test where the versions of both are not 1 to 200, each once.
 fn are_all(rt: &impl Abort, mut made: Vec<u32>, others: &[u32]) {
     for version in others {
         made.push(*version).expect(rt, "room for a version");
     }
     made.sort().expect(rt, "room to sort");
-    holds(
-        rt,
-        made.as_slice() == [1, 2, 3, 4, 5, 6, 7, 8].as_slice(),
-        "each version once",
-    );
+    let are_in_order = are_in_order(made.as_slice());
+    holds(rt, are_in_order, "each version once");
 }
 
 /// Shares a board with two threads: the versions that they have made, and the last one that their passes have seen together.
@@ -209,14 +241,14 @@ fn shared(
 {
     let ((made, mut pass), (others, met)) = raced::<Board, _>(rt, alloc, board, one, two);
     board.meet(&mut pass, met);
-    holds(rt, pass.seen().version == 8, "the last version");
+    holds(rt, pass.seen().version == 200, "the last version");
     are_all(rt, made, others.as_slice());
 }
 
 #[test]
 fn two_threads_make_each_version_once(rt: HostRuntime) {
     let alloc = rt.alloc();
-    let (board, one, two) = opened(&rt, alloc, 99);
+    let (board, one, two) = opened(&rt, alloc, 999);
     shared(&rt, alloc, &board, one, two);
     drop(board);
 }

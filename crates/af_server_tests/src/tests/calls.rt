@@ -3,12 +3,10 @@ use super::asserts::{all_go, first_fault, holds};
 use super::consoles::{Act, does};
 use super::{BASE, Pieces};
 use af_http::Counted;
-use af_server::{Command, Reason, read_whole};
+use af_server::{Command, Machine, Reason, read_whole};
 use std::alloc::{AllocError, Global};
-use std::net::{Net, TcpListener, TcpStream};
 use std::sync::Wait;
 use std::thread::Threads;
-use std::time::Clock;
 
 /// Adds a word to those of a call.
 fn add_word(alloc: Global, all: &mut Vec<String>, word: &str) -> Result<(), AllocError> {
@@ -185,7 +183,7 @@ const CALLS: [Call; 6] = [
 ];
 
 /// Whether a call goes as it should.
-fn goes<H: Net<Listener = TcpListener, Stream = TcpStream> + Threads + Wait + Clock + Sync>(
+fn goes<H: Machine + Threads + Wait + Sync>(
     rt: &H,
     alloc: Global,
     call: &Call,
@@ -267,7 +265,7 @@ const WORDS: [Word; 15] = [
 ];
 
 /// Whether a reason is told by this word.
-fn is_word<H: Net<Listener = TcpListener, Stream = TcpStream> + Threads + Wait + Clock + Sync>(
+fn is_word<H: Machine + Threads + Wait + Sync>(
     rt: &H,
     alloc: Global,
     word: &Word,

@@ -3,7 +3,7 @@ use super::rows::{Exchange, Story, fault_alone, fault_in};
 use super::{BASE, is_told};
 use af_http::Ended;
 use af_ops::Status;
-use std::alloc::Global;
+use std::alloc::{AllocError, Global};
 use std::sync::Wait;
 
 const LIST: &str =
@@ -125,4 +125,54 @@ fn cut_after_each_byte(rt: HostRuntime) {
 fn nothing_is_asked(rt: HostRuntime) {
     let fault = fault_in(&rt, rt.alloc(), BASE, Story::Exchanges(&[]));
     all_go(&rt, fault, "no answer, and it closes, in pieces of");
+}
+
+/// How many bytes the longest body has.
+const LONGEST: usize = 65_536;
+
+const BRACKETS_HEAD: &str =
+    "POST /api/v1/dags/b/dagRuns HTTP/1.1\r\nHost: h\r\nAuthorization: Bearer abc\r\nContent-Length: 65536\r\n\r\n";
+
+const BAD_BODY: &str =
+    "HTTP/1.1 400 Bad Request\r\nContent-Type: application/problem+json\r\nContent-Length: 77\r\nX-Policy-Version: 0\r\nX-Plane-Seq: 0\r\n\r\n{\"detail\":\"bad body\",\"status\":400,\"title\":\"Bad Request\",\"type\":\"about:blank\"}";
+
+/// A request for a run whose body is brackets that open, as many as it may have.
+fn brackets(alloc: Global) -> Result<String, AllocError> {
+    let mut input = String::from_str(alloc, BRACKETS_HEAD)?;
+    for _ in 0..LONGEST {
+        input.push_str("[")?;
+    }
+    Ok(input)
+}
+
+/// The first of these sizes of pieces in which the brackets are not told to be a bad body.
+fn first_taken(rt: &impl Wait, alloc: Global) -> Fault {
+    let input = brackets(alloc)?;
+    let fault = first_other(rt, alloc, input.as_str(), &[7, 4_096, 100_000]);
+    drop(input);
+    Ok(fault)
+}
+
+/// The first of these sizes of pieces in which an input is not told to have a bad body.
+fn first_other(rt: &impl Wait, alloc: Global, input: &str, sizes: &[usize]) -> Option<usize> {
+    for size in sizes {
+        if !is_told(
+            rt,
+            alloc,
+            BASE,
+            input.as_bytes(),
+            *size,
+            BAD_BODY,
+            Ended::Closed,
+        ) {
+            return Some(*size);
+        }
+    }
+    None
+}
+
+/// Arrays that are as deep as a body may be long are no body.
+#[test]
+fn a_body_of_brackets(rt: HostRuntime) {
+    all_go(&rt, first_taken(&rt, rt.alloc()), "in pieces of");
 }

@@ -3,12 +3,10 @@ use super::calls::command_of;
 use super::programs::Shelf;
 use super::{Pieces, in_pieces, now};
 use af_http::Counted;
-use af_server::{Command, Console, Reason, ended, run, usage};
+use af_server::{Command, Console, Machine, Reason, ended, run, usage};
 use std::alloc::Global;
-use std::net::{Net, TcpListener, TcpStream};
 use std::sync::Wait;
 use std::thread::Threads;
-use std::time::Clock;
 
 /// What the program is to do.
 #[derive(Clone, Copy)]
@@ -51,7 +49,7 @@ fn asked(alloc: Global, what: Act<'_>) -> Option<Command> {
 }
 
 /// The status of a command, where there is one file, which holds this; none where there is no memory or no moment.
-fn run_with<H: Net<Listener = TcpListener, Stream = TcpStream> + Threads + Wait + Clock + Sync>(
+fn run_with<H: Machine + Threads + Wait + Sync>(
     rt: &H,
     alloc: Global,
     text: &str,
@@ -59,11 +57,11 @@ fn run_with<H: Net<Listener = TcpListener, Stream = TcpStream> + Threads + Wait 
     desk: &mut Desk<'_>,
 ) -> Option<u8> {
     let command = asked(alloc, what)?;
-    Some(run(rt, alloc, &Shelf { path: "it", text }, command, desk))
+    Some(run(rt, alloc, &Shelf { path: "it", text }, command, desk).status)
 }
 
 /// The status of what is done, or none where there is no memory or no moment.
-fn status_of<H: Net<Listener = TcpListener, Stream = TcpStream> + Threads + Wait + Clock + Sync>(
+fn status_of<H: Machine + Threads + Wait + Sync>(
     rt: &H,
     alloc: Global,
     what: Act<'_>,
@@ -79,7 +77,7 @@ fn status_of<H: Net<Listener = TcpListener, Stream = TcpStream> + Threads + Wait
 }
 
 /// The same with this input, where this is written.
-fn done<H: Net<Listener = TcpListener, Stream = TcpStream> + Threads + Wait + Clock + Sync>(
+fn done<H: Machine + Threads + Wait + Sync>(
     rt: &H,
     alloc: Global,
     what: Act<'_>,
@@ -105,7 +103,7 @@ fn is_told(status: Option<u8>, output: &[u8], errors: &[u8], told: Told<'_>) -> 
 }
 
 /// Whether what the program does with this input is told of so.
-pub fn does<H: Net<Listener = TcpListener, Stream = TcpStream> + Threads + Wait + Clock + Sync>(
+pub fn does<H: Machine + Threads + Wait + Sync>(
     rt: &H,
     alloc: Global,
     what: Act<'_>,

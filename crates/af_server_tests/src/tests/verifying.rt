@@ -2,11 +2,10 @@ use super::BASE;
 use super::asserts::{all_go, first_fault};
 use super::calls::{Asked, asks};
 use super::consoles::{Act, does};
+use af_server::Machine;
 use std::alloc::{AllocError, Global};
-use std::net::{Net, TcpListener, TcpStream};
 use std::sync::Wait;
 use std::thread::Threads;
-use std::time::Clock;
 
 /// The sample configuration's world of one session: who may read no DAG looks, and asks for them.
 const DENIED: &str =
@@ -42,7 +41,7 @@ fn the_words_that_ask_for_a_check(rt: HostRuntime) {
 }
 
 /// Whether a trace is told of as it should.
-fn is_told<H: Net<Listener = TcpListener, Stream = TcpStream> + Threads + Wait + Clock + Sync>(
+fn is_told<H: Machine + Threads + Wait + Sync>(
     rt: &H,
     alloc: Global,
     told: &Told,

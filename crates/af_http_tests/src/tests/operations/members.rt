@@ -1,7 +1,7 @@
 //! Members of an object, one of each kind; and parts of a path that are no names.
 use super::calls::call;
 use crate::tests::asserts::holds;
-use af_names::{Instant, RunId, TaskId};
+use af_names::{Instant, RoleName, RunId, TaskId};
 use af_ops::{Endpoint, Text};
 use std::alloc::Global;
 use std::process::Abort;
@@ -16,8 +16,12 @@ fn put_texts(rt: &impl Abort, alloc: Global, out: &mut Text) {
     let date = Instant::read("2024-01-01T00:00:00.000001Z").expect(rt, "an instant");
     out.instant(true, "date", Some(date))
         .expect(rt, "a member with an instant");
-    out.texts(alloc, true, "list", &["x", "\\"])
+    let first = RoleName::parse(alloc, "x").expect(rt, "the name of a role");
+    let second = RoleName::parse(alloc, "\\").expect(rt, "the name of a role");
+    out.names(alloc, true, "list", &[&first, &second])
         .expect(rt, "a member with a list");
+    drop(first);
+    drop(second);
 }
 
 /// Members with a number, the id of a run and that of a task.

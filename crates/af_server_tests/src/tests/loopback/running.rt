@@ -4,26 +4,25 @@ ghost use Rattle.af_plane.specs.Names.{IsOfName};
 
 use crate::tests::BASE;
 use crate::tests::asserts::holds;
-use af_plane::{Control, Named, Parts};
-use af_server::{Configuration, Gate, Server, Shared, Workers};
-use std::alloc::{AllocError, Global};
+use af_plane::{Named, Parts};
+use af_server::{Attendance, Configuration, Gate, Hub, Machine, Server, Shared, Workers};
+use std::alloc::Global;
 use std::marker::Brand;
 use std::net::TcpListener;
 use std::process::Abort;
 use std::sync::Wait;
 use std::test::Fail;
 use std::thread::Threads;
-use std::time::Clock;
 use std::{io, thread};
 
-/// How many connections each worker served, and what the clients met.
-type Ended = (Result<Vec<u64>, AllocError>, io::Result<bool>);
+/// What became of each worker, and what the clients met.
+type Ended = (Attendance, io::Result<bool>);
 
 /// Serves so many connections with each worker, while the clients do what they do.
 fn serve_shared<
     G: Gate + Sync,
     C: Shared + Sync,
-    R: Threads + Wait + Clock + Sync,
+    R: Threads + Wait + Machine + Sync,
     F: FnOnce() -> io::Result<bool>,
 >(
     rt: &R,
@@ -43,11 +42,11 @@ fn serve_shared<
     )
 }
 
-/// The same, over a control of these parts.
+/// The same, over what threads share that have these parts.
 fn serve<
     G: Gate + Sync,
     N: Named + Send + Sync,
-    R: Threads + Wait + Clock + Sync,
+    R: Threads + Wait + Machine + Sync,
     F: FnOnce() -> io::Result<bool>,
 >(
     rt: &R,
@@ -62,8 +61,8 @@ fn serve<
     requires plane { IsOfName N.name parts.plane }
     requires clients { F.pre clients }
 {
-    let control = Control::<N>::of(parts);
-    serve_shared(rt, alloc, &control, workers, listener, connections, clients)
+    let hub = Hub::<N>::of(parts);
+    serve_shared(rt, alloc, &hub, workers, listener, connections, clients)
 }
 
 /// What the sample configuration opens with.
@@ -75,17 +74,21 @@ fn parts(alloc: Global) -> Result<Parts, Fail> {
 }
 
 /// How many connections were served in all.
-fn sum(served: &[u64]) -> u64 {
-    served
-        .iter()
-        .fold(0u64, |sum, count| sum.saturating_add(*count))
+fn sum(attendance: &Attendance) -> u64 {
+    let mut sum = 0u64;
+    for seat in attendance.seats() {
+        if let Some(worker) = seat {
+            sum = sum.saturating_add(worker.connections());
+        }
+    }
+    sum
 }
 
 /// Serves so many connections with each worker, under the sample configuration, while the clients do what they do, and ends the test where they
 /// do not meet what they should, or where another number of connections is served in all. The name of the control is picked here.
 pub fn beside<
     G: Gate + Sync,
-    R: Abort + Threads + Wait + Clock + Sync,
+    R: Abort + Threads + Wait + Machine + Sync,
     F: FnOnce() -> io::Result<bool>,
 >(
     rt: &R,
@@ -99,7 +102,7 @@ pub fn beside<
     requires { F.pre clients }
 {
     let parts = parts(alloc)?;
-    let (served, met) = serve::<G, Brand, R, F>(
+    let (attendance, met) = serve::<G, Brand, R, F>(
         rt,
         alloc,
         parts,
@@ -108,9 +111,8 @@ pub fn beside<
         connections,
         clients,
     );
-    let served = served?;
-    let count = sum(served.as_slice());
-    drop(served);
+    let count = sum(&attendance);
+    drop(attendance);
     holds(rt, met?, "what the clients meet");
     holds(rt, count == total, "how many connections are served");
     Ok(())

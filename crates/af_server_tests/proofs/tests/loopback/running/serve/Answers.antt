@@ -7,6 +7,6 @@ use Rattle.boxcar.proofs.tag.Tag.TheSendSync as tag
 use Rattle.af_plane.proofs.Threads.{plane_send}
 use Rattle.af_server_tests.proofs.tests.loopback.running.serve.Goals as goal
 
--- a control may be shared by threads
+-- a control and its door may be shared by threads
 pub serve_shared-requires-sync-C : goal.serve_shared-requires-sync-C
 serve_shared-requires-sync-C g c κs within = search (sendable, crosses, plane_send, compiled_sync, compiled_send, word.the_sync, slot.the_send, slot.the_sync, tag.the_sync) depth 60 fits 100000

@@ -1,0 +1,128 @@
+//! A control and two sessions over it.
+ghost use Rattle.std.specs.Prelude.{◌≡◌};
+ghost use Rattle.af_plane.specs.Names.{IsOfName};
+
+use crate::tests::plane::controls::asking::answered;
+use af_audit::{AuditFault, ReportRefusal};
+use af_names::Instant;
+use af_ops::{Call, Served};
+use af_plane::{Control, Named, Parts, Visitor};
+use af_sched::{Claim, Outcome};
+use std::alloc::Global;
+use std::sync::Wait;
+use std::test::Fail;
+
+/// Which of the two sessions.
+#[derive(Clone, Copy, PartialEq, Eq)]
+pub enum Who {
+    First,
+    Second,
+}
+
+/// A control, two sessions over it, and the claims so far.
+#[derive(Drop)]
+pub struct Pair<N: Named> {
+    control: Control<N>,
+    first: Visitor<N>,
+    second: Visitor<N>,
+    claims: Vec<Claim>,
+}
+
+impl<N: Named> Pair<N> {
+    pub fn open<R: Wait>(rt: &R, alloc: Global, parts: Parts) -> Pair<N>
+        requires board { parts.board ≡ N.name.site }
+        requires plane { IsOfName N.name parts.plane }
+    {
+        let (control, door) = Control::<N>::of(parts);
+        let first = control.session(rt, &door);
+        let second = control.session(rt, &door);
+        Pair {
+            control,
+            first,
+            second,
+            claims: Vec::new(alloc),
+        }
+    }
+
+    /// The last version that a session has seen, and how many entries.
+    pub fn seen(&self, who: Who) -> (u32, u32) {
+        match who {
+            Who::First => self.first.seen(),
+            Who::Second => self.second.seen(),
+        }
+    }
+
+    /// What a session is told that asks this, with this token.
+    pub fn answered<R: Wait>(
+        &mut self,
+        rt: &R,
+        alloc: Global,
+        who: Who,
+        token: Option<&[u8]>,
+        call: &Call,
+        at: Instant,
+    ) -> Served {
+        let control = &self.control;
+        let visitor = picked(who, &mut self.first, &mut self.second);
+        answered(rt, alloc, control, visitor, token, call, at)
+    }
+
+    /// What a tick in a session tells.
+    pub fn tick<R: Wait>(
+        &mut self,
+        rt: &R,
+        alloc: Global,
+        who: Who,
+        at: Instant,
+    ) -> Result<bool, AuditFault> {
+        let control = &self.control;
+        let visitor = picked(who, &mut self.first, &mut self.second);
+        control.tick(rt, alloc, visitor, at)
+    }
+
+    /// What a claim in a session gives.
+    pub fn claim<R: Wait>(
+        &mut self,
+        rt: &R,
+        alloc: Global,
+        who: Who,
+        at: Instant,
+    ) -> Result<Option<Claim>, AuditFault> {
+        let control = &self.control;
+        let visitor = picked(who, &mut self.first, &mut self.second);
+        control.claim(rt, alloc, visitor, at)
+    }
+
+    /// Keeps a claim.
+    pub fn keep(&mut self, claim: Claim) -> Result<(), Fail> {
+        Ok(self.claims.push(claim)?)
+    }
+
+    /// What a report in a session tells of how the try of a claim ended, counted from 0, if there is that claim.
+    pub fn report<R: Wait>(
+        &mut self,
+        rt: &R,
+        alloc: Global,
+        who: Who,
+        place: usize,
+        outcome: Outcome,
+        at: Instant,
+    ) -> Option<Result<(), ReportRefusal>> {
+        let control = &self.control;
+        let claim = self.claims.get(place)?;
+        let visitor = picked(who, &mut self.first, &mut self.second);
+        Some(control.report(rt, alloc, visitor, claim, outcome, at))
+    }
+}
+
+/// Which of the two that is.
+fn picked<'a, N: Named>(
+    who: Who,
+    first: &'a mut Visitor<N>,
+    second: &'a mut Visitor<N>,
+) -> &'a mut Visitor<N> {
+    match who {
+        Who::First => first,
+        Who::Second => second,
+    }
+}
