@@ -346,7 +346,7 @@ def tried(name, program):
         except (Broken, OSError, subprocess.TimeoutExpired) as why:
             return 0, str(why)
     count = sum(map(len, sessions))
-    return count, fault(config, [*sessions, last], rows) or server.fault()
+    return count, fault(config, [*sessions, *last], rows) or server.fault()
 
 
 def main():

@@ -1,5 +1,6 @@
 """Requests and answers of sessions, and rows of event logs, as history.py reads them."""
 import functools
+import itertools
 import json
 import re
 from dataclasses import dataclass
@@ -13,7 +14,7 @@ from oracle_verdict import decide
 DONE = (200, 204)
 NUMBER = rb"\r\n%s: ([0-9]+)\r\n"
 TIMED = re.compile(r"(?:run exists: manual__|date taken: )(.+)")
-operation_of = functools.lru_cache(maxsize=None)(route)
+operation_of = functools.lru_cache(maxsize=4096)(route)
 
 
 class Differs(Exception):
@@ -28,6 +29,28 @@ class Exchange:
     answer: bytes
     sent: object = None
     received: object = None
+
+
+class First:
+    """The first so many items of a list, without a copy; more may be added, and the list stays as it is."""
+
+    def __init__(self, items, count):
+        self.items, self.count, self.added = items, count, []
+
+    def __len__(self):
+        return self.count + len(self.added)
+
+    def __iter__(self):
+        return itertools.chain(itertools.islice(self.items, self.count), self.added)
+
+    def __getitem__(self, place):
+        """The last item, which is asked for by -1."""
+        if place != -1 or not len(self):
+            raise IndexError(place)
+        return self.added[-1] if self.added else self.items[self.count - 1]
+
+    def append(self, item):
+        self.added.append(item)
 
 
 class Asked:

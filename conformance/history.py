@@ -27,7 +27,7 @@ from dataclasses import dataclass
 
 import with_model  # noqa: F401
 import oracle_sched
-from exchanges import Asked, Differs, check_order, check_times, entries_in
+from exchanges import Asked, Differs, First, check_order, check_times, entries_in
 from oracle_config import read_config
 from oracle_names import LAST
 from oracle_policy import Fault
@@ -70,10 +70,10 @@ class History:
         self.check_policy([it for it in asked if it.operation is None or it.operation.on_policy])
         self.check_state(on_state)
 
-    def plane(self, version, state=None, entries=(), now=LAST):
-        """The plane under a version, in a state, with these entries."""
+    def plane(self, version, state=None, number=0, now=LAST):
+        """The plane under a version, in a state, with so many entries. What is added to its versions and entries is added to it alone."""
         plane = copy.copy(self.opening)
-        plane.versions, plane.entries, plane.now = self.versions[: version + 1], entries, now
+        plane.versions, plane.entries, plane.now = First(self.versions, version + 1), First(self.entries, number), now
         plane.state = self.opening.state if state is None else state
         return plane
 
@@ -93,12 +93,14 @@ class History:
             plane = self.plane(version - 1)
             made[version].expect(made[version].written(plane))
             self.versions.append(plane.versions[-1])
-        known = {}
-        for it in (it for it in asked if not it.changes()):
+        known, kept = {}, None
+        for it in sorted((it for it in asked if not it.changes()), key=lambda it: it.version or 0):
             self.check_version(it)
             if MOVED.fullmatch(it.detail):
                 self.check_moved(it)
                 continue
+            if it.version != kept:  # (the model's texts are kept under one version alone: there may be very many)
+                known, kept = {}, it.version
             key = it.exchange.request, it.version, it.is_last()
             known[key] = known.get(key) or it.written(self.plane(it.version or 0))
             it.expect(known[key])
@@ -155,16 +157,16 @@ class History:
 
     def check_answers(self, number, way, asked):
         """Each answer at a number, except that of the request which made its entry. A request that comes again is decided once under one version."""
-        entries, known = self.entries[:number], {}
+        known = {}
         least = max(self.floor, way.maker.version if way.maker else 0)
         for it in (it for it in asked if it is not way.maker):
             if it.version < least:
                 raise Differs(f"{it}: names version {it.version} at number {number}, where version {least} had been named before")
             key = it.exchange.request, it.version, it.detail, it.is_last()
             if key not in known:
-                plane = self.plane(it.version, way.state, entries if it.request.method == b"GET" else list(entries), it.now())
+                plane = self.plane(it.version, way.state, number, it.now())
                 known[key] = it.written(plane)
-                if len(plane.entries) > number:
+                if plane.entries.added:
                     maker = way.maker or (self.entries[number - 1] if number else "nothing")
                     raise Differs(f"{it}: changes the state, and names number {number}, which is made by {maker}")
             it.expect(known[key])
@@ -176,10 +178,10 @@ class History:
             return [self.by_executor(number, entry, way)]
         found, first = [], None
         for it in (it for it in asked if it.operation.event == entry["event"] and it.changes()):
-            plane = self.plane(it.version, way.state, self.entries[: number - 1], entry["when"])
+            plane = self.plane(it.version, way.state, number - 1, entry["when"])
             try:
                 it.expect(it.written(plane))
-                self.check_entry(it, plane.entries[number - 1 :], entry)
+                self.check_entry(it, plane.entries.added, entry)
                 found.append(Way(plane.state, way.claimed, it))
             except Differs as why:
                 first = first or why

@@ -1,24 +1,21 @@
 #!/usr/bin/env python3
-"""Attacks the built server, on this machine alone and for about a minute, while clients that behave ask it.
+"""Attacks the built server, on this machine alone and for about two minutes, while clients that behave ask it.
 
   python3 conformance/hostile.py
   python3 conformance/hostile.py --program 'PATH/PROGRAM' --seed 7 --only reset
 
-The attacks: connections that are reset in a request and in an answer, or whose peer is gone; a byte a write; heads and bodies at and past each limit, cut
-anywhere, or of random bytes; ten thousand requests in one write; readers that never read; and a silent peer on every worker. What an attack is told must be what
-the model writes. Meanwhile six clients of many_clients.py play, and history.py checks all their answers at the end: so no cut request had an effect. After the
-attacks the server has as many files open as before, and its memory has grown by what the entries and versions take at most.
+The attacks (attacks.py): connections that are reset in a request, in an answer, or before a worker takes them; peers that are gone, or end one side and never
+close; a byte a write; heads, lines and bodies at and past each limit (limit_cases.py), cut anywhere, or of random bytes; ten thousand requests in one write;
+readers that never read; and a silent peer on every worker. What an attack is told must be what the model writes. Meanwhile six clients of many_clients.py play,
+and history.py checks all their answers at the end: so no cut request had an effect. After the attacks the server has as many files open as before and each
+worker serves, and its memory has grown by what the entries and versions take at most.
 
 The last line is `N passed, M failed`, N the connections of attacks and the answers that were compared. The status is 0 only where M is 0. Linux alone.
 """
 import argparse
 import contextlib
-import json
-import random
 import shlex
 import shutil
-import socket
-import struct
 import sys
 import threading
 import time
@@ -26,221 +23,48 @@ from concurrent.futures import ThreadPoolExecutor
 
 import with_model  # noqa: F401
 import crowd_cases
-import oracle
-import request_cases
-from config_cases import role_row
-from exchanges import number_in
+import growth
+from attacks import ATTACKS, TOKEN, WORKERS, Turn, Wrong, compare, config_of
 from history import fault
 from many_clients import Player, all_rows
-from request_cases import PLAIN, head, sized, with_body
-from serving import EMPTY, PROGRAM, ROOM, Broken, Client, Serving
+from request_cases import PLAIN
+from serving import PROGRAM, Broken, Client, Serving
 
-WORKERS, GUESTS, SLEEP, MOST_SECONDS = 16, 6, 60, 600
-ENTRY_BYTES, VERSION_BYTES, SPARE_BYTES = 1500, 60_000, 4 << 20  # what an entry and a version may take at most, and what else memory may grow by
-TOKEN = crowd_cases.token("adam")
-SEQ, VERSION = b"X-Plane-Seq", b"X-Policy-Version"
-# Changes that would show in the event logs if a part of them were enough.
-CHANGES = [
-    with_body(b"PATCH /api/v1/dags/b HTTP/1.1", TOKEN, b'{"is_paused":true}'),
-    with_body(b"POST /api/v1/dags/_/dagRuns HTTP/1.1", TOKEN, b'{"dag_run_id":"cut"}'),
-    with_body(b"POST /api/v1/variables HTTP/1.1", TOKEN, b'{"key":"cut","value":"%s"}' % (b"v" * 3000)),
-    with_body(b"PATCH /api/v1/users/vi HTTP/1.1", TOKEN, b'{"roles":[{"name":"Admin"}]}'),
-]
-# A long answer that says nothing of the state: nobody knows which version a request on the state found whose answer was lost.
-LONG = head(b"GET /api/v1/roles/Wide HTTP/1.1", [b"Host: h", b"Authorization: Bearer " + TOKEN])
-STATELESS = [PLAIN, head(b"GET /nosuch HTTP/1.1", [b"Host: h"]), head(b"PUT /api/v1/dags HTTP/1.1", [b"Host: h"]), head(b"HEAD /api/v1/version HTTP/1.1", [b"Host: h"])]
-
-
-PLANE = oracle.Plane(crowd_cases.config(0))
-
-
-class Wrong(Exception):
-    """What an attack was told, and should not be."""
-
-
-def model(data):
-    """All that is written on a connection whose requests do not turn on what stands."""
-    return oracle.answers(PLANE, data)[0]
-
-
-@contextlib.contextmanager
-def opened(port):
-    with socket.create_connection(("127.0.0.1", port), SLEEP) as stream:
-        stream.setsockopt(socket.IPPROTO_TCP, socket.TCP_NODELAY, 1)
-        yield stream
-
-
-def reset(stream):
-    """Closes with a reset in place of an end."""
-    stream.setsockopt(socket.SOL_SOCKET, socket.SO_LINGER, struct.pack("ii", 1, 0))
-    stream.close()
-
-
-def send(stream, data):
-    """Sends as much as is taken: the server may close before."""
-    try:
-        stream.sendall(data)
-    except (BrokenPipeError, ConnectionResetError):
-        pass
-
-
-def all_of(stream):
-    """What comes up to the end. A reset counts as one: an attack that goes on after an answer that closes may meet it."""
-    data = b""
-    try:
-        while piece := stream.recv(ROOM):
-            data += piece
-    except ConnectionResetError:
-        pass
-    return data
-
-
-def ask(port, data, pieces=None):
-    """Sends it whole or in pieces, and half-closes; what comes must be the model's."""
-    with opened(port) as stream:
-        for it in pieces or [data]:
-            send(stream, it)
-        with contextlib.suppress(OSError):
-            stream.shutdown(socket.SHUT_WR)
-        came, wanted = all_of(stream), model(data)
-    if came != wanted:
-        raise Wrong(f"{data[:200]!r} ({len(data)} bytes) was answered {came[:300]!r} ({len(came)} bytes), by the model {wanted[:300]!r} ({len(wanted)} bytes)")
-
-
-# ---- Attacks: each gets a port and a generator, and plays one connection ---------------------------------------
-
-
-def reset_in_a_request(port, rng):
-    data = rng.choice(CHANGES)
-    with opened(port) as stream:
-        send(stream, data[: rng.randrange(len(data))])
-        if rng.random() < 0.3:
-            time.sleep(rng.random() / 50)
-        reset(stream)
-
-
-def reset_in_an_answer(port, rng):
-    with opened(port) as stream:
-        send(stream, LONG * rng.choice([1, 3, 30]))
-        if rng.random() < 0.7:
-            stream.recv(rng.choice([1, 100, 5000]))
-        reset(stream)
-
-
-def gone_peer(port, rng):
-    """It ends in a request, and is not there to be told so; or it ends at once."""
-    data = rng.choice(CHANGES)
-    with opened(port) as stream:
-        send(stream, data[: rng.choice([0, rng.randrange(len(data))])])
-        if rng.random() < 0.5:
-            stream.shutdown(socket.SHUT_RD)
-
-
-def a_byte_a_write(port, rng):
-    data = b"".join(rng.choices(STATELESS, k=3))
-    ask(port, data, [data[it : it + 1] for it in range(len(data))])
-
-
-def at_a_limit(port, rng):
-    """A head or a body as long as it may be, or longer, and as many lines as there may be, or more."""
-    n = rng.randint(-2, 3)
-    lines = [b"N%d: x" % it for it in range(63 + n)]
-    long = lambda size: with_body(rng.choice([b"GET", b"HEAD", b"PUT"]) + b" /api/v1/version HTTP/1.1", b"x", rng.choice([b"[", b"\xff", b"x"]) * size)
-    data = rng.choice([
-        lambda: sized(16385 + n),
-        lambda: sized(16385 + n, b"\n"),
-        lambda: head(b"GET /api/v1/version HTTP/1.1", [b"Host: h", *lines]),
-        lambda: long(65536 + n),
-        lambda: b"x" * (16384 + n),
-        lambda: b"\r\n" * 9000 + sized(16385 + n),
-        lambda: head(b"GET /%s HTTP/1.1" % (rng.choice([b"%FF", b"%", b"a"]) * 5000), [b"Host: h"]),
-        lambda: rng.choice([PLAIN, b""]) + head(b"GET /api/v1/version HTTP/1.1", [b"Host: h", rng.choice(request_cases.BODY_LINES + request_cases.BAD_LINES)]),
-    ])()  # fmt: skip
-    data += rng.choice([b"", PLAIN])
-    ask(port, data, None if rng.random() < 0.7 else [data[:100], data[100:]])
-
-
-def cut_or_random(port, rng):
-    """Input that ends anywhere, or is no HTTP."""
-    data = rng.choice([
-        lambda: PLAIN * 3,
-        lambda: bytes(rng.randrange(256) for _ in range(rng.choice([1, 30, 3000]))),
-        lambda: b"\x16\x03\x01\x02\x00\x01\x00\x01\xfc\x03\x03" + bytes(rng.randrange(256) for _ in range(500)),
-        lambda: b"PRI * HTTP/2.0\r\n\r\nSM\r\n\r\n",
-        lambda: rng.choice([b"\0", b"\r", b"\n", b"\r\n"]) * rng.choice([1, 1000, 70_000]),
-    ])()  # fmt: skip
-    ask(port, data[: rng.randint(0, len(data))] if rng.random() < 0.5 else data)
-
-
-def ten_thousand_requests(port, rng):
-    """In one write; a thousand are answered. They are read as they come, or late."""
-    data = rng.choice(STATELESS[:2]) * 10_000
-    with opened(port) as stream:
-        sender = threading.Thread(target=send, args=[stream, data], daemon=True)
-        sender.start()
-        time.sleep(rng.choice([0, 0.3]))
-        came = all_of(stream)
-        reset(stream)
-        sender.join(SLEEP)
-    if came != model(data):
-        raise Wrong(f"of 10,000 requests {came.count(b'HTTP/1.1 ')} were answered, in {len(came)} bytes and not {len(model(data))}")
-
-
-def never_reads(port, rng):
-    """It asks for more than all buffers hold, and is ended."""
-    with socket.socket() as stream:
-        stream.setsockopt(socket.SOL_SOCKET, socket.SO_RCVBUF, 4096)
-        stream.settimeout(SLEEP)
-        stream.connect(("127.0.0.1", port))
-        began = time.monotonic()
-        try:
-            while time.monotonic() < began + SLEEP:
-                stream.sendall(LONG)
-        except (BrokenPipeError, ConnectionResetError):
-            return
-        except OSError as why:
-            raise Wrong(f"a reader that never reads is not ended: {why!r}") from why
-        raise Wrong("a reader that never reads is not ended")
-
-
-def silent(port, rng):
-    """It sends nothing, or a part of a request, and is ended."""
-    with opened(port) as stream:
-        data = rng.choice(CHANGES)
-        send(stream, data[: rng.choice([0, rng.randrange(len(data))])])
-        came = all_of(stream)
-    if came:
-        raise Wrong(f"a silent peer was told {came[:300]!r}")
-
-
-# Which attacks there are, how many connections each makes, and by how many threads.
-ATTACKS = [
-    (reset_in_a_request, 500, 4),
-    (reset_in_an_answer, 500, 4),
-    (gone_peer, 300, 2),
-    (a_byte_a_write, 30, 2),
-    (at_a_limit, 300, 2),
-    (cut_or_random, 300, 2),
-    (ten_thousand_requests, 6, 1),
-    (never_reads, 4, 4),
-    (silent, 2 * WORKERS, 2 * WORKERS),
-]
+GUESTS, MOST_SECONDS = 6, 600
+WIDE_VERSION_BYTES = 60_000  # what a version may take that has a role of 900 permissions
+SETTLES, SERVES = 15, 8  # seconds: a little longer than a silent peer may take, and shorter than one that idles may
+# With a full backlog the system drops what peers send, and they send it again, later and later. So a request may not be whole in the time that a peer is given,
+# and the connection ends without an answer: what lasted so many seconds is tried again, so often at most.
+GIVEN, TIMES = 9.5, 3
+WARM = 0.3  # of the connections are made before memory is looked at first, so that buffers have the size that they keep
 
 
 class Attacks:
     """What the attacks came to."""
 
     def __init__(self, port, seed, kinds):
-        self.port, self.seed, self.kinds, self.count, self.faults, self.lock = port, seed, kinds, 0, [], threading.Lock()
+        self.port, self.seed, self.kinds, self.until = port, seed, kinds, time.monotonic() + MOST_SECONDS
+        self.count, self.faults, self.kept, self.sessions, self.lock = 0, [], [], [], threading.Lock()
 
     def one(self, attack, number):
-        try:
-            attack(self.port, random.Random(f"{self.seed} {attack.__name__} {number}"))
-        except (Wrong, OSError) as why:
-            with self.lock:
-                self.faults.append(f"{attack.__name__} {number}: {why}")
+        for turn in range(1, TIMES + 1):
+            began = time.monotonic()
+            wrong = self.fault(attack, number)
+            if wrong is None or turn == TIMES or time.monotonic() - began < GIVEN:
+                break
         with self.lock:
             self.count += 1
+            self.faults += [f"{attack.__name__} {number}: {wrong}"] if wrong else []
+
+    def fault(self, attack, number):
+        """What is wrong with a connection, or None."""
+        try:
+            if time.monotonic() > self.until:
+                raise Wrong(f"the attacks were to end within {MOST_SECONDS} s")
+            attack(self.port, Turn(f"{self.seed} {attack.__name__}", number, self.kept, self.sessions))
+        except (Wrong, Broken, OSError) as why:
+            return str(why) or repr(why)
+        return None
 
     def play(self, share):
         """All of them at once, each by its own threads, or a share of their connections."""
@@ -250,67 +74,82 @@ class Attacks:
                 for number in range(max(1, int(count * share))):
                     pool.submit(self.one, attack, number)
 
+    def close(self):
+        """Closes the streams that peers left open."""
+        while self.kept:
+            self.kept.pop().close()
+
+
+class Guest(Player):
+    """A client that behaves. It takes another connection where one had no answer at all in the time that a peer is given."""
+
+    def connection(self):
+        began = time.monotonic()
+        try:
+            super().connection()
+        except Broken:
+            if self.sessions[-1:] != [[]] or time.monotonic() - began < GIVEN:
+                raise
+
 
 def settled(server, wanted):
-    """Waits until no more files are open than before, a little longer than a silent peer may take; how many there are then."""
-    until = time.monotonic() + 15
+    """Waits until no more files are open than before; how many there are then."""
+    until = time.monotonic() + SETTLES
     while (found := server.open_files()) > wanted and time.monotonic() < until:
         time.sleep(0.1)
     return found
 
 
-def counts_of(port, sessions):
-    """How many entries and versions there are. The exchange that asks for them is a session of its own."""
-    with Client(port) as client:
-        sessions.append([client.ask(head(b"GET /api/v1/eventLogs?limit=0 HTTP/1.1", [b"Host: h", b"Authorization: Bearer " + TOKEN]))])
-    answer = sessions[-1][0].answer.partition(EMPTY)[0]
-    return [number_in(answer, it) or 0 for it in (SEQ, VERSION)]
+def every_worker(port, workers):
+    """That each worker serves: so many connections are answered while all are kept open. What is wrong, or None."""
+    with contextlib.ExitStack() as kept:
+        for number in range(workers):
+            try:
+                compare(PLAIN, kept.enter_context(Client(port, SERVES)).ask(PLAIN).answer)
+            except (Wrong, Broken, OSError) as why:
+                return f"of {workers} connections at once, {number} were served: {why}"
+    return None
 
 
-def config_of(now):
-    """That of the clients that behave, and a role whose text is long."""
-    made = json.loads(crowd_cases.config(now))
-    made["roles"].append(role_row("Wide", *(("can_read", f"DAG:d{it}") for it in range(900))))
-    return json.dumps(made).encode()
+def sample(server, sessions):
+    counts = growth.counts_of(server.port, TOKEN, sessions)
+    return growth.Sample(time.monotonic(), server.memory(), *counts)
 
 
-def grown(server, attacks, share, sessions):
-    """Plays attacks; by how many bytes the server's memory grew, and how many entries and versions were made meanwhile."""
-    before, counts = server.memory(), counts_of(server.port, sessions)
-    attacks.play(share)
-    after = counts_of(server.port, sessions)
-    return server.memory() - before, *(b - a for a, b in zip(counts, after))
+def attacked(server, attacks, threads, sessions):
+    """Plays the attacks while the clients play. The growth meanwhile, and what is wrong of clients, open files, workers and memory."""
+    at_rest = server.open_files()
+    for it in threads:
+        it.start()
+    attacks.play(WARM)
+    first = sample(server, sessions)
+    attacks.play(1)
+    for it in threads:
+        it.until = 0
+    for it in threads:
+        it.join()
+    files, last = settled(server, at_rest), sample(server, sessions)
+    wrong = [f"client {place}: {it.broken}" for place, it in enumerate(threads) if it.broken]
+    if files != at_rest:
+        wrong.append(f"{at_rest} files were open before, and {files} are now")
+    wrong += [it for it in (every_worker(server.port, server.workers), growth.fault_of(first, last, WIDE_VERSION_BYTES)) if it]
+    return f"{files} files are open, and {at_rest} were before; {growth.said_of(first, last)}.", wrong
 
 
 def played(program, seed, kinds):
     """How many connections and answers were as they must be, and all that is wrong."""
-    config, sessions = config_of(time.time_ns() // 1000), []
-    with Serving(program, config, WORKERS) as server:
-        at_rest, attacks = server.open_files(), Attacks(server.port, seed, kinds)
-        threads = [Player(it, server.port, time.monotonic() + MOST_SECONDS) for it in crowd_cases.guests(seed, config, GUESTS)]
-        for it in threads:
-            it.start()
-        grown(server, attacks, 0.3, sessions)  # (so that buffers have the size that they keep)
-        growth, entries, versions = grown(server, attacks, 1, sessions)
-        for it in threads:
-            it.until = 0
-        for it in threads:
-            it.join()
-        wrong = attacks.faults + [f"client {place}: {it.broken}" for place, it in enumerate(threads) if it.broken]
-        files = settled(server, at_rest)
-        if files != at_rest:
-            wrong.append(f"{at_rest} files were open before, and {files} are now")
-        sessions += [session for it in threads for session in it.sessions if session]
+    config, sessions, rows, wrong = config_of(time.time_ns() // 1000), [], [], []
+    with Serving(program, config, WORKERS) as server, contextlib.closing(Attacks(server.port, seed, kinds)) as attacks:
+        threads = [Guest(it, server.port, time.monotonic() + MOST_SECONDS) for it in crowd_cases.guests(seed, config, GUESTS)]
         try:
+            said, wrong = attacked(server, attacks, threads, sessions)
             rows, last = all_rows(server.port, TOKEN)
         except (Broken, OSError) as why:
-            return attacks.count, [*wrong, str(why)]
+            return attacks.count, [*attacks.faults, *wrong, str(why)]
+    sessions += attacks.sessions + last + [session for it in threads for session in it.sessions if session]
     count = sum(map(len, sessions))
-    print(f"{attacks.count} connections of attacks, and {count} answers to others. {files} files are open, as before.")
-    print(f"Memory grew by {growth / 1e6:.1f} MB with {entries} entries and {versions} versions.")
-    if growth > entries * ENTRY_BYTES + versions * VERSION_BYTES + SPARE_BYTES:
-        wrong.append(f"memory grew by {growth} bytes, with {entries} entries and {versions} versions")
-    wrong += [it for it in (fault(config, [*sessions, last], rows), server.fault()) if it]
+    print(f"{attacks.count} connections of attacks, and {count} answers to others. {said}")
+    wrong += attacks.faults + [it for it in (fault(config, sessions, rows), server.fault()) if it]
     return attacks.count + count, wrong
 
 

@@ -3,16 +3,19 @@
 
   python3 conformance/many_clients.py                       two minutes of ten clients
   python3 conformance/many_clients.py --seconds 20 --seed 7 --workers 4 --clients 12
+  python3 conformance/many_clients.py --seconds 600 --clients 16 --workers 12
   python3 conformance/many_clients.py --program 'PATH/PROGRAM'
 
 The clients (crowd_cases.py) list, show, pause, trigger, mark, clear and delete, change pools and variables, and read event logs. Two of them change roles and users.
 Meanwhile the server ticks each second, claims and reports. At the end all event logs are read, and history.py says whether every answer is the model's under
-the version and at the number that it names, each change of the policy in order of version, and each of the state in order of number.
+the version and at the number that it names, each change of the policy in order of version, and each of the state in order of number. Ten times the memory of
+the server is looked at, and how many entries and versions there are: it may grow by what these take, and by little else.
 
-The last line is `N passed, M failed`, N the answers that were compared. The status is 0 only where M is 0. The seed fixes what a client asks for, but not when.
+The exchanges are kept until they are checked: some 3 KB of memory each, all in all; sixteen clients make some 400,000 in ten minutes. The last line is `N passed, M failed`, N the answers that were compared. The status is 0 only where M is 0. The seed fixes what a client asks for, but not when.
 """
 import argparse
 import collections
+import resource
 import shlex
 import shutil
 import sys
@@ -21,6 +24,7 @@ import time
 
 import with_model  # noqa: F401
 import crowd_cases
+import growth
 from exchanges import number_in, rows_of_pages
 from history import fault
 from request_cases import head
@@ -61,21 +65,21 @@ class Player(threading.Thread):
 
 
 def all_rows(port, token):
-    """The rows of the event logs, and the sessions that read them, page by page."""
-    session, bodies, count = [], [], 0
-    with Client(port) as client:
-        while True:
-            if client.is_closed:
-                raise Broken(f"the event logs are too long for one connection: {count} rows were read")
-            asked = head(b"GET /api/v1/eventLogs?limit=100&offset=%d HTTP/1.1" % count, [b"Host: h", b"Authorization: Bearer " + token])
-            session.append(client.ask(asked))
-            first, _, body = session[-1].answer.partition(EMPTY)
-            if not first.startswith(b"HTTP/1.1 200 "):
-                raise Broken(f"the event logs cannot be read: {session[-1].answer[:300]!r}")
-            before, count = count, count + body.count(b'"event_log_id":')
-            bodies.append(body)
-            if count == before or body.endswith(b'"total_entries":%d}' % count):
-                return rows_of_pages(bodies), session
+    """The rows of the event logs, and the sessions that read them page by page: a further one where a connection has had its requests."""
+    sessions, bodies, count = [], [], 0
+    while True:
+        sessions.append([])
+        with Client(port) as client:
+            while not client.is_closed:
+                asked = head(b"GET /api/v1/eventLogs?limit=100&offset=%d HTTP/1.1" % count, [b"Host: h", b"Authorization: Bearer " + token])
+                sessions[-1].append(client.ask(asked))
+                first, _, body = sessions[-1][-1].answer.partition(EMPTY)
+                if not first.startswith(b"HTTP/1.1 200 "):
+                    raise Broken(f"the event logs cannot be read: {sessions[-1][-1].answer[:300]!r}")
+                before, count = count, count + body.count(b'"event_log_id":')
+                bodies.append(body)
+                if count == before or body.endswith(b'"total_entries":%d}' % count):
+                    return rows_of_pages(bodies), sessions
 
 
 class Played:
@@ -92,8 +96,8 @@ class Played:
         self.faults = [f"client {place}: {it.broken}" for place, it in enumerate(threads) if it.broken]
         self.rows = []
         try:
-            self.rows, session = all_rows(port, crowd_cases.token("adam"))
-            self.sessions.append(session)
+            self.rows, last = all_rows(port, crowd_cases.token("adam"))
+            self.sessions += last
         except (Broken, OSError) as why:
             self.faults.append(str(why))
 
@@ -135,19 +139,18 @@ def main():
     config = crowd_cases.config(time.time_ns() // 1000)
     try:
         with Serving(program, config, asked.workers) as server:
-            before = server.memory()
-            played = Played(config, server.port, crowd_cases.guests(asked.seed, config, asked.clients), asked.seconds)
-            after = server.memory()
+            with growth.Watch(server, crowd_cases.token("adam"), asked.seconds) as watch:
+                played = Played(config, server.port, crowd_cases.guests(asked.seed, config, asked.clients), asked.seconds)
+            played.sessions += watch.sessions
     except Broken as why:
         print(f"{why}\n0 passed, 1 failed")
         return 1
-    for line in played.said():
-        print(line)
-    print(f"memory: {before / 1e6:.1f} MB, and {after / 1e6:.1f} MB at the end")
+    for line in [*played.said(), *watch.said()]:
+        print(line, flush=True)
     began = time.monotonic()
-    wrong = [it for it in (played.check(), server.fault()) if it]
+    wrong = [it for it in (played.check(), watch.fault(), server.fault()) if it]
     wrong += [f"no entry of these kinds came: {', '.join(it)}" for it in [played.lacks(asked.seconds)] if it]
-    print(f"checked in {time.monotonic() - began:.0f} s")
+    print(f"checked in {time.monotonic() - began:.0f} s, with {resource.getrusage(resource.RUSAGE_SELF).ru_maxrss / 1024:.0f} MiB of memory at most")
     for it in wrong:
         print(it[:4000])
     print(f"{0 if wrong else played.count()} passed, {len(wrong)} failed")

@@ -5,13 +5,16 @@
 """
 import copy
 import random
+import re
 import subprocess
 import sys
 import time
 import unittest
+from unittest import mock
 
 import with_model  # noqa: F401
 import crowd_cases
+import oracle
 from many_clients import Played, all_rows
 from oracle_names import isoformat
 from serving_test import STAND_IN
@@ -20,7 +23,9 @@ from stand_in import StandIn, moment
 SECONDS, PERIOD, CLIENTS = 0.7, 0.2, 10
 
 
-def played(kind, seconds=SECONDS, seed="1"):
+def played(kind, seconds=None, seed="1"):
+    """A round of many clients. Each next seed takes longer, so that a busy machine meets in time what an idle one does."""
+    seconds = SECONDS * int(seed) if seconds is None else seconds
     config = crowd_cases.config(moment())
     with kind(config, period=PERIOD).listens(CLIENTS) as port:
         return Played(config, port, crowd_cases.guests(seed, config, CLIENTS), seconds)
@@ -136,9 +141,9 @@ class Crowds(unittest.TestCase):
 
     def test_wrong_servers(self):
         for kind in (LosesUpdates, ReadsOldStates, DecidesUnderOldPolicies, OverwritesPolicies, ConfusesClients, KeepsEntriesBack, EndsInAnswers):
-            said = next((said for seed in "12345" if (said := played(kind, seed=seed).check())), None)
+            said = next((said for seed in "123456789" if (said := played(kind, seed=seed).check())), None)
             self.assertIsNotNone(said, kind.__name__)
-            self.assertRegex(said, "session|client|event logs", kind.__name__)
+            self.assertRegex(said, "session|client|event logs|entry", kind.__name__)
 
     def test_what_is_missing(self):
         it = played(StandIn, seconds=0)
@@ -152,10 +157,15 @@ class Crowds(unittest.TestCase):
         for n in range(250):
             server.plane.add_entry("patch_dag", "adam", 0, "a")
         with server.listens(1) as port:
-            rows, session = all_rows(port, b"adam-token")
+            rows, sessions = all_rows(port, b"adam-token")
+            # more pages than a connection has requests
+            with mock.patch.object(oracle, "MOST_REQUESTS", 2):
+                again, parts = all_rows(port, b"adam-token")
         self.assertGreaterEqual(len(rows), 250)
-        self.assertEqual(rows, [{**it, "when": isoformat(it["when"])} for it in server.plane.entries[: len(rows)]])
-        self.assertEqual([it.answer[9:12] for it in session], [b"200"] * 3)
+        for found in (rows, again):
+            self.assertEqual(found, [{**it, "when": isoformat(it["when"])} for it in server.plane.entries[: len(found)]])
+        self.assertEqual([[it.answer[9:12] for it in session] for session in sessions], [[b"200"] * 3])
+        self.assertEqual([[it.answer[9:12] for it in session] for session in parts], [[b"200"] * 2, [b"200"]])
 
 
 class Program(unittest.TestCase):
@@ -167,6 +177,9 @@ class Program(unittest.TestCase):
         status, lines = self.call("--program", " ".join(STAND_IN), "--seconds", "1", "--clients", "3", "--workers", "2")
         self.assertEqual(status, 0, lines)
         self.assertRegex(lines[-1], "^[1-9][0-9]+ passed, 0 failed$")
+        said = "\n".join(lines)
+        self.assertEqual(len(re.findall(r"(?m)^after [0-9]+ s: [0-9.]+ MB, [0-9]+ entries, [0-9]+ versions$", said)), 11)
+        self.assertRegex(said, r"(?m)^from [0-9]+ s on, memory grew by -?[0-9.]+ MB with [0-9]+ entries and [0-9]+ versions$")
         status, lines = self.call("--program", "true")
         self.assertEqual((status, lines[-1]), (1, "0 passed, 1 failed"))
 

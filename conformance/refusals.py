@@ -4,22 +4,30 @@
   python3 conformance/refusals.py                           the examples, each kind of change, event logs, readings of the policy, faults
   python3 conformance/refusals.py --program 'PATH/PROGRAM'
   python3 conformance/refusals.py --has dags,variables      the changes of these kinds alone
+  python3 conformance/refusals.py --only clear,roles        the cases with one of these words in their names
   python3 conformance/refusals.py --tests                   each test that `rt test` has built, but those that compare whole answers
+  python3 conformance/refusals.py --tests --only memory::   each that has this word in its name: those of modules of this name
 
 A run is refused its first allocation, the next its second, and so on, until a run meets none to refuse. Each is to end in
 one of three ways: as the run with all its memory does, which is as the oracle says; with some of its answers, whole and in
 order, and then the fixed 503, status 1; or with the configuration refused for lack of memory, status 3, and nothing on standard output. A change is made once
 its reply stands, so no reply of one is lost: nowhere is there a 500. Where each request names a path or a
-method that is not there, the 503 comes at the opening alone. A test is to pass, or to end in the fault that says out of memory and in no other. The last line is `N runs as they must be, M not`, and the
-status 0 only where M is 0. It wants a C compiler (`cc`).
+method that is not there, the 503 comes at the opening alone.
+
+A test is to pass, or to end in the fault that says out of memory and in no other; a run that is refused nothing is to pass. The allocations of all threads are
+counted together, and a test of threads makes more or fewer of them by turns. So only several runs in a row that are refused nothing end the runs of a test.
+
+The last line is `N passed, M failed`, both numbers of runs, and the status 0 only where M is 0. Without a C compiler (`cc`) the status is 2.
 """
 import argparse
 import glob
 import os
 import re
 import shlex
+import shutil
 import subprocess
 import sys
+from concurrent.futures import ThreadPoolExecutor
 
 import with_model  # noqa: F401
 import oracle
@@ -33,7 +41,9 @@ NO_MEMORY = (
     b"HTTP/1.1 503 Service Unavailable\r\nContent-Type: application/problem+json\r\nContent-Length: 90\r\nConnection: close\r\n\r\n" + BODY
 )
 REFUSED = b"afplane: configuration refused: memory\n"
-MOST = 100_000
+MOST, SECONDS = 100_000, 60  # how many allocations are refused at most, and the time of a run
+# After so many runs in a row that were refused nothing, a test makes no further allocation; after so many that ended as they must not, it is given up.
+TRIES, MOST_WRONG = 4, 5
 
 
 def build():
@@ -56,19 +66,22 @@ def answers_in(text):
 
 
 def run(program, words, data, library=None, number=0):
-    """Exit status, standard output, standard error, and whether the allocation of that number was asked for."""
+    """Exit status, standard output, standard error, and whether the allocation of that number was asked for. Status None: it did not end."""
     if library is None:
-        it = subprocess.run([*program, *words], input=data, capture_output=True, timeout=30)
+        it = subprocess.run([*program, *words], input=data, capture_output=True, timeout=SECONDS)
         return it.returncode, it.stdout, it.stderr, False
     reader, writer = os.pipe()
     env = {"LD_PRELOAD": library, "REFUSE": str(number), "REFUSE_FD": str(writer)}
     try:
-        it = subprocess.run([*program, *words], input=data, capture_output=True, timeout=30, env=env, pass_fds=[writer])
+        it = subprocess.run([*program, *words], input=data, capture_output=True, timeout=SECONDS, env=env, pass_fds=[writer])
+        status, out, err = it.returncode, it.stdout, it.stderr
+    except subprocess.TimeoutExpired as why:
+        status, out, err = None, why.stdout or b"", why.stderr or b""
     finally:
         os.close(writer)
     with os.fdopen(reader, "rb") as pipe:
         met = pipe.read() != b""
-    return it.returncode, it.stdout, it.stderr, met
+    return status, out, err, met
 
 
 def run_test(program, name, library, number):
@@ -80,51 +93,73 @@ def run_test(program, name, library, number):
 # Crates of tests that compare whole answers, where the fixed 503 is no fault of a test: the program itself is refused its memory.
 WHOLE = {"af_http_tests_tests", "af_server_tests_tests"}
 # The tests of these crates that compare none.
-IN_PARTS = ("tests::operations::", "tests::plane::")
+IN_PARTS = ("tests::memory::", "tests::operations::")
 # What a test that is refused memory ends with: the fault after `Error`, or after the words for what should not fail; or the left of two that are compared.
 OUT_OF_MEMORY = re.compile(rb"(: (\w+\()*(OutOfMemory|AllocError|AllocFailed|Memory)\b|left: \S*(OutOfMemory|Memory|AllocError))")
 
 
+def is_end_of_test(status, text, met):
+    """Whether a run of a test ended as it must: it passed, or it was refused an allocation and says so."""
+    return (status == 0 and b"test result: ok" in text) or (met and status in (101, -6) and OUT_OF_MEMORY.search(text) is not None)
+
+
 def refuse_each_of_test(program, name, library):
     """How many runs of a test ended as they must, and how many did not."""
-    right = wrong = 0
-    for number in range(1, MOST):
+    right, wrong, number, unmet = 0, 0, 1, 0
+    while unmet < TRIES and wrong < MOST_WRONG and number < MOST:
         status, text, met = run_test(program, name, library, number)
-        if not met:
-            break
-        if (status == 0 and b"test result: ok" in text) or (status in (101, -6) and OUT_OF_MEMORY.search(text)):
+        if is_end_of_test(status, text, met):
             right += 1
         else:
             wrong += 1
-            print(f"{name}, allocation {number} refused: status {status}, {text[-300:]!r}")
+            what = f"allocation {number} refused" if met else "nothing refused"
+            print(f"{name}, {what}: {'it did not end' if status is None else f'status {status}'}, {text[-300:]!r}")
+        number, unmet = number + met, 0 if met else unmet + 1
     return right, wrong
 
 
-def refuse_tests(library):
-    """The same of all tests that are built."""
+def tests_in(program, words):
+    """The names of the tests of a program with one of these words in them; without words, of all but those that compare whole answers."""
+    listed = subprocess.run([program, "--list"], capture_output=True, timeout=SECONDS, text=True).stdout
+    names = [line[: -len(": test")] for line in listed.splitlines() if line.endswith(": test")]
+    if words:
+        return [name for name in names if has_word(name, words)]
+    if os.path.basename(program) not in WHOLE:
+        return names
+    kept = [name for name in names if name.startswith(IN_PARTS)]
+    return kept or sys.exit(f"refusals: {os.path.basename(program)} has no tests under {', '.join(IN_PARTS)}")
+
+
+def has_word(name, words):
+    return any(word in name for word in words)
+
+
+def refuse_tests(library, words, jobs, top=ROOT):
+    """The same of all tests that are built below a folder, so many at a time."""
     right = wrong = 0
-    for program in sorted(glob.glob(os.path.join(ROOT, "crates", "*", "out", "*_tests"))):
-        listed = subprocess.run([program, "--list"], capture_output=True, timeout=30, text=True).stdout
-        names = [line[: -len(": test")] for line in listed.splitlines() if line.endswith(": test")]
-        if os.path.basename(program) in WHOLE:
-            names = [name for name in names if name.startswith(IN_PARTS)]
-            if not names:
-                sys.exit(f"refusals: {os.path.basename(program)} has no tests under {', '.join(IN_PARTS)}")
-        counts = [refuse_each_of_test(program, name, library) for name in names]
-        one, other = sum(count[0] for count in counts), sum(count[1] for count in counts)
-        print(f"{os.path.basename(program)}: {len(names)} tests, {one} runs as they must be, {other} not", flush=True)
-        right, wrong = right + one, wrong + other
+    programs = sorted(glob.glob(os.path.join(top, "crates", "*", "out", "*_tests")))
+    with ThreadPoolExecutor(jobs) as lanes:
+        played = [(it, [lanes.submit(refuse_each_of_test, it, name, library) for name in tests_in(it, words)]) for it in programs]
+        for program, tests in played:
+            counts = [it.result() for it in tests]
+            one, other = sum(count[0] for count in counts), sum(count[1] for count in counts)
+            if tests:
+                print(f"{os.path.basename(program)}: {len(tests)} tests, {one} runs as they must be, {other} not", flush=True)
+            right, wrong = right + one, wrong + other
+    if not right + wrong:
+        print(f"refusals: no test {f'with {words} in its name ' if words else ''}is built; `rt test` builds those of a crate")
     return right, wrong
 
 
-def refuse_program(program, library, has):
+def refuse_program(program, library, has, words):
     """The same of the program, on the examples and the changes."""
     if not os.path.exists(program[0]):
         sys.exit(f"refusals: there is no program {program[0]}; ./afplane build makes it")
     right = wrong = 0
     for name, config, data in inputs(has):
-        one, other = refuse_each(program, library, has, name, config, data)
-        right, wrong = right + one, wrong + other
+        if not words or has_word(name, words):
+            one, other = refuse_each(program, library, has, name, config, data)
+            right, wrong = right + one, wrong + other
     return right, wrong
 
 
@@ -171,12 +206,20 @@ def main():
     parser.add_argument("--program", default=PROGRAM, help="the program and its first words, as a shell would read them")
     parser.add_argument("--has", type=having, default=having("landed"), metavar="NAMES", help=f"what the program has: {', '.join(GROUPS)}, or single names")
     parser.add_argument("--tests", action="store_true", help="the tests of the crates in place of the program")
+    parser.add_argument("--only", type=lambda text: text.split(","), default=[], metavar="WORD,..", help="the cases, or tests, with one of these words in their names")
+    parser.add_argument("--jobs", type=int, default=1, metavar="N", help="how many tests are played at a time")
     asked = parser.parse_args()
+    if shutil.which("cc") is None:
+        print("refusals: a C compiler (cc) is not installed")
+        return 2
     library = build()
-    right, wrong = refuse_tests(library) if asked.tests else refuse_program(shlex.split(asked.program), library, asked.has)
-    print(f"{right} runs as they must be, {wrong} not")
-    sys.exit(1 if wrong or not right else 0)
+    if asked.tests:
+        right, wrong = refuse_tests(library, asked.only, asked.jobs)
+    else:
+        right, wrong = refuse_program(shlex.split(asked.program), library, asked.has, asked.only)
+    print(f"{right} passed, {wrong} failed")
+    return 1 if wrong or not right else 0
 
 
 if __name__ == "__main__":
-    main()
+    sys.exit(main())

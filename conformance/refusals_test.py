@@ -2,11 +2,20 @@
 
   python3 conformance/refusals_test.py
 """
+import contextlib
+import io
 import os
+import pathlib
+import shutil
+import subprocess
+import sys
+import tempfile
 import unittest
+from unittest import mock
 
 import with_model  # noqa: F401
 import oracle
+import refusals
 from oracle_table import OPERATIONS, having, route
 from refusal_cases import CHANGES, EXAMPLES, FAULTS, READINGS, request
 from refusals import NOW, NO_MEMORY, OUT_OF_MEMORY, REFUSED, fronts_of, is_right
@@ -64,6 +73,129 @@ class Right(unittest.TestCase):
         out = oracle.run(["once", BASE, NOW], b"".join(request(*it) for it in FAULTS))[1]
         told = [int(it[:3]) for it in out.decode().split("HTTP/1.1 ")[1:]]
         self.assertEqual(told, [400, 400, 403, 400, 400, 400, 404, 409, 404, 409, 409, 204, 409, 400, 401])
+
+
+# A program of tests: each makes some allocations, of which one is refused and told on the pipe; what it does then depends on its name.
+TESTS = """#!%s
+import os, sys
+NAMES = ["refused::a_good_one", "refused::threads", "refused::one_that_lies", "refused::one_that_hangs", "refused::one_that_fails", "other::a_good_one"]
+if sys.argv[1:] == ["--list"]:
+    print("".join(f"{it}: test\\n" for it in NAMES))
+    sys.exit()
+name, number = sys.argv[1], int(os.environ["REFUSE"])
+counts = os.path.join(os.path.dirname(sys.argv[0]), "counts")
+with open(counts, "a") as file:
+    file.write(f"{name} {number}\\n")
+with open(counts) as file:
+    turn = file.read().count(f"{name} {number}\\n")
+# (the threads make seven allocations, but for each second run, which makes four)
+met = number <= (7 if name.endswith("threads") and turn %% 2 == 0 else 4)
+if met:
+    os.write(int(os.environ["REFUSE_FD"]), b"x")
+if met and name.endswith("hangs") and number == 2:
+    while True:
+        pass
+if name.endswith("fails") or met and number == 3:
+    print("Error: OutOfMemory" if met and not name.endswith("lies") else "Error: RunExists")
+    sys.exit(101)
+print("test result: ok")
+""" % sys.executable
+# Four threads that make a thousand allocations each. The status is how many failed.
+THREADS = """
+#include <pthread.h>
+#include <stdatomic.h>
+#include <stdio.h>
+#include <stdlib.h>
+static atomic_int failed;
+static void *play(void *unused)
+{
+    for (int it = 0; it < 1000; it++) {
+        void *volatile made = it % 2 ? malloc(8) : realloc(NULL, 8);
+        failed += made == NULL;
+        free(made);
+    }
+    return unused;
+}
+int main(void)
+{
+    pthread_t threads[4];
+    for (int it = 0; it < 4; it++)
+        pthread_create(&threads[it], NULL, play, NULL);
+    for (int it = 0; it < 4; it++)
+        pthread_join(threads[it], NULL);
+    return failed;
+}
+"""
+
+
+class Tests(unittest.TestCase):
+    """The tests of crates, whose allocations are refused in turn."""
+
+    def setUp(self):
+        kept = tempfile.TemporaryDirectory()
+        self.addCleanup(kept.cleanup)
+        self.top = pathlib.Path(kept.name)
+
+    def built(self):
+        folder = self.top / "crates" / "some" / "out"
+        folder.mkdir(parents=True)
+        program = folder / "some_tests"
+        program.write_text(TESTS)
+        program.chmod(0o755)
+
+    def play(self, *words):
+        """How many runs were right and wrong, and the lines that were printed."""
+        with contextlib.redirect_stdout(io.StringIO()) as said:
+            counts = refusals.refuse_tests("", words, 1, self.top)
+        return counts, said.getvalue().rstrip("\n").split("\n")
+
+    def test_words(self):
+        self.built()
+        self.assertEqual(self.play("a_good")[0], (2 * (4 + refusals.TRIES), 0))
+        self.assertEqual(self.play("refused::a")[0], (4 + refusals.TRIES, 0))
+        self.assertEqual(self.play("other", "refused::a")[0], (2 * (4 + refusals.TRIES), 0))
+        counts, said = self.play("nothing")
+        self.assertEqual(counts, (0, 0))
+        self.assertIn("no test with ('nothing',) in its name is built", said[0])
+
+    def test_threads(self):
+        """A run that makes few allocations is no end of a test that makes more: three are refused in each second run."""
+        self.built()
+        self.assertEqual(self.play("threads")[0], (4 + 2 * 3 + refusals.TRIES, 0))
+
+    def test_wrong_ends(self):
+        self.built()
+        counts, said = self.play("lies")
+        self.assertEqual(counts, (3 + refusals.TRIES, 1))
+        self.assertIn("refused::one_that_lies, allocation 3 refused: status 101, b'Error: RunExists\\n'", said)
+        with mock.patch.object(refusals, "SECONDS", 3):
+            counts, said = self.play("hangs")
+        self.assertEqual(counts, (3 + refusals.TRIES, 1))
+        self.assertIn("allocation 2 refused: it did not end", said[0])
+        counts, said = self.play("fails")
+        self.assertEqual(counts, (4, refusals.TRIES))
+        self.assertIn("refused::one_that_fails, nothing refused: status 101", said[0])
+
+    def test_the_counts_of_threads(self):
+        """One allocation of all threads is refused, whichever it is; without a compiler nothing can be, and the program says so."""
+        if shutil.which("cc") is None:
+            return self.without_a_compiler()
+        source, program = self.top / "threads.c", self.top / "threads"
+        source.write_text(THREADS)
+        subprocess.run(["cc", "-O1", "-pthread", "-o", program, source], check=True)
+        with mock.patch.object(refusals, "OUT", str(self.top)):
+            library = refusals.build()
+        for number in (1, 2, 1999, 3999, 4000):
+            self.assertEqual(refusals.run([str(program)], [], b"", library, number), (1, b"", b"", True), number)
+        self.assertEqual(refusals.run([str(program)], [], b"", library, 4001), (0, b"", b"", False))
+
+    def without_a_compiler(self):
+        with mock.patch.dict(os.environ, {"PATH": ""}):
+            ran = subprocess.run([sys.executable, refusals.__file__, "--tests"], capture_output=True, text=True)
+        self.assertEqual((ran.returncode, ran.stdout), (2, "refusals: a C compiler (cc) is not installed\n"))
+
+    def test_no_compiler(self):
+        self.without_a_compiler()
 
 
 if __name__ == "__main__":

@@ -1,26 +1,31 @@
 /* Makes one allocation of a program fail, the one whose number REFUSE gives, from 1 on; loaded before the C library.
-   Where that allocation was asked for, one byte goes to the descriptor that REFUSE_FD gives. */
+   The allocations of all threads are counted together, each once, and none is refused but that one.
+   Where it was asked for, one byte goes to the descriptor that REFUSE_FD gives. */
 #define _GNU_SOURCE
 #include <dlfcn.h>
 #include <errno.h>
+#include <stdatomic.h>
 #include <stddef.h>
 #include <stdlib.h>
 #include <unistd.h>
 
-static long wanted = -1, asked;
-static int told = -1;
-static void *(*real_malloc)(size_t), *(*real_realloc)(void *, size_t);
+static atomic_long wanted = -1, asked;
+static void *(*_Atomic real_malloc)(size_t), *(*_Atomic real_realloc)(void *, size_t);
 
+static long number_of(const char *name)
+{
+    const char *text = getenv(name);
+    return text ? atol(text) : 0;
+}
+
+/* (two threads may read the environment at once, and find the same) */
 static int is_refused(void)
 {
-    if (wanted < 0) {
-        const char *number = getenv("REFUSE"), *place = getenv("REFUSE_FD");
-        wanted = number ? atol(number) : 0;
-        told = place ? atoi(place) : -1;
-    }
-    if (++asked != wanted)
+    if (wanted < 0)
+        wanted = number_of("REFUSE");
+    if (atomic_fetch_add(&asked, 1) + 1 != wanted)
         return 0;
-    if (told >= 0 && write(told, "x", 1) < 0)
+    if (getenv("REFUSE_FD") && write((int)number_of("REFUSE_FD"), "x", 1) < 0)
         abort();
     errno = ENOMEM;
     return 1;

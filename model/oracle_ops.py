@@ -155,7 +155,8 @@ def delete_variable(call):
 
 def list_entries(call):
     """The entries in the order of their numbers: those of DAGs that the user reads, and those that name no DAG. The others are not counted either."""
-    shown = [it for it in call.entries if it["dag_id"] is None or call.reads(it["dag_id"])]
+    reads = {None: True, **{it: call.reads(it) for it in call.state.dags}}
+    shown = [it for it in call.entries if reads[it["dag_id"]]]
     return call.state, call.page("event_logs", shown, lambda it: {**it, "when": isoformat(it["when"])})
 
 

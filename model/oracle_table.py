@@ -130,11 +130,8 @@ def having(text):
 # ---- Which operation a request names -------------------------------------------------------------------------
 
 
-def parts_of(path, pattern):
-    """The decoded parts of the path where it has the form of the pattern, none where it has not, or where a part is no name of its kind."""
-    pieces = path.split(b"/")
-    if pieces[0] != b"" or len(pieces) != len(pattern) + 1:
-        return None
+def parts_of(pieces, pattern):
+    """The decoded parts of a path of so many pieces where it has the form of the pattern; none where it has not, or where a part is no name of its kind."""
     found = []
     for piece, form in zip(pieces[1:], pattern):
         if form not in KINDS:
@@ -154,7 +151,9 @@ def parts_of(path, pattern):
 
 def route(path, method, has):
     """The operation and the parts of its path; where there is none, the methods that the path has, if it has any."""
-    found = [(it, parts) for it in OPERATIONS if it.name in has and (parts := parts_of(path, it.path)) is not None]
+    pieces = path.split(b"/")
+    kept = [it for it in OPERATIONS if len(it.path) + 1 == len(pieces) and pieces[0] == b"" and it.name in has]
+    found = [(it, parts) for it in kept if (parts := parts_of(pieces, it.path)) is not None]
     for it, parts in found:
         if it.method.encode() == method:
             return it, parts

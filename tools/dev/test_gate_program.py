@@ -122,6 +122,26 @@ class Gate(Case):
         self.assertEqual((status, lines[-1]), (1, "0 passed, 1 failed"))
         self.assertIn("the server does not say where it listens: b''; standard error: ''", lines)
 
+    def test_refused_memory(self):
+        """The tests of refused memory are a part of the gate, and it fails where none is built."""
+        (part,) = [it for it in GATE.parts_for("program") if it.name == "refused memory"]
+        self.assertEqual(part.words[1:], ["conformance/refusals.py", "--tests", "--only", "memory::", "--jobs", "2"])
+        self.assertFalse(part.asks)
+        part.words[4] = "no test has these words"
+        passed, failed, said = GATE.run(part, str(self.room / "none"))
+        self.assertEqual((passed, failed), (0, int(shutil.which("cc") is not None)), said)
+
+    def test_what_is_not_installed(self):
+        """Status 2 counts as nothing only with the words for it, and only of a part that may lack something."""
+        lacking = "echo 'there: a thing is not installed'; exit 2"
+        rows = [(True, lacking, (0, 0)), (False, lacking, (0, 1)), (True, "echo usage; exit 2", (0, 1)), (True, lacking.replace("2", "1"), (0, 1))]
+        for may_lack, text, wanted in rows:
+            part = GATE.Part("some", asks=False, may_lack=may_lack)
+            part.words = [str(self.script("part", text))]
+            passed, failed, said = GATE.run(part, "none")
+            self.assertEqual((passed, failed), wanted, said)
+        self.assertEqual([it.name for it in GATE.parts_for("program") if it.may_lack], ["refused memory", "openapi"])
+
     def test_no_program(self):
         status, lines = self.gate(self.room / "none", "--after", "0", "69 passed, 0 failed")
         self.assertEqual((status, lines[-1]), (1, "69 passed, 1 failed"))
@@ -143,7 +163,8 @@ class Whole(Case):
         self.script("bin/rt", 'echo "$* $RT_JOBS $PWD"; echo "3 passed, 4 failed"; exit 1')
         path = f"{self.room}/bin:{os.environ['PATH']}"
         top = str((self.room / "repository").resolve())
-        for given, jobs in (({}, "2"), ({"RT_JOBS": "7"}, "7")):
+        by_processors = "2" if len(os.sched_getaffinity(0)) < 4 else "3"
+        for given, jobs in (({}, by_processors), ({"RT_JOBS": "7"}, "7")):
             given = {"PATH": path, "RT_JOBS": "", **given}
             status, lines = self.call("bash", self.room / "repository/.ci/run", **given)
             self.assertEqual(status, 5)
