@@ -1,7 +1,10 @@
 -- What a session of a control has done there once more, and nothing else beside it (this product's own rule).
-use Rattle.std.specs.Prelude.{◌≡◌, ◌+◌, ℕ, [], ◌∷◌, ◌++◌, Bool, Option, Result}
+use Rattle.std.specs.Prelude.{◌≡◌, ℕ, [], ◌∷◌, ◌++◌, Bool, Option, Result}
 use Rattle.af_sched.specs.declared.claim.Claim.{Claim}
+use Rattle.af_sched.specs.declared.outcome.Outcome.{Outcome}
 use Rattle.af_ops.specs.declared.call.Call.{Call}
+use Rattle.af_ops.specs.declared.policy_op.PolicyOp.{PolicyOp}
+use Rattle.af_ops.specs.declared.policy_op.PolicyOp.TheVariants as asks
 use Rattle.af_ops.specs.declared.served.Served.{Served}
 use Rattle.af_audit.specs.declared.audit_fault.AuditFault.{AuditFault}
 use Rattle.af_audit.specs.declared.report_refusal.ReportRefusal.{ReportRefusal}
@@ -9,11 +12,12 @@ use Rattle.af_plane.specs.Visits.{Visit, VisitorRows}
 
 -- a session that holds this and has done nothing yet
 abbrev pub new_visitor : Visit → VisitorRows
-new_visitor visit = record { visit = visit; calls = []; ticks = []; claims = []; reports = []; asks = 0 }
+new_visitor visit = record { visit = visit; calls = []; times = []; ticks = []; claims = []; reports = []; outcomes = []; mes = []; reads = []; changes = []; unreads = [] }
 
--- it has called, and was served this
-abbrev pub HasCalled : VisitorRows → Call → Served → VisitorRows → Type 0
-HasCalled was asked gave now = now ≡ record was { visit = now.visit; calls = was.calls ++ (asked, gave) ∷ [] }
+-- it has called at a time, and was served this
+abbrev pub HasCalled : VisitorRows → Call → ℕ → Served → VisitorRows → Type 0
+HasCalled was asked at gave now =
+    now ≡ record was { visit = now.visit; calls = was.calls ++ (asked, gave) ∷ []; times = was.times ++ (at, gave) ∷ [] }
 
 -- it has ticked at a moment, and this came of it
 abbrev pub HasTicked : VisitorRows → ℕ → Result Bool AuditFault → VisitorRows → Type 0
@@ -23,10 +27,14 @@ HasTicked was at told now = now ≡ record was { visit = now.visit; ticks = was.
 abbrev pub HasClaimed : VisitorRows → ℕ → Result (Option Claim) AuditFault → VisitorRows → Type 0
 HasClaimed was at told now = now ≡ record was { visit = now.visit; claims = was.claims ++ (at, told) ∷ [] }
 
--- it has reported the outcome of a claimed try
-abbrev pub HasReported : VisitorRows → Claim → Result (Unit {0}) ReportRefusal → VisitorRows → Type 0
-HasReported was claim told now = now ≡ record was { visit = now.visit; reports = was.reports ++ (claim, told) ∷ [] }
+-- it has reported this outcome of a claimed try at a time
+abbrev pub HasReported : VisitorRows → Claim → Outcome → ℕ → Result (Unit {0}) ReportRefusal → VisitorRows → Type 0
+HasReported was claim outcome at told now =
+    now ≡ record was { visit = now.visit; reports = was.reports ++ (claim, told) ∷ []; outcomes = was.outcomes ++ (outcome, at) ∷ [] }
 
--- it has asked something of the policy
-abbrev pub HasAskedOnce : VisitorRows → VisitorRows → Type 0
-HasAskedOnce was now = now ≡ record was { visit = now.visit; asks = was.asks + 1 }
+-- it has asked this of the policy, and was served this
+abbrev pub HasAskedOnce : VisitorRows → PolicyOp → Served → VisitorRows → Type 0
+HasAskedOnce was asks.Me gave now = now ≡ record was { visit = now.visit; mes = was.mes ++ (tt, gave) ∷ [] }
+HasAskedOnce was (asks.Read asked) gave now = now ≡ record was { visit = now.visit; reads = was.reads ++ (asked, gave) ∷ [] }
+HasAskedOnce was (asks.Change asked) gave now = now ≡ record was { visit = now.visit; changes = was.changes ++ (asked, gave) ∷ [] }
+HasAskedOnce was (asks.Unread kind) gave now = now ≡ record was { visit = now.visit; unreads = was.unreads ++ (kind, gave) ∷ [] }

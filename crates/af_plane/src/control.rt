@@ -16,6 +16,7 @@ use crate::door::Door;
 use crate::named::Named;
 use crate::parts::Parts;
 use crate::request::Request;
+use crate::ticket::Ticket;
 use crate::visitor::{Locked, Visitor};
 use af_audit::{AuditFault, ReportRefusal};
 use af_board::Board;
@@ -24,7 +25,14 @@ use af_ops::Served;
 use af_policy::{Ask, ChangeKind, PolicyRead};
 use af_sched::{Claim, Outcome};
 use std::alloc::Global;
-use std::sync::{Mutex, Wait};
+use std::hint::spin_loop;
+use std::sync::{Mutex, MutexGuard, Wait};
+
+/// How often a thread tries to take the lock before it sleeps.
+const TRIES: u32 = 1_000;
+
+/// For how many pauses of the processor it waits after each.
+const PAUSES: u32 = 8;
 
 /// A board, and a plane behind a lock, which threads share, each with a session of its own.
 #[derive(Drop)]
@@ -35,18 +43,31 @@ pub struct Control<N: Named> {
 }
 
 impl<N: Named> Control<N> {
-    /// A control of these parts, which the name means, and the door at which its sessions are opened. It takes no memory.
+    /// A control of these parts, which the name means, and the door that gives leave to open its sessions. It takes no memory.
     pub fn of(parts: Parts) -> (Control<N>, Door<N>)
         requires board { parts.board ≡ N.name.site }
         requires plane { IsOfName N.name parts.plane }
     {
-        let door = Door::of(&parts);
-        let Parts { board, plane } = parts;
+        let (door, board, plane) = Door::of(parts);
         let control = Control {
             board,
             locked: Mutex::new(Locked::of(plane)),
         };
         (control, door)
+    }
+
+    /// The plane, when no other thread has it. A turn takes less time than the system takes to wake a thread, so a thread first tries for
+    /// about as long as some turns take, and only then sleeps.
+    fn plane(&self, rt: &impl Wait) -> MutexGuard<'_, Locked<N>> {
+        for _ in 0..TRIES {
+            if let Some(plane) = self.locked.try_lock() {
+                return plane;
+            }
+            for _ in 0..PAUSES {
+                spin_loop();
+            }
+        }
+        self.locked.lock(rt)
     }
 
     /// The versions of the policy. They are read and made without the plane's lock.
@@ -56,12 +77,12 @@ impl<N: Named> Control<N> {
         &self.board
     }
 
-    /// A session. It has done nothing yet, and holds the mark of version 0.
-    pub fn session(&self, rt: &impl Wait, door: &Door<N>) -> Visitor<N>
+    /// A session, for a ticket. It has done nothing yet, and holds the mark of version 0.
+    pub fn session(&self, rt: &impl Wait, ticket: Ticket<N>) -> Visitor<N>
         ensures mark { held result.visit.grounds ≡ first_mark }
         ensures new { result ≡ new_visitor result.visit }
     {
-        self.locked.lock(rt).session(&self.board, door)
+        self.plane(rt).session(&self.board, ticket)
     }
 
     /// Answers a call on the state, or for event logs, by one turn under the lock. It does nothing else: the session then has this call, with
@@ -75,17 +96,15 @@ impl<N: Named> Control<N> {
     ) -> Served
         requires { IsOfPlane request.now.call }
         ensures call { IsCall N.name request.now session.old.visit result session.new.visit }
-        ensures once { HasCalled session.old request.now.call result session.new }
+        ensures once { HasCalled session.old request.now.call request.now.at result session.new }
     {
-        self.locked
-            .lock(rt)
-            .turn(alloc, &self.board, session, request)
+        self.plane(rt).turn(alloc, &self.board, session, request)
     }
 
     /// Reports who the token's owner is, on the board. It waits for nobody, and is no turn.
     pub fn me(&self, alloc: Global, session: &mut Visitor<N>, token: Option<&[u8]>) -> Served
         ensures asked { HasAsked N.name.site (option_copied token.entry) asks.Me session.old.visit result session.new.visit }
-        ensures once { HasAskedOnce session.old session.new }
+        ensures once { HasAskedOnce session.old asks.Me result session.new }
     {
         session.me(alloc, &self.board, token)
     }
@@ -99,7 +118,7 @@ impl<N: Named> Control<N> {
         asked: &PolicyRead,
     ) -> Served
         ensures asked { HasAsked N.name.site (option_copied token.entry) (asks.Read asked.now) session.old.visit result session.new.visit }
-        ensures once { HasAskedOnce session.old session.new }
+        ensures once { HasAskedOnce session.old (asks.Read asked.now) result session.new }
     {
         session.read(alloc, &self.board, token, asked)
     }
@@ -113,7 +132,7 @@ impl<N: Named> Control<N> {
         kind: ChangeKind,
     ) -> Served
         ensures asked { HasAsked N.name.site (option_copied token.entry) (asks.Unread kind) session.old.visit result session.new.visit }
-        ensures once { HasAskedOnce session.old session.new }
+        ensures once { HasAskedOnce session.old (asks.Unread kind) result session.new }
     {
         session.unread(alloc, &self.board, token, kind)
     }
@@ -129,7 +148,7 @@ impl<N: Named> Control<N> {
         ask: &Ask,
     ) -> Served
         ensures asked { HasAsked N.name.site (option_copied token.entry) (asks.Change ask.now) session.old.visit result session.new.visit }
-        ensures once { HasAskedOnce session.old session.new }
+        ensures once { HasAskedOnce session.old (asks.Change ask.now) result session.new }
     {
         session.submit(rt, alloc, &self.board, token, ask)
     }
@@ -146,7 +165,7 @@ impl<N: Named> Control<N> {
         ensures done { IsDone N.name session.old.visit session.new.visit (λ old new. IsTicked at old new result × TickIs old at result new) }
         ensures once { HasTicked session.old at result session.new }
     {
-        self.locked.lock(rt).tick(alloc, &self.board, session, at)
+        self.plane(rt).tick(alloc, &self.board, session, at)
     }
 
     /// Claims the first queued instance at a moment, if there is one; then there is one entry, of an executor. `HistoryFull` where there is no
@@ -161,7 +180,7 @@ impl<N: Named> Control<N> {
         ensures done { IsDone N.name session.old.visit session.new.visit (λ old new. IsClaimed at old new result × ClaimIs old at result new) }
         ensures once { HasClaimed session.old at result session.new }
     {
-        self.locked.lock(rt).claim(alloc, &self.board, session, at)
+        self.plane(rt).claim(alloc, &self.board, session, at)
     }
 
     /// Takes the outcome of a claimed try at a moment; then there is one entry, of an executor. The report's own faults come first, then a
@@ -176,10 +195,9 @@ impl<N: Named> Control<N> {
         at: Instant,
     ) -> Result<(), ReportRefusal>
         ensures done { IsDone N.name session.old.visit session.new.visit (λ old new. IsReported at claim.now outcome old new result × ReportIs old claim.now outcome at result new) }
-        ensures once { HasReported session.old claim.now result session.new }
+        ensures once { HasReported session.old claim.now outcome at result session.new }
     {
-        self.locked
-            .lock(rt)
+        self.plane(rt)
             .report(alloc, &self.board, session, claim, outcome, at)
     }
 }

@@ -11,6 +11,7 @@ mod plane;
 mod request;
 mod session;
 mod solo;
+mod ticket;
 mod visitor;
 
 pub use control::Control;
@@ -22,4 +23,5 @@ pub use plane::Plane;
 pub use request::Request;
 pub use session::Session;
 pub use solo::Solo;
+pub use ticket::Ticket;
 pub use visitor::Visitor;

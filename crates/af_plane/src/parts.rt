@@ -8,13 +8,26 @@ use af_policy::Policy;
 use af_sched::State;
 use af_tally::Keeper;
 use std::alloc::Global;
+use std::marker::Model;
 
-/// What a control is made of: a board, and a plane over it.
+/// What a control is made of: a board, and a plane over it on which nothing was done yet. Who has them can do nothing on the plane but take
+/// it apart from the board.
 #[derive(Drop)]
 pub struct Parts {
-    pub board: Board,
-    pub plane: Plane,
-    ghost one_word: { plane.pass.word ≡ board.word },
+    board: Board,
+    plane: Plane,
+}
+
+impl Model for Parts {
+    ghost use Rattle.std.specs.Prelude.{◌≡◌};
+    ghost use Rattle.af_audit.specs.Ledgers as ledgers;
+    ghost use Rattle.af_plane.specs.Visits.{PartsRows};
+
+    ghost Value = { PartsRows };
+
+    ghost view = { λ parts. record { board = parts.board; plane = parts.plane } };
+
+    ghost invariant = { λ parts. (parts.plane.pass.word ≡ parts.board.word) × (parts.plane.ledger ≡ ledgers.opened parts.plane.ledger.opening parts.plane.ledger.audit.limit) };
 }
 
 impl Parts {
@@ -36,5 +49,16 @@ impl Parts {
         };
         let plane = Plane::open(alloc, state, history_limit, pass, keeper);
         Ok(Parts { board, plane })
+    }
+
+    /// The board and the plane, for one thread.
+    pub fn apart(self) -> (Board, Plane)
+        ensures board { result.0 ≡ self.board }
+        ensures plane { result.1 ≡ self.plane }
+        ensures word { self.plane.pass.word ≡ self.board.word }
+        ensures fresh { self.plane.ledger ≡ ledgers.opened self.plane.ledger.opening self.plane.ledger.audit.limit }
+    {
+        let Parts { board, plane } = self;
+        (board, plane)
     }
 }

@@ -5,15 +5,15 @@ ghost use Rattle.af_plane.specs.Administered.{HasAsked};
 ghost use Rattle.af_plane.specs.Logs.{HasAskedOnce, new_visitor};
 ghost use Rattle.af_plane.specs.Looks.{IsOn};
 
-use crate::door::Door;
 use crate::named::Named;
 use crate::session::Session;
+use crate::ticket::Ticket;
 use af_audit::{AuditFault, ReportRefusal};
 use af_board::Board;
 use af_names::Instant;
 use af_ops::{Call, Served};
 use af_policy::{Ask, ChangeKind, PolicyRead};
-use af_sched::Claim;
+use af_sched::{Claim, Outcome};
 use http_server::Log;
 use std::alloc::Global;
 use std::marker::{Model, PhantomData};
@@ -29,28 +29,33 @@ pub(crate) use locked::Locked;
 pub struct Visitor<N: Named> {
     session: Session,
     calls: Log<Call, Served>,
+    times: Log<Instant, Served>,
     ticks: Log<Instant, Result<bool, AuditFault>>,
     claims: Log<Instant, Result<Option<Claim>, AuditFault>>,
     reports: Log<Claim, Result<(), ReportRefusal>>,
-    asks: Log<u8, u8>,
+    outcomes: Log<Outcome, Instant>,
+    mes: Log<(), Served>,
+    reads: Log<PolicyRead, Served>,
+    changes: Log<Ask, Served>,
+    unreads: Log<ChangeKind, Served>,
     of: PhantomData<N>,
 }
 
 impl<N: Named> Model for Visitor<N> {
-    ghost use Rattle.std.specs.Prelude.{◌≡◌, length};
+    ghost use Rattle.std.specs.Prelude.{◌≡◌};
     ghost use Rattle.af_plane.specs.Looks.{IsOn};
     ghost use Rattle.af_plane.specs.Visits.{VisitorRows};
 
     ghost Value = { VisitorRows };
 
-    ghost view = { λ v. record { visit = v.session; calls = v.calls.items; ticks = v.ticks.items; claims = v.claims.items; reports = v.reports.items; asks = length v.asks.items } };
+    ghost view = { λ v. record { visit = v.session; calls = v.calls.items; times = v.times.items; ticks = v.ticks.items; claims = v.claims.items; reports = v.reports.items; outcomes = v.outcomes.items; mes = v.mes.items; reads = v.reads.items; changes = v.changes.items; unreads = v.unreads.items } };
 
     ghost invariant = { λ v. IsOn N.name.site v.session × (v.session.entries.keeper ≡ N.name.keeper) };
 }
 
 impl<N: Named> Visitor<N> {
-    /// A session that is opened at the control's door. It has done nothing yet.
-    fn open(session: Session, _door: &Door<N>) -> Visitor<N>
+    /// A session that is opened with a ticket. It has done nothing yet.
+    fn open(session: Session, _ticket: Ticket<N>) -> Visitor<N>
         requires on { IsOn N.name.site session }
         requires keeper { session.entries.keeper ≡ N.name.keeper }
         ensures { result ≡ new_visitor session }
@@ -58,10 +63,15 @@ impl<N: Named> Visitor<N> {
         Visitor {
             session,
             calls: Log::new(),
+            times: Log::new(),
             ticks: Log::new(),
             claims: Log::new(),
             reports: Log::new(),
-            asks: Log::new(),
+            outcomes: Log::new(),
+            mes: Log::new(),
+            reads: Log::new(),
+            changes: Log::new(),
+            unreads: Log::new(),
             of: PhantomData,
         }
     }
@@ -78,10 +88,11 @@ impl<N: Named> Visitor<N> {
     pub(crate) fn me(&mut self, alloc: Global, board: &Board, token: Option<&[u8]>) -> Served
         requires { board.now ≡ N.name.site }
         ensures asked { HasAsked N.name.site (option_copied token.entry) asks.Me self.old.visit result self.new.visit }
-        ensures once { HasAskedOnce self.old self.new }
+        ensures once { HasAskedOnce self.old asks.Me result self.new }
     {
-        self.asks = self.asks.and(&0, &0);
-        self.session.me(alloc, board, token)
+        let served = self.session.me(alloc, board, token);
+        self.mes = self.mes.and(&(), &served);
+        served
     }
 
     /// Reports roles or users, on the board.
@@ -94,10 +105,11 @@ impl<N: Named> Visitor<N> {
     ) -> Served
         requires { board.now ≡ N.name.site }
         ensures asked { HasAsked N.name.site (option_copied token.entry) (asks.Read asked.now) self.old.visit result self.new.visit }
-        ensures once { HasAskedOnce self.old self.new }
+        ensures once { HasAskedOnce self.old (asks.Read asked.now) result self.new }
     {
-        self.asks = self.asks.and(&0, &0);
-        self.session.read(alloc, board, token, asked)
+        let served = self.session.read(alloc, board, token, asked);
+        self.reads = self.reads.and(asked, &served);
+        served
     }
 
     /// Reports why a change of this kind, whose body was not read, makes no version.
@@ -110,10 +122,11 @@ impl<N: Named> Visitor<N> {
     ) -> Served
         requires { board.now ≡ N.name.site }
         ensures asked { HasAsked N.name.site (option_copied token.entry) (asks.Unread kind) self.old.visit result self.new.visit }
-        ensures once { HasAskedOnce self.old self.new }
+        ensures once { HasAskedOnce self.old (asks.Unread kind) result self.new }
     {
-        self.asks = self.asks.and(&0, &0);
-        self.session.unread(alloc, board, token, kind)
+        let served = self.session.unread(alloc, board, token, kind);
+        self.unreads = self.unreads.and(&kind, &served);
+        served
     }
 
     /// Makes the next version of the policy by a change, or reports why there is none, on the board.
@@ -127,9 +140,10 @@ impl<N: Named> Visitor<N> {
     ) -> Served
         requires { board.now ≡ N.name.site }
         ensures asked { HasAsked N.name.site (option_copied token.entry) (asks.Change ask.now) self.old.visit result self.new.visit }
-        ensures once { HasAskedOnce self.old self.new }
+        ensures once { HasAskedOnce self.old (asks.Change ask.now) result self.new }
     {
-        self.asks = self.asks.and(&0, &0);
-        self.session.submit(rt, alloc, board, token, ask)
+        let served = self.session.submit(rt, alloc, board, token, ask);
+        self.changes = self.changes.and(ask, &served);
+        served
     }
 }

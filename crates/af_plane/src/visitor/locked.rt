@@ -9,10 +9,10 @@ ghost use Rattle.af_plane.specs.Planes.{ClaimIs, ReportIs, TickIs};
 ghost use Rattle.af_plane.specs.Solos.{first_mark};
 ghost use Rattle.af_plane.specs.Turns.{IsOfPlane};
 
-use crate::door::Door;
 use crate::named::Named;
 use crate::plane::Plane;
 use crate::request::Request;
+use crate::ticket::Ticket;
 use crate::visitor::Visitor;
 use af_audit::{AuditFault, ReportRefusal};
 use af_board::Board;
@@ -51,7 +51,7 @@ impl<N: Named> Locked<N> {
     ) -> Served
         requires board { board.now ≡ N.name.site }
         requires call { IsOfPlane request.now.call }
-        ensures once { HasCalled session.old request.now.call result session.new }
+        ensures once { HasCalled session.old request.now.call request.now.at result session.new }
         ensures call { (it : IsCall N.name request.now session.old.visit result session.new.visit) × (it.old ≡ self.old.plane) × (it.new ≡ self.new.plane) }
     {
         self.plane.conditions();
@@ -59,6 +59,7 @@ impl<N: Named> Locked<N> {
         self.plane.conditions();
         let Some(served) = turn else { unreachable!() };
         session.calls = session.calls.and(request.call, &served);
+        session.times = session.times.and(&request.at, &served);
         served
     }
 
@@ -114,7 +115,7 @@ impl<N: Named> Locked<N> {
     ) -> Result<(), ReportRefusal>
         requires { board.now ≡ N.name.site }
         ensures done { IsDoneOn N.name self.old.plane self.new.plane session.old.visit session.new.visit (λ old new. IsReported at claim.now outcome old new result × ReportIs old claim.now outcome at result new) }
-        ensures once { HasReported session.old claim.now result session.new }
+        ensures once { HasReported session.old claim.now outcome at result session.new }
     {
         self.plane.conditions();
         let told = self
@@ -122,16 +123,17 @@ impl<N: Named> Locked<N> {
             .report_with(alloc, board, &mut session.session, claim, outcome, at);
         self.plane.conditions();
         session.reports = session.reports.and(claim, &told);
+        session.outcomes = session.outcomes.and(&outcome, &at);
         told
     }
 
-    /// A session that is opened at the control's door. It has done nothing yet, and holds the mark of version 0.
-    pub(crate) fn session(&mut self, board: &Board, door: &Door<N>) -> Visitor<N>
+    /// A session that is opened with a ticket. It has done nothing yet, and holds the mark of version 0.
+    pub(crate) fn session(&mut self, board: &Board, ticket: Ticket<N>) -> Visitor<N>
         requires { board.now ≡ N.name.site }
         ensures plane { self.new.plane.ledger ≡ self.old.plane.ledger }
         ensures mark { held result.visit.grounds ≡ first_mark }
         ensures new { result ≡ new_visitor result.visit }
     {
-        Visitor::open(self.plane.session(board), door)
+        Visitor::open(self.plane.session(board), ticket)
     }
 }
