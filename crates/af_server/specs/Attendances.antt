@@ -1,5 +1,5 @@
--- What a worker makes of the connections of a listener, one after another, and why it ends (this product's own rule).
-use Rattle.std.specs.Prelude.{◌≡◌, ◌≤◌, ◌-◌, ◌^◌, ℕ, zero, suc, List, [], ◌∷◌, Option, Some, None}
+-- What a worker makes of the connections that come in at a port, one after another, and why it ends (this product's own rule).
+use Rattle.std.specs.Prelude.{◌≡◌, ◌≤◌, ◌-◌, ◌^◌, ℕ, zero, suc, List, [], ◌∷◌, All, length, Option, Some, None}
 use Rattle.std.specs.declared.io.ErrorKind.{ErrorKind}
 use Rattle.af_ops.specs.declared.call.Call.{Call}
 use Rattle.af_ops.specs.declared.served.Served.{Served}
@@ -37,6 +37,10 @@ EndsBy fails connections count (Some error) = (count ≤ most_of connections) ×
 
 abbrev pub HasEnded : (ErrorKind → Type 0) → Option ℕ → Attended → Type 0
 HasEnded fails connections attended = EndsBy fails connections attended.connections attended.error
+
+-- all the connections that a worker served came in at this port
+abbrev pub CameAt : ℕ → Attended → Type 0
+CameAt port attended = (length attended.served.items ≡ attended.connections) × All (λ guest. guest.0 ≡ port) attended.served.items
 
 -- what is in the seats that are taken, in order
 abbrev pub taken : {X : Type 0} → List (Option X) → List X

@@ -49,7 +49,7 @@ module _ (tells : ℕ → Type 0) (name : Name) where
     pub within : tells at
     pub told : Result (Unit {0}) ReportRefusal
     pub done : IsDone name was.visit now.visit (λ old new. IsReported at claim outcome old new told × ReportIs old claim outcome at told new)
-    pub once : HasReported was claim told now
+    pub once : HasReported was claim outcome at told now
 
   -- an instance was claimed, and the outcome that its script says was reported
   abbrev pub HasTried : List ScriptRow → VisitorRows → VisitorRows → Type 0

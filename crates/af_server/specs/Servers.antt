@@ -37,15 +37,15 @@ IsAt behaviour asked (Err error) = behaviour.fails error
 
 -- ---- what its threads did
 
--- So many workers took its connections, each one connection after another, until the machine gave no more, and each answered with a session of
--- the server's control. Meanwhile the scheduler had a round after each period, by the server's scripts.
-pub record IsShift (behaviour : Behaviour) (count : ℕ) (server : ServerRows) (shift : Shift) : Type 0 where
+-- So many workers took the connections that came in at the port, each one connection after another, until the machine gave no more, and each
+-- answered with a session of the server's control. Meanwhile the scheduler had a round after each period, by the server's scripts.
+pub record IsShift (behaviour : Behaviour) (count port : ℕ) (server : ServerRows) (shift : Shift) : Type 0 where
   pub all : length shift.attendance ≡ count
-  pub each : All (IsAttended behaviour (name_of server) None) shift.attendance
+  pub each : All (IsAttended behaviour (name_of server) port None) shift.attendance
   pub scheduled : HasScheduled behaviour.tells (name_of server) server.scripts shift.waiting
 
 -- where it listens, its threads did that; else there were none
 abbrev pub HasServed : Behaviour → ℕ → Result (Result ListeningRows ErrorKind) Reason → Option Shift → Type 0
-HasServed behaviour count (Ok (Ok listening)) shift = IsSomeAnd shift (IsShift behaviour count listening.server)
+HasServed behaviour count (Ok (Ok listening)) shift = IsSomeAnd shift (IsShift behaviour count listening.port listening.server)
 HasServed behaviour count (Ok (Err error)) shift = shift ≡ None
 HasServed behaviour count (Err reason) shift = shift ≡ None

@@ -12,7 +12,7 @@ use Rattle.af_plane.specs.Names.{IsCall, Name}
 use Rattle.af_plane.specs.Solos.{first_mark}
 use Rattle.af_plane.specs.Visits.{VisitorRows}
 use Rattle.af_server.specs.declared.attended.Attended.{Attended}
-use Rattle.af_server.specs.Attendances.{Attends, HasEnded}
+use Rattle.af_server.specs.Attendances.{Attends, CameAt, HasEnded}
 use Rattle.af_server.specs.Desks.{asked_at}
 use Rattle.af_server.specs.Machines.{Behaviour}
 
@@ -29,12 +29,12 @@ module _ (tells : ℕ → Type 0) (name : Name) where
     pub told : tells at
     pub within : at ≤ last_micros
     pub call : IsCall name (asked_at at token asked) was.visit gave now.visit
-    pub once : HasCalled was asked gave now
+    pub once : HasCalled was asked at gave now
 
   -- what is asked of the policy is decided on the board; and that is all that the session does
   pub record AsksBoard (was : VisitorRows) (token : Option (List ℕ)) (asked : PolicyOp) (gave : Served) (now : VisitorRows) : Type 0 where
     pub asks : HasAsked name.site token asked was.visit gave now.visit
-    pub once : HasAskedOnce was now
+    pub once : HasAskedOnce was asked gave now
 
   -- what a worker answers, by the kind of the call
   abbrev pub Works : VisitorRows → Option (List ℕ) → Call → Served → VisitorRows → Type 0
@@ -49,7 +49,8 @@ module _ (tells : ℕ → Type 0) (name : Name) where
     pub opened : IsNew old
     pub attends : Attends Works connections old new
 
--- what became of a worker on a machine that behaves so
-pub record IsAttended (behaviour : Behaviour) (name : Name) (connections : Option ℕ) (attended : Attended) : Type 0 where
+-- what became of a worker at a port of a machine that behaves so
+pub record IsAttended (behaviour : Behaviour) (name : Name) (port : ℕ) (connections : Option ℕ) (attended : Attended) : Type 0 where
   pub attends : HasAttended behaviour.tells name attended.connections
+  pub came : CameAt port attended
   pub ended : HasEnded behaviour.fails connections attended

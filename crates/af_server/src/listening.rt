@@ -8,6 +8,8 @@ use crate::config::Configuration;
 use crate::done::Done;
 use crate::files::Files;
 use crate::machine::Machine;
+use crate::port::Port;
+use crate::ports::Ports;
 use crate::reason::Reason;
 use crate::server::{Server, serve};
 use crate::telling::{line_of, tell};
@@ -16,7 +18,6 @@ use af_http::Sink;
 use std::alloc::Global;
 use std::io::ErrorKind;
 use std::marker::Model;
-use std::net::TcpListener;
 use std::sync::Wait;
 use std::thread::Threads;
 
@@ -24,8 +25,7 @@ use std::thread::Threads;
 #[derive(Drop)]
 pub struct Listening {
     server: Server,
-    listener: TcpListener,
-    port: u16,
+    port: Port,
     line: String,
     ghost says: { string_bytes line ≡ listening_line port },
 }
@@ -45,7 +45,7 @@ impl Model for Listening {
 type Found = Result<Listening, ErrorKind>;
 
 /// Listens under the configuration at a path.
-pub fn listen_at<H: Machine, F: Files>(
+pub fn listen_at<H: Ports, F: Files>(
     rt: &H,
     alloc: Global,
     files: &F,
@@ -62,12 +62,7 @@ pub fn listen_at<H: Machine, F: Files>(
 }
 
 /// Listens under these bytes of a configuration.
-fn listen_under<H: Machine>(
-    rt: &H,
-    alloc: Global,
-    config: &[u8],
-    port: u16,
-) -> Result<Found, Reason>
+fn listen_under<H: Ports>(rt: &H, alloc: Global, config: &[u8], port: u16) -> Result<Found, Reason>
     ensures served { IsServed config.now result }
     ensures port { IfOk result (IsAt H.behaviour port) }
 {
@@ -77,22 +72,17 @@ fn listen_under<H: Machine>(
 }
 
 /// Listens on a port, of which 0 is any that is free.
-fn listen<H: Machine>(rt: &H, alloc: Global, server: Server, port: u16) -> Result<Found, Reason>
+fn listen<H: Ports>(rt: &H, alloc: Global, server: Server, port: u16) -> Result<Found, Reason>
     ensures server { IfOk result (λ found. IfOk found (λ l. l.server ≡ server_of server.parts.board server.parts.plane server.scripted)) }
     ensures port { IfOk result (IsAt H.behaviour port) }
     ensures memory { IfErr result (λ reason. reason ≡ Reason.Memory) }
 {
-    let (listener, port) = match rt.listen(port) {
-        Ok(found) => found,
+    let port = match rt.listen(port) {
+        Ok(port) => port,
         Err(error) => return Ok(Err(error)),
     };
-    match listening_line(alloc, port) {
-        Ok(line) => Ok(Ok(Listening {
-            server,
-            listener,
-            port,
-            line,
-        })),
+    match listening_line(alloc, port.number()) {
+        Ok(line) => Ok(Ok(Listening { server, port, line })),
         Err(reason) => Err(reason),
     }
 }
@@ -149,14 +139,10 @@ pub fn finish<H: Threads + Wait + Machine + Sync>(
 {
     match outcome {
         Ok(Ok(listening)) => {
-            let Listening {
-                server,
-                listener,
-                ..
-            } = listening;
+            let Listening { server, port, .. } = listening;
             Done {
                 status: 1,
-                shift: Some(serve(rt, alloc, server, &listener, count)),
+                shift: Some(serve(rt, alloc, server, &port, count)),
             }
         }
         Ok(Err(_)) => Done {

@@ -1,14 +1,15 @@
-ghost use Rattle.std.specs.Prelude.{IfErr, IfOk};
+ghost use Rattle.std.specs.Prelude.{◌≡◌, IfErr, IfOk};
 ghost use Rattle.af_server.specs.Machines.{Behaviour};
 
 use crate::clock::time_now;
+use crate::guest::Guest;
+use crate::port::Port;
 use af_names::Instant;
-use std::io::{self, ErrorKind};
-use std::net::{Net, TcpListener, TcpStream};
+use std::io::ErrorKind;
 use std::time::Clock;
 
-/// What a server has of the machine that it runs on: its time, and connections of 127.0.0.1. What is generic over a machine can make up none of
-/// them.
+/// What a server has of the machine that it runs on: its time, and the connections that come in at a port. What is generic over a machine can
+/// make up none of them, and opens no port.
 pub trait Machine: Clock {
     ghost behaviour: { Behaviour };
 
@@ -16,14 +17,10 @@ pub trait Machine: Clock {
     fn time(&self) -> Instant
         ensures { behaviour.tells result };
 
-    /// A listener on a port, of which 0 is any that is free, and which it is; or why there is none.
-    fn listen(&self, port: u16) -> Result<(TcpListener, u16), ErrorKind>
-        ensures port { IfOk result (λ found. behaviour.gives port found.1) }
+    /// The next connection that comes in at a port, or why there are no more.
+    fn accept(&self, port: &Port) -> Result<Guest, ErrorKind>
+        ensures guest { IfOk result (λ guest. guest ≡ port.now) }
         ensures error { IfErr result behaviour.fails };
-
-    /// The next connection, or why there are no more.
-    fn accept(&self, listener: &TcpListener) -> Result<TcpStream, ErrorKind>
-        ensures { IfErr result behaviour.fails };
 }
 
 impl Machine for HostRuntime {
@@ -35,33 +32,15 @@ impl Machine for HostRuntime {
         time_now(self)
     }
 
-    fn listen(&self, port: u16) -> Result<(TcpListener, u16), ErrorKind> {
-        match bind(self, port) {
-            Ok((_, given)) if port != 0 && given != port => Err(ErrorKind::AddrNotAvailable),
-            Ok(found) => Ok(found),
-            Err(error) => Err(error.kind()),
-        }
-    }
-
     /// One that its peer gave up before it was taken is passed over.
-    fn accept(&self, listener: &TcpListener) -> Result<TcpStream, ErrorKind> {
+    fn accept(&self, port: &Port) -> Result<Guest, ErrorKind> {
         for _ in 0..u64::MAX {
-            match listener.accept() {
-                Ok((stream, _)) => return Ok(stream),
+            match port.listener().accept() {
+                Ok((stream, _)) => return Ok(Guest::of(stream, port)),
                 Err(error) if error.kind() == ErrorKind::ConnectionAborted => {}
                 Err(error) => return Err(error.kind()),
             }
         }
         Err(ErrorKind::ConnectionAborted)
     }
-}
-
-/// A listener on a port of 127.0.0.1, and which the system says that it is.
-fn bind<R: Net<Listener = TcpListener, Stream = TcpStream>>(
-    rt: &R,
-    port: u16,
-) -> io::Result<(TcpListener, u16)> {
-    let listener = TcpListener::bind(rt, ("127.0.0.1", port))?;
-    let given = listener.local_addr()?.port();
-    Ok((listener, given))
 }

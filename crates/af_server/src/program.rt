@@ -7,8 +7,8 @@ use crate::console::Console;
 use crate::done::Done;
 use crate::files::Files;
 use crate::listening::{announce, blame, finish, listen_at};
-use crate::machine::Machine;
 use crate::once::once;
+use crate::ports::Ports;
 use crate::reason::Reason;
 use crate::telling::{ended, usage};
 use crate::verdict::conclude;
@@ -23,7 +23,7 @@ use std::thread::Threads;
 /// Does what the words ask for, with files found there, and gives the status, and what the threads of a server did, where one has listened. `once`: 0 where the connection ended as connections do, 1 where
 /// it was cut short. `serve`: 1 where the server can't listen, and after its last worker has ended. `verify`: 0 where the answers agree, 1
 /// where they differ. Of wrong words 2; where the configuration or the trace is refused, also where its file can't be had, 3.
-pub fn run<H: Machine + Threads + Wait + Sync, F: Files, R: Source, W: Sink, E: Sink>(
+pub fn run<H: Ports + Threads + Wait + Sync, F: Files, R: Source, W: Sink, E: Sink>(
     rt: &H,
     alloc: Global,
     files: &F,
@@ -99,7 +99,7 @@ fn connection_at<H: Wait, F: Files, R: Source, W: Sink>(
 
 /// A server under the configuration at a path, on a port, with so many workers. Where it listens is printed; why the configuration is refused is
 /// told on standard error.
-fn serve_at<H: Machine + Threads + Wait + Sync, F: Files, R: Source, W: Sink, E: Sink>(
+fn serve_at<H: Ports + Threads + Wait + Sync, F: Files, R: Source, W: Sink, E: Sink>(
     rt: &H,
     alloc: Global,
     files: &F,

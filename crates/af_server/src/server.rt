@@ -1,6 +1,6 @@
 ghost use Rattle.std.specs.Prelude.{◌≡◌, ◌≤◌, All, IfOk, None, length};
 ghost use Rattle.af_plane.specs.Names.{IsOfName};
-ghost use Rattle.af_server.specs.Attendances.{HasEnded};
+ghost use Rattle.af_server.specs.Attendances.{CameAt, HasEnded};
 ghost use Rattle.af_server.specs.Listenings.{server_of};
 ghost use Rattle.af_server.specs.Rounds.{HasScheduled};
 ghost use Rattle.af_server.specs.Servers.{IsServerOf, IsShift};
@@ -8,19 +8,19 @@ ghost use Rattle.af_server.specs.Workers.{IsAttended};
 
 use crate::config::Configuration;
 use crate::gate::Open;
-use crate::hub::Hub;
+use crate::leave::Leave;
 use crate::machine::Machine;
+use crate::port::Port;
 use crate::shared::Shared;
 use crate::shift::Shift;
 use crate::stop::Stop;
 use crate::worker_count::WorkerCount;
 use crate::workers::Workers;
 use af_board::OutOfMemory;
-use af_plane::{Named, Parts};
+use af_plane::{Control, Named, Parts};
 use af_sched::Scripted;
 use std::alloc::Global;
 use std::marker::Brand;
-use std::net::TcpListener;
 use std::sync::Wait;
 use std::thread;
 use std::thread::Threads;
@@ -56,35 +56,36 @@ impl Server {
         self,
         rt: &R,
         alloc: Global,
-        listener: &TcpListener,
+        port: &Port,
         count: u32,
     ) -> Shift
         requires board { self.parts.board ≡ N.name.site }
         requires plane { IsOfName N.name self.parts.plane }
         requires few { count ≤ 16 }
         ensures all { length result.attendance ≡ count }
-        ensures each { All (IsAttended R.behaviour N.name None) result.attendance }
+        ensures each { All (IsAttended R.behaviour N.name port.now None) result.attendance }
         ensures scheduled { HasScheduled R.behaviour.tells N.name self.scripted result.waiting }
     {
         let Server { parts, scripted } = self;
         let mut scripted = scripted;
-        let hub = Hub::<N>::of(parts);
-        run_threads(rt, alloc, &hub, &mut scripted, listener, count)
+        let (control, door) = Control::<N>::of(parts);
+        run_threads(rt, alloc, &control, &door, &mut scripted, port, count)
     }
 }
 
 /// Runs the workers and, beside them, the scheduler, until each worker has ended.
-fn run_threads<C: Shared + Sync, R: Threads + Wait + Machine + Sync>(
+fn run_threads<T, C: Shared<T> + Sync, D: Leave<T> + Sync, R: Threads + Wait + Machine + Sync>(
     rt: &R,
     alloc: Global,
     shared: &C,
+    door: &D,
     scripted: &mut Scripted,
-    listener: &TcpListener,
+    port: &Port,
     count: u32,
 ) -> Shift
     requires { count ≤ 16 }
     ensures all { length result.attendance ≡ count }
-    ensures each { All (λ a. C.attends shared.now R.behaviour.tells a.connections × HasEnded R.behaviour.fails None a) result.attendance }
+    ensures each { All (λ a. C.attends shared.now R.behaviour.tells a.connections × CameAt port.now a × HasEnded R.behaviour.fails None a) result.attendance }
     ensures scheduled { C.schedules shared.now R.behaviour.tells scripted.old result.waiting }
 {
     let workers = Workers::new(Open, count);
@@ -92,9 +93,12 @@ fn run_threads<C: Shared + Sync, R: Threads + Wait + Machine + Sync>(
     // The scheduler comes first: where no thread can be made, `join` runs its first closure last.
     let (waiting, attendance) = thread::join(
         rt,
-        || shared.schedule(rt, alloc, scripted, Duration::from_secs(1), &stop),
         || {
-            let attendance = workers.run(rt, alloc, shared, listener, None);
+            let ticket = door.leave();
+            shared.schedule(ticket, rt, alloc, scripted, Duration::from_secs(1), &stop)
+        },
+        || {
+            let attendance = workers.run(rt, alloc, shared, door, port, None);
             stop.tell(rt);
             attendance
         },
@@ -110,10 +114,10 @@ pub fn serve<R: Threads + Wait + Machine + Sync>(
     rt: &R,
     alloc: Global,
     server: Server,
-    listener: &TcpListener,
+    port: &Port,
     count: &WorkerCount,
 ) -> Shift
-    ensures { IsShift R.behaviour count.now (server_of server.parts.board server.parts.plane server.scripted) result }
+    ensures { IsShift R.behaviour count.now port.now (server_of server.parts.board server.parts.plane server.scripted) result }
 {
-    server.run::<Brand, R>(rt, alloc, listener, count.count())
+    server.run::<Brand, R>(rt, alloc, port, count.count())
 }

@@ -2,12 +2,11 @@ ghost use Rattle.std.specs.Prelude.{◌≡◌, true, MatchBool, MatchOption, Ok,
 ghost use Rattle.af_server.specs.Rounds.{AreRounds, Claims, HasStopped, HasTried, HasWorked, IsRound, Reports};
 ghost use Rattle.af_server.specs.Workers.{IsNew};
 
-use crate::hub::Hub;
 use crate::machine::Machine;
 use crate::stop::Stop;
 use crate::waiting::Waiting;
 use af_audit::AuditFault;
-use af_plane::{Control, Named, Visitor};
+use af_plane::{Control, Named, Ticket, Visitor};
 use af_sched::{Claim, Executor, Outcome, Scripted};
 use std::alloc::Global;
 use std::marker::Model;
@@ -32,15 +31,20 @@ impl<'a, N: Named, R: Wait + Machine> Model for Ticker<'a, N, R> {
 }
 
 impl<'a, N: Named, R: Wait + Machine> Ticker<'a, N, R> {
-    /// A scheduler of what threads share.
-    pub fn open(rt: &'a R, alloc: Global, hub: &'a Hub<N>) -> Ticker<'a, N, R>
+    /// A scheduler of what threads share, with the one session that its ticket is for.
+    pub fn open(
+        rt: &'a R,
+        alloc: Global,
+        control: &'a Control<N>,
+        ticket: Ticket<N>,
+    ) -> Ticker<'a, N, R>
         ensures { IsNew result }
     {
         Ticker {
             rt,
             alloc,
-            control: hub.control(),
-            visitor: hub.session(rt),
+            control,
+            visitor: control.session(rt, ticket),
         }
     }
 

@@ -5,12 +5,11 @@ ghost use Rattle.af_plane.specs.Turns.{IsOfPlane};
 ghost use Rattle.af_server.specs.Workers.{IsNew, Works};
 
 use crate::gate::Gate;
-use crate::hub::Hub;
 use crate::machine::Machine;
 use af_audit::RecentTokens;
 use af_http::Service;
 use af_ops::{Call, PolicyOp, Served};
-use af_plane::{Control, Named, Request, Visitor};
+use af_plane::{Control, Named, Request, Ticket, Visitor};
 use std::alloc::Global;
 use std::marker::Model;
 use std::sync::Wait;
@@ -36,16 +35,22 @@ impl<'a, N: Named, R: Wait + Machine, G: Gate> Model for Worker<'a, N, R, G> {
 }
 
 impl<'a, N: Named, R: Wait + Machine, G: Gate> Worker<'a, N, R, G> {
-    /// A worker over what threads share.
-    pub fn open(rt: &'a R, alloc: Global, hub: &'a Hub<N>, gate: &'a G) -> Worker<'a, N, R, G>
+    /// A worker over what threads share, with the one session that its ticket is for.
+    pub fn open(
+        rt: &'a R,
+        alloc: Global,
+        control: &'a Control<N>,
+        ticket: Ticket<N>,
+        gate: &'a G,
+    ) -> Worker<'a, N, R, G>
         ensures { IsNew result }
     {
         Worker {
             rt,
             alloc,
-            control: hub.control(),
+            control,
             gate,
-            visitor: hub.session(rt),
+            visitor: control.session(rt, ticket),
             tokens: RecentTokens::new(alloc),
         }
     }

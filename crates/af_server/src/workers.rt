@@ -1,13 +1,14 @@
 ghost use Rattle.std.specs.Prelude.{◌≡◌, ◌≤◌, ◌<◌, ℕ, All, IsSomeAnd, None, length, slice_index_or};
-ghost use Rattle.af_server.specs.Attendances.{HasEnded};
+ghost use Rattle.af_server.specs.Attendances.{CameAt, HasEnded};
 
 use crate::attendance::{Attendance, SEATS};
 use crate::attended::Attended;
 use crate::gate::Gate;
+use crate::leave::Leave;
 use crate::machine::Machine;
+use crate::port::Port;
 use crate::shared::Shared;
 use std::alloc::Global;
-use std::net::TcpListener;
 use std::sync::Wait;
 use std::thread;
 use std::thread::Threads;
@@ -16,7 +17,7 @@ use std::time::Duration;
 /// For how many seconds a peer is waited for.
 const PATIENCE: u64 = 10;
 
-/// Threads that serve the connections of one listener, each one connection at a time.
+/// Threads that serve the connections that come in at one port, each one connection at a time.
 #[derive(Drop)]
 pub struct Workers<G: Gate> {
     gate: G,
@@ -52,16 +53,17 @@ impl<G: Gate + Sync> Workers<G> {
 
     /// Serves until each worker has ended. A worker has one session for its life. It ends after so many connections if there is a number, and
     /// if the machine gives no more. It takes no memory.
-    pub fn run<C: Shared + Sync, R: Threads + Wait + Machine + Sync>(
+    pub fn run<T, C: Shared<T> + Sync, D: Leave<T> + Sync, R: Threads + Wait + Machine + Sync>(
         &self,
         rt: &R,
         alloc: Global,
         shared: &C,
-        listener: &TcpListener,
+        door: &D,
+        port: &Port,
         connections: Option<u32>,
     ) -> Attendance
         ensures all { length result ≡ self.entry.now.count }
-        ensures each { All (λ a. C.attends shared.now R.behaviour.tells a.connections × HasEnded R.behaviour.fails connections a) result }
+        ensures each { All (λ a. C.attends shared.now R.behaviour.tells a.connections × CameAt port.now a × HasEnded R.behaviour.fails connections a) result }
     {
         let mut seats: [Option<Attended>; SEATS] = [
             None, None, None, None, None, None, None, None, None, None, None, None, None, None,
@@ -72,7 +74,8 @@ impl<G: Gate + Sync> Workers<G> {
             rt,
             alloc,
             shared,
-            listener,
+            door,
+            port,
             connections,
             &mut seats[..count],
         );
@@ -80,16 +83,17 @@ impl<G: Gate + Sync> Workers<G> {
     }
 
     /// Serves with a worker for each seat, until each has ended and taken its seat.
-    fn seat<C: Shared + Sync, R: Threads + Wait + Machine + Sync>(
+    fn seat<T, C: Shared<T> + Sync, D: Leave<T> + Sync, R: Threads + Wait + Machine + Sync>(
         &self,
         rt: &R,
         alloc: Global,
         shared: &C,
-        listener: &TcpListener,
+        door: &D,
+        port: &Port,
         connections: Option<u32>,
         seats: &mut [Option<Attended>],
     )
-        ensures { (i : ℕ) → i < length seats.old → IsSomeAnd (slice_index_or seats.new i None) (λ a. C.attends shared.now R.behaviour.tells a.connections × HasEnded R.behaviour.fails connections a) }
+        ensures { (i : ℕ) → i < length seats.old → IsSomeAnd (slice_index_or seats.new i None) (λ a. C.attends shared.now R.behaviour.tells a.connections × CameAt port.now a × HasEnded R.behaviour.fails connections a) }
     {
         let count = seats.len();
         if count == 0 {
@@ -97,7 +101,8 @@ impl<G: Gate + Sync> Workers<G> {
         }
         let (gate, patience) = (&self.gate, self.patience);
         let work = |_: usize, seat: &mut Option<Attended>| {
-            *seat = Some(shared.attend(rt, alloc, gate, listener, patience, connections));
+            let ticket = door.leave();
+            *seat = Some(shared.attend(ticket, rt, alloc, gate, port, patience, connections));
         };
         thread::for_each_mut(rt, seats, count, &work);
     }

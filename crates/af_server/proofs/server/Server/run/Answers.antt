@@ -12,4 +12,4 @@ pub run_threads-requires-sync-C : goal.run_threads-requires-sync-C
 run_threads-requires-sync-C g c κs within = search (sendable, crosses, plane_send, compiled_sync, compiled_send, word.the_sync, slot.the_send, slot.the_sync, tag.the_sync) depth 60 fits 100000
 
 pub returns-clause-each : goal.returns-clause-each
-returns-clause-each g c = λ k d below. let both = c.run_threads.ensures.each k d below in record { attends = both.0; ended = both.1 }
+returns-clause-each g c = λ k d below. let both = c.run_threads.ensures.each k d below in record { attends = both.0; came = both.1; ended = both.2 }
