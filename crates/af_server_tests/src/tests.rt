@@ -8,6 +8,7 @@ mod connections;
 mod consoles;
 mod dags;
 mod denials;
+mod faults;
 mod hidden;
 mod histories;
 mod instances;

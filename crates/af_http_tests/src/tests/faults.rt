@@ -98,15 +98,6 @@ fn breaks_at(rt: &impl Abort, alloc: Global, size: usize, call: usize, stalls: b
     ended == Ended::WriteFault && calls == 1 && is_taken
 }
 
-/// Whether both writers do so, the one that fails at this call and the one that takes no byte.
-fn both_break_at(rt: &impl Abort, alloc: Global, size: usize, call: usize) -> bool
-    requires { 0 < size }
-{
-    let fails = breaks_at(rt, alloc, size, call, false);
-    let stalls = breaks_at(rt, alloc, size, call, true);
-    fails && stalls
-}
-
 /// How many calls a writer of this size gets.
 fn last_call(size: usize) -> usize
     requires { 0 < size }
@@ -117,15 +108,39 @@ fn last_call(size: usize) -> usize
         .saturating_add(INCOMPLETE.len().div_ceil(size))
 }
 
-/// A writer that fails, or takes no byte, at each call in turn.
+/// Ends the test where a writer of this size that fails, or takes no byte, does not break the connection so, at each call in turn.
+fn all_break(rt: &impl Abort, alloc: Global, size: usize, stalls: bool)
+    requires { 0 < size }
+{
+    for call in 1..=last_call(size) {
+        let breaks = breaks_at(rt, alloc, size, call, stalls);
+        call_holds(rt, breaks, size, call);
+    }
+}
+
+/// The last of them takes any number of bytes a call.
 #[test]
 fn writers_that_fail(rt: HostRuntime) {
-    for size in [3usize, 40] {
-        for call in 1..=last_call(size) {
-            let both_break = both_break_at(&rt, rt.alloc(), size, call);
-            call_holds(&rt, both_break, size, call);
-        }
+    for size in [2usize, 3, 40, usize::MAX] {
+        all_break(&rt, rt.alloc(), size, false);
     }
+}
+
+#[test]
+fn writers_that_take_no_byte(rt: HostRuntime) {
+    for size in [2usize, 3, 40, usize::MAX] {
+        all_break(&rt, rt.alloc(), size, true);
+    }
+}
+
+#[test]
+fn writers_of_one_byte_that_fail(rt: HostRuntime) {
+    all_break(&rt, rt.alloc(), 1, false);
+}
+
+#[test]
+fn writers_of_one_byte_that_take_none(rt: HostRuntime) {
+    all_break(&rt, rt.alloc(), 1, true);
 }
 
 /// How few bytes a writer takes a call.

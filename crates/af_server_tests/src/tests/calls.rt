@@ -3,7 +3,7 @@ use super::asserts::{all_go, first_fault, holds};
 use super::consoles::{Act, does};
 use super::{BASE, Pieces};
 use af_http::Counted;
-use af_server::{Command, Machine, Reason, read_whole};
+use af_server::{Command, Ports, Reason, read_whole};
 use std::alloc::{AllocError, Global};
 use std::sync::Wait;
 use std::thread::Threads;
@@ -183,7 +183,7 @@ const CALLS: [Call; 6] = [
 ];
 
 /// Whether a call goes as it should.
-fn goes<H: Machine + Threads + Wait + Sync>(
+fn goes<H: Ports + Threads + Wait + Sync>(
     rt: &H,
     alloc: Global,
     call: &Call,
@@ -265,7 +265,7 @@ const WORDS: [Word; 15] = [
 ];
 
 /// Whether a reason is told by this word.
-fn is_word<H: Machine + Threads + Wait + Sync>(
+fn is_word<H: Ports + Threads + Wait + Sync>(
     rt: &H,
     alloc: Global,
     word: &Word,

@@ -6,13 +6,15 @@ use af_ops::Status;
 use std::alloc::{AllocError, Global};
 use std::sync::Wait;
 
-const LIST: &str =
+/// What answers the viewer's first request, in 430 bytes.
+pub const LIST: &str =
     "HTTP/1.1 200 OK\r\nContent-Type: application/json\r\nContent-Length: 321\r\nX-Policy-Version: 0\r\nX-Plane-Seq: 0\r\n\r\n{\"dags\":[{\"dag_id\":\"a\",\"is_paused\":true,\"max_active_runs\":16,\"next_dagrun\":null,\"schedule_interval\":null},{\"dag_id\":\"b\",\"is_paused\":false,\"max_active_runs\":16,\"next_dagrun\":null,\"schedule_interval\":null},{\"dag_id\":\"c\",\"is_paused\":false,\"max_active_runs\":16,\"next_dagrun\":null,\"schedule_interval\":null}],\"total_entries\":3}";
 
 const ONE: &str =
     "HTTP/1.1 200 OK\r\nContent-Type: application/json\r\nContent-Length: 126\r\nX-Policy-Version: 0\r\nX-Plane-Seq: 0\r\n\r\n{\"dags\":[{\"dag_id\":\"b\",\"is_paused\":false,\"max_active_runs\":16,\"next_dagrun\":null,\"schedule_interval\":null}],\"total_entries\":1}";
 
-const VERSION: &str =
+/// What answers the second, in 113 bytes.
+pub const VERSION: &str =
     "HTTP/1.1 200 OK\r\nContent-Type: application/json\r\nContent-Length: 42\r\n\r\n{\"git_version\":null,\"version\":\"afplane 1\"}";
 
 const DENIED: &str =
@@ -85,8 +87,8 @@ fn first_size_of_two(rt: &impl Wait, alloc: Global) -> Fault {
     Ok(fault)
 }
 
-/// The viewer's two requests.
-const TWO: &str =
+/// The viewer's two requests, of 66 bytes and of 41.
+pub const TWO: &str =
     "GET /api/v1/dags HTTP/1.1\r\nHost: h\r\nAuthorization: Bearer test\r\n\r\nGET /api/v1/version HTTP/1.1\r\nHost: h\r\n\r\n";
 
 /// On one connection, however they are cut.

@@ -3,7 +3,7 @@ use super::calls::command_of;
 use super::programs::Shelf;
 use super::{Pieces, in_pieces, now};
 use af_http::Counted;
-use af_server::{Command, Console, Machine, Reason, ended, run, usage};
+use af_server::{Command, Console, Ports, Reason, ended, run, usage};
 use std::alloc::Global;
 use std::sync::Wait;
 use std::thread::Threads;
@@ -49,7 +49,7 @@ fn asked(alloc: Global, what: Act<'_>) -> Option<Command> {
 }
 
 /// The status of a command, where there is one file, which holds this; none where there is no memory or no moment.
-fn run_with<H: Machine + Threads + Wait + Sync>(
+fn run_with<H: Ports + Threads + Wait + Sync>(
     rt: &H,
     alloc: Global,
     text: &str,
@@ -61,7 +61,7 @@ fn run_with<H: Machine + Threads + Wait + Sync>(
 }
 
 /// The status of what is done, or none where there is no memory or no moment.
-fn status_of<H: Machine + Threads + Wait + Sync>(
+fn status_of<H: Ports + Threads + Wait + Sync>(
     rt: &H,
     alloc: Global,
     what: Act<'_>,
@@ -77,7 +77,7 @@ fn status_of<H: Machine + Threads + Wait + Sync>(
 }
 
 /// The same with this input, where this is written.
-fn done<H: Machine + Threads + Wait + Sync>(
+fn done<H: Ports + Threads + Wait + Sync>(
     rt: &H,
     alloc: Global,
     what: Act<'_>,
@@ -103,7 +103,7 @@ fn is_told(status: Option<u8>, output: &[u8], errors: &[u8], told: Told<'_>) -> 
 }
 
 /// Whether what the program does with this input is told of so.
-pub fn does<H: Machine + Threads + Wait + Sync>(
+pub fn does<H: Ports + Threads + Wait + Sync>(
     rt: &H,
     alloc: Global,
     what: Act<'_>,

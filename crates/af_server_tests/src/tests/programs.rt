@@ -5,7 +5,7 @@ ghost use Rattle.af_server.specs.declared.reason.Reason.{Reason};
 use super::BASE;
 use super::asserts::{Fault, all_go, first_fault};
 use super::consoles::{Act, does};
-use af_server::{Files, Machine, Reason, open_fault};
+use af_server::{Files, Ports, Reason, open_fault};
 use std::alloc::{AllocError, Global};
 use std::io::{self, ErrorKind};
 use std::sync::Wait;
@@ -101,7 +101,7 @@ const CALLS: [Call; 10] = [
 ];
 
 /// Whether the words do as they should.
-fn is_done<H: Machine + Threads + Wait + Sync>(
+fn is_done<H: Ports + Threads + Wait + Sync>(
     rt: &H,
     alloc: Global,
     call: &Call,
@@ -112,7 +112,7 @@ fn is_done<H: Machine + Threads + Wait + Sync>(
 }
 
 /// The first row that does not do as it should.
-fn first_undone<H: Machine + Threads + Wait + Sync>(rt: &H, alloc: Global) -> Fault {
+fn first_undone<H: Ports + Threads + Wait + Sync>(rt: &H, alloc: Global) -> Fault {
     for (number, call) in CALLS.iter().enumerate() {
         if !is_done(rt, alloc, call)? {
             return Ok(Some(number));

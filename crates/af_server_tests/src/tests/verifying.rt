@@ -2,7 +2,7 @@ use super::BASE;
 use super::asserts::{all_go, first_fault};
 use super::calls::{Asked, asks};
 use super::consoles::{Act, does};
-use af_server::Machine;
+use af_server::Ports;
 use std::alloc::{AllocError, Global};
 use std::sync::Wait;
 use std::thread::Threads;
@@ -41,7 +41,7 @@ fn the_words_that_ask_for_a_check(rt: HostRuntime) {
 }
 
 /// Whether a trace is told of as it should.
-fn is_told<H: Machine + Threads + Wait + Sync>(
+fn is_told<H: Ports + Threads + Wait + Sync>(
     rt: &H,
     alloc: Global,
     told: &Told,

@@ -5,7 +5,7 @@ ghost use Rattle.af_plane.specs.Names.{IsOfName};
 
 mod apart;
 pub mod asking;
-mod last_entry;
+pub mod last_entry;
 pub mod pair;
 pub mod playing;
 pub mod rows;
@@ -27,7 +27,7 @@ use std::test::*;
 use std::thread::Threads;
 
 /// The sample configuration's users and DAGs, with room for nine later versions and so many entries.
-fn parts(alloc: Global, limit: u32) -> Result<Parts, Fail> {
+pub fn parts(alloc: Global, limit: u32) -> Result<Parts, Fail> {
     let (policy, state) = opened(alloc, OF_SAMPLE, Dags::Three)?;
     Ok(Parts::open(alloc, policy, 9, state, limit)?)
 }

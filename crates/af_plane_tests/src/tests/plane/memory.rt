@@ -2,4 +2,5 @@
 mod controls;
 mod outcome;
 mod solos;
+mod threads;
 mod ticks;

@@ -63,7 +63,7 @@ impl Model for Player {
 /// A plane that decides so, with room for so many entries, and one DAG that is due so.
 pub fn make_player(alloc: Global, by: By, limit: u32, due: Due) -> Result<Player, Fail> {
     let (policy, state) = opened(alloc, OF_PLANES, Dags::AndDue(due))?;
-    let Parts { board, mut plane } = Parts::open(alloc, policy, 9, state, limit)?;
+    let (board, mut plane) = Parts::open(alloc, policy, 9, state, limit)?.apart();
     let session = plane.session(&board);
     Ok(Player {
         plane,

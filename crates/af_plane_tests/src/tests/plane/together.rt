@@ -53,17 +53,22 @@ fn solo(alloc: Global) -> Result<Solo, Fail> {
 }
 
 /// Whether a server for one thread shows what was seen of the state when the threads had ended.
-fn shows_state<R: Wait>(rt: &R, alloc: Global, solo: &mut Solo, minutes: &Minutes) -> bool {
+fn shows_state<R: Wait>(
+    rt: &R,
+    alloc: Global,
+    solo: &mut Solo,
+    minutes: &Minutes,
+) -> Result<bool, AllocError> {
     for call in 0..STATE {
         let at = (AFTER, call);
         let Some(question) = minutes.question(at) else {
-            return false;
+            return Ok(false);
         };
-        if !has_body(rt, alloc, solo, question, minutes.body(at)) {
-            return false;
+        if !has_body(rt, alloc, solo, question, minutes.body(at))? {
+            return Ok(false);
         }
     }
-    true
+    Ok(true)
 }
 
 /// Whether the replay of a server's entries over what the threads began with makes the state that was seen when they had ended.
@@ -78,7 +83,7 @@ fn is_replayed<R: Wait>(
     let mut replayed = Solo::open(alloc, policy, 9, state, 9)?;
     let shows = shows_state(rt, alloc, &mut replayed, minutes);
     drop(replayed);
-    Ok(shows)
+    Ok(shows?)
 }
 
 /// How many answers there are that name a version, and the first of them that one thread does not give again.

@@ -1,18 +1,26 @@
 //! What a client sends and gets.
+use af_server::{Port, Ports};
 use std::alloc::Global;
 use std::io;
 use std::io::{Read, Write};
-use std::net::{Net, Shutdown, SocketAddr, TcpListener, TcpStream};
+use std::net::{IpAddr, Ipv4Addr, Net, Shutdown, SocketAddr, TcpStream};
 use std::time::Duration;
 
 /// For how many seconds a client waits for an answer.
 const PATIENCE: u64 = 20;
 
-/// A listener on a port of its own.
-pub fn listener<R: Net<Listener = TcpListener, Stream = TcpStream>>(
-    rt: &R,
-) -> io::Result<TcpListener> {
-    TcpListener::bind(rt, ("127.0.0.1", 0u16))
+/// A port of its own.
+pub fn port<R: Ports>(rt: &R) -> io::Result<Port> {
+    match rt.listen(0) {
+        Ok(port) => Ok(port),
+        Err(error) => Err(io::Error::from(error)),
+    }
+}
+
+/// Where a port is.
+pub fn address(port: &Port) -> SocketAddr {
+    let local = IpAddr::V4(Ipv4Addr::new(127, 0, 0, 1));
+    SocketAddr::new(local, port.number())
 }
 
 /// A connection to a server.

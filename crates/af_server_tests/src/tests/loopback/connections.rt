@@ -1,5 +1,7 @@
 //! Bytes of answers through real sockets, and what two connections see of one another.
-use crate::tests::loopback::client::{comes, comes_last, connected, listener, send, send_last};
+use crate::tests::loopback::client::{
+    address, comes, comes_last, connected, port, send, send_last,
+};
 use crate::tests::loopback::running::beside;
 use crate::tests::loopback::texts::{
     ADAM_ASKS_DAGS, ASKS_DAGS, ASKS_VERSION, DAGS, DAGS_SINCE, DEMOTED, DEMOTES, NO_DAGS, VERSION,
@@ -36,11 +38,11 @@ fn asks_twice<R: Net<Stream = TcpStream>>(
 
 #[test]
 fn answers_come_byte_for_byte(rt: HostRuntime) -> Result<(), Fail> {
-    let (alloc, listener) = (rt.alloc(), listener(&rt)?);
-    let server = listener.local_addr()?;
+    let (alloc, port) = (rt.alloc(), port(&rt)?);
+    let server = address(&port);
     let workers = Workers::new(Open, 1);
     let clients = || asks_twice(&rt, alloc, server);
-    beside(&rt, alloc, &workers, &listener, 1, clients, 1)
+    beside(&rt, alloc, &workers, &port, 1, clients, 1)
 }
 
 /// adam's connection is the first, vera's the second.
@@ -65,9 +67,9 @@ fn both_demote<R: Net<Stream = TcpStream>>(
 
 #[test]
 fn a_version_decides_what_is_asked_next_on_another_connection(rt: HostRuntime) -> Result<(), Fail> {
-    let (alloc, listener) = (rt.alloc(), listener(&rt)?);
-    let server = listener.local_addr()?;
+    let (alloc, port) = (rt.alloc(), port(&rt)?);
+    let server = address(&port);
     let workers = Workers::new(Open, 2);
     let clients = || both_demote(&rt, alloc, server);
-    beside(&rt, alloc, &workers, &listener, 1, clients, 2)
+    beside(&rt, alloc, &workers, &port, 1, clients, 2)
 }

@@ -4,11 +4,10 @@ ghost use Rattle.af_plane.specs.Names.{IsOfName};
 
 use crate::tests::BASE;
 use crate::tests::asserts::holds;
-use af_plane::{Named, Parts};
-use af_server::{Attendance, Configuration, Gate, Hub, Machine, Server, Shared, Workers};
+use af_plane::{Control, Named, Parts};
+use af_server::{Attendance, Configuration, Gate, Leave, Machine, Port, Server, Shared, Workers};
 use std::alloc::Global;
 use std::marker::Brand;
-use std::net::TcpListener;
 use std::process::Abort;
 use std::sync::Wait;
 use std::test::Fail;
@@ -21,15 +20,18 @@ type Ended = (Attendance, io::Result<bool>);
 /// Serves so many connections with each worker, while the clients do what they do.
 fn serve_shared<
     G: Gate + Sync,
-    C: Shared + Sync,
+    T,
+    C: Shared<T> + Sync,
+    D: Leave<T> + Sync,
     R: Threads + Wait + Machine + Sync,
     F: FnOnce() -> io::Result<bool>,
 >(
     rt: &R,
     alloc: Global,
     shared: &C,
+    door: &D,
     workers: &Workers<G>,
-    listener: &TcpListener,
+    port: &Port,
     connections: u32,
     clients: F,
 ) -> Ended
@@ -37,7 +39,7 @@ fn serve_shared<
 {
     thread::join(
         rt,
-        || workers.run(rt, alloc, shared, listener, Some(connections)),
+        || workers.run(rt, alloc, shared, door, port, Some(connections)),
         clients,
     )
 }
@@ -53,7 +55,7 @@ fn serve<
     alloc: Global,
     parts: Parts,
     workers: &Workers<G>,
-    listener: &TcpListener,
+    port: &Port,
     connections: u32,
     clients: F,
 ) -> Ended
@@ -61,8 +63,17 @@ fn serve<
     requires plane { IsOfName N.name parts.plane }
     requires clients { F.pre clients }
 {
-    let hub = Hub::<N>::of(parts);
-    serve_shared(rt, alloc, &hub, workers, listener, connections, clients)
+    let (control, door) = Control::<N>::of(parts);
+    serve_shared(
+        rt,
+        alloc,
+        &control,
+        &door,
+        workers,
+        port,
+        connections,
+        clients,
+    )
 }
 
 /// What the sample configuration opens with.
@@ -94,7 +105,7 @@ pub fn beside<
     rt: &R,
     alloc: Global,
     workers: &Workers<G>,
-    listener: &TcpListener,
+    port: &Port,
     connections: u32,
     clients: F,
     total: u64,
@@ -107,7 +118,7 @@ pub fn beside<
         alloc,
         parts,
         workers,
-        listener,
+        port,
         connections,
         clients,
     );

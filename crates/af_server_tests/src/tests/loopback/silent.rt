@@ -1,5 +1,5 @@
 //! A peer that sends nothing does not keep its worker.
-use crate::tests::loopback::client::{asked, comes_last, connected, listener};
+use crate::tests::loopback::client::{address, asked, comes_last, connected, port};
 use crate::tests::loopback::running::beside;
 use crate::tests::loopback::texts::{ASKS_DAGS, DAGS};
 use af_server::{Open, Workers};
@@ -27,9 +27,9 @@ fn one_is_silent<R: Net<Stream = TcpStream>>(
 
 #[test]
 fn a_silent_peer_is_left(rt: HostRuntime) -> Result<(), Fail> {
-    let (alloc, listener) = (rt.alloc(), listener(&rt)?);
-    let server = listener.local_addr()?;
+    let (alloc, port) = (rt.alloc(), port(&rt)?);
+    let server = address(&port);
     let workers = Workers::new(Open, 1).with_patience(Duration::from_millis(PATIENCE));
     let clients = || one_is_silent(&rt, alloc, server);
-    beside(&rt, alloc, &workers, &listener, 2, clients, 2)
+    beside(&rt, alloc, &workers, &port, 2, clients, 2)
 }

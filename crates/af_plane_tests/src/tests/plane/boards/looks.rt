@@ -82,7 +82,7 @@ fn publishes_between(
 fn an_act_is_decided_under_the_version_of_its_look(rt: HostRuntime) -> Result<(), Fail> {
     let alloc = rt.alloc();
     let (policy, state) = opened(alloc, OF_PLANES, Dags::OnlyB)?;
-    let Parts { board, mut plane } = Parts::open(alloc, policy, 9, state, 9)?;
+    let (board, mut plane) = Parts::open(alloc, policy, 9, state, 9)?.apart();
     let mut session = plane.session(&board);
     let held = publishes_between(&rt, alloc, &board, &mut plane, &mut session);
     drop(plane);

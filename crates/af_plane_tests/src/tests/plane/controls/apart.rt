@@ -69,25 +69,49 @@ impl<N: Named> Heard for (Control<N>, Door<N>) {
         who: Who,
         story: Story,
     ) -> Result<usize, AllocError> {
+        let (control, door) = self;
         if !turns.comes(first_step(who)) {
+            turns.end();
             return Ok(0);
         }
-        let (control, door) = self;
-        let mut visitor = control.session(rt, door);
+        let mut visitor = control.session(rt, door.ticket());
         turns.done();
         let mut told = 0usize;
         for (row, step) in story.rows().iter().copied().zip(SESSIONS..) {
             if row.0 != who {
                 continue;
             }
-            let goes = turns.comes(step) && goes(rt, alloc, control, &mut visitor, row)?;
-            turns.done();
-            if !goes {
+            let goes = goes_at(rt, alloc, control, &mut visitor, turns, step, row);
+            if goes != Ok(true) {
+                turns.end();
+                goes?;
                 return Ok(told);
             }
+            turns.done();
             told = told.saturating_add(1);
         }
         Ok(told)
+    }
+}
+
+/// Whether a row goes as it says when it is its turn.
+fn goes_at<N: Named, R: Wait>(
+    rt: &R,
+    alloc: Global,
+    control: &Control<N>,
+    visitor: &mut Visitor<N>,
+    turns: &Turns,
+    step: usize,
+    row: Row,
+) -> Result<bool, AllocError> {
+    Ok(turns.comes(step) && goes(rt, alloc, control, visitor, row)?)
+}
+
+/// Whether an answer is what a row says.
+fn is_row(gave: &Served, row: told::Row) -> Result<bool, AllocError> {
+    match gave {
+        Served::Shown(shown) => Ok(is_shown(shown, row)),
+        Served::NothingDone => Err(AllocError),
     }
 }
 
@@ -108,12 +132,9 @@ fn is_told<N: Named, R: Wait>(
     };
     let gave = answered(rt, alloc, control, visitor, token(asked.0), &call, at);
     drop(call);
-    let is_told = match &gave {
-        Served::Shown(shown) => is_shown(shown, row),
-        Served::NothingDone => false,
-    };
+    let is_row = is_row(&gave, row);
     drop(gave);
-    Ok(is_told)
+    is_row
 }
 
 /// Whether a row in which a user asks goes as it says.

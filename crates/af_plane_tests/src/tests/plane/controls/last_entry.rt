@@ -4,6 +4,7 @@ ghost use Rattle.af_plane.specs.Names.{IsOfName};
 
 use crate::tests::plane::calls::{Asked, read_asked};
 use crate::tests::plane::controls::asking::answered;
+use crate::tests::plane::controls::rows::{B_PAUSED, C_PAUSED};
 use crate::tests::plane::playing::token;
 use crate::tests::plane::told::{Row, is_shown};
 use af_names::Instant;
@@ -22,7 +23,7 @@ const FULL: &str =
     r#"{"detail":"history full","status":507,"title":"Insufficient Storage","type":"about:blank"}"#;
 
 /// What the first thread may be told: that b is paused, or that there is no room.
-const OF_B: &[Row] = &[
+pub const OF_B: &[Row] = &[
     (
         PAUSE_B,
         Status::Ok,
@@ -38,7 +39,7 @@ const OF_B: &[Row] = &[
 ];
 
 /// What the second may be told: the same of c.
-const OF_C: &[Row] = &[
+pub const OF_C: &[Row] = &[
     (
         PAUSE_C,
         Status::Ok,
@@ -55,8 +56,10 @@ const OF_C: &[Row] = &[
 
 const LIST_LOGS: Asked = ("admin", Endpoint::ListEntries, &[], "");
 
-/// What a third session is told then: the entry is of the first thread, or of the second.
-const OF_BOTH: &[Row] = &[
+const LIST_DAGS: Asked = ("admin", Endpoint::ListDags, &[], "");
+
+/// What is told then of the event logs: the entry is of the first thread, or of the second.
+pub const LOGS: &[Row] = &[
     (
         LIST_LOGS,
         Status::Ok,
@@ -69,6 +72,12 @@ const OF_BOTH: &[Row] = &[
         (Some(0), Some(1)),
         r#"{"event_logs":[{"dag_id":"c","event":"patch_dag","event_log_id":1,"owner":"uma","policy_version":0,"run_id":null,"task_id":null,"when":"2024-01-01T00:00:00+00:00"}],"total_entries":1}"#,
     ),
+];
+
+/// And of the DAGs: the one that is paused is of the first thread, or of the second.
+pub const DAGS: &[Row] = &[
+    (LIST_DAGS, Status::Ok, (Some(0), Some(1)), B_PAUSED),
+    (LIST_DAGS, Status::Ok, (Some(0), Some(1)), C_PAUSED),
 ];
 
 /// The number of the first of these rows that says what is told.
@@ -85,7 +94,7 @@ fn place_of(gave: &Served, rows: &[Row]) -> Result<Option<usize>, AllocError> {
 }
 
 /// What threads share, each of which asks in a session of its own.
-trait Heard {
+pub trait Heard {
     /// Asks this in a new session, in January.
     fn given<R: Wait>(
         &self,
@@ -109,7 +118,7 @@ impl<N: Named> Heard for (Control<N>, Door<N>) {
             return Ok(None);
         };
         let (control, door) = self;
-        let mut visitor = control.session(rt, door);
+        let mut visitor = control.session(rt, door.ticket());
         let gave = answered(rt, alloc, control, &mut visitor, token(asked.0), &call, at);
         drop(call);
         drop(visitor);
@@ -118,7 +127,7 @@ impl<N: Named> Heard for (Control<N>, Door<N>) {
 }
 
 /// Asks what the first of these rows asks, which all of them do: the number of the row that says what is told.
-fn told<C: Heard, R: Wait>(
+pub fn told<C: Heard, R: Wait>(
     rt: &R,
     alloc: Global,
     shared: &C,
@@ -135,14 +144,14 @@ fn told<C: Heard, R: Wait>(
     place
 }
 
-/// Which row each thread is told, and then the third session.
-pub type Told = [Option<usize>; 3];
+/// Which row each thread is told, and then, in further sessions, of the event logs and of the DAGs.
+pub type Told = [Option<usize>; 4];
 
 /// The first thread makes the change.
-pub const FIRST: Told = [Some(0), Some(1), Some(0)];
+pub const FIRST: Told = [Some(0), Some(1), Some(0), Some(0)];
 
 /// The second does.
-pub const SECOND: Told = [Some(1), Some(0), Some(1)];
+pub const SECOND: Told = [Some(1), Some(0), Some(1), Some(1)];
 
 /// Each change in a thread of its own, and what stands when both have ended.
 fn in_threads<C: Heard + Sync, R: Threads + Wait + Sync>(
@@ -155,7 +164,9 @@ fn in_threads<C: Heard + Sync, R: Threads + Wait + Sync>(
         || told(rt, alloc, shared, OF_B),
         || told(rt, alloc, shared, OF_C),
     );
-    Ok([first?, second?, told(rt, alloc, shared, OF_BOTH)?])
+    let logs = told(rt, alloc, shared, LOGS)?;
+    let dags = told(rt, alloc, shared, DAGS)?;
+    Ok([first?, second?, logs, dags])
 }
 
 /// The same, over a control of these parts.

@@ -34,8 +34,8 @@ impl<N: Named> Pair<N> {
         requires plane { IsOfName N.name parts.plane }
     {
         let (control, door) = Control::<N>::of(parts);
-        let first = control.session(rt, &door);
-        let second = control.session(rt, &door);
+        let first = control.session(rt, door.ticket());
+        let second = control.session(rt, door.ticket());
         Pair {
             control,
             first,

@@ -10,6 +10,14 @@ use af_sched::{Outcome, ReportFault};
 pub const THREE: &str =
     r#"{"dags":[{"dag_id":"a","is_paused":true,"max_active_runs":16,"next_dagrun":null,"schedule_interval":null},{"dag_id":"b","is_paused":false,"max_active_runs":16,"next_dagrun":null,"schedule_interval":null},{"dag_id":"c","is_paused":false,"max_active_runs":16,"next_dagrun":null,"schedule_interval":null}],"total_entries":3}"#;
 
+/// The same, where b is paused.
+pub const B_PAUSED: &str =
+    r#"{"dags":[{"dag_id":"a","is_paused":true,"max_active_runs":16,"next_dagrun":null,"schedule_interval":null},{"dag_id":"b","is_paused":true,"max_active_runs":16,"next_dagrun":null,"schedule_interval":null},{"dag_id":"c","is_paused":false,"max_active_runs":16,"next_dagrun":null,"schedule_interval":null}],"total_entries":3}"#;
+
+/// The same, where c is paused.
+pub const C_PAUSED: &str =
+    r#"{"dags":[{"dag_id":"a","is_paused":true,"max_active_runs":16,"next_dagrun":null,"schedule_interval":null},{"dag_id":"b","is_paused":false,"max_active_runs":16,"next_dagrun":null,"schedule_interval":null},{"dag_id":"c","is_paused":true,"max_active_runs":16,"next_dagrun":null,"schedule_interval":null}],"total_entries":3}"#;
+
 const NO_DAGS: &str =
     r#"{"detail":"missing permission DAGs.can_read","status":403,"title":"Forbidden","type":"about:blank"}"#;
 
@@ -53,7 +61,8 @@ pub const DEMOTED: &[Row] = &[
 
 const PAUSE: Asked = ("abc", Endpoint::PauseDag, &["b"], r#"{"is_paused":true}"#);
 
-const PAUSED: &str =
+/// b, where it is paused.
+pub const PAUSED: &str =
     r#"{"dag_id":"b","is_paused":true,"max_active_runs":16,"next_dagrun":null,"schedule_interval":null}"#;
 
 const LOGS: &str =

@@ -6,8 +6,8 @@ use crate::tests::plane::asserts::story_holds;
 use crate::tests::plane::calls::Asked;
 use crate::tests::plane::controls::pair::{Pair, Who};
 use crate::tests::plane::controls::playing::{Row, Step, asks, given};
-use crate::tests::plane::controls::rows::{DEMOTED, THREE};
-use crate::tests::plane::memory::outcome::{Outcome, outcome_of};
+use crate::tests::plane::controls::rows::{B_PAUSED, DEMOTED, PAUSED, THREE};
+use crate::tests::plane::memory::outcome::{Outcome, once_refused, outcome_of};
 use crate::tests::plane::opening::{Dags, opened};
 use crate::tests::plane::told;
 use crate::tests::plane::users::OF_SAMPLE;
@@ -16,6 +16,7 @@ use af_ops::{Endpoint, Status};
 use af_plane::{Named, Parts};
 use std::alloc::Global;
 use std::marker::Brand;
+use std::process::Abort;
 use std::sync::Wait;
 use std::test::*;
 
@@ -23,8 +24,26 @@ const LIST_LOGS: Asked = ("admin", Endpoint::ListEntries, &[], "");
 
 const LIST_DAGS: Asked = ("admin", Endpoint::ListDags, &[], "");
 
-/// There is no entry afterwards, no other version, and the state is as it was.
-const AFTER: &[Row] = &[
+const LIST_RUNS: Asked = ("admin", Endpoint::ListRuns, &["~"], "");
+
+const LIST_POOLS: Asked = ("admin", Endpoint::ListPools, &[], "");
+
+const LIST_VARIABLES: Asked = ("admin", Endpoint::ListVariables, &[], "");
+
+const PAUSE: Asked = ("admin", Endpoint::PauseDag, &["b"], r#"{"is_paused":true}"#);
+
+const LOGS: &str =
+    r#"{"event_logs":[{"dag_id":"b","event":"patch_dag","event_log_id":1,"owner":"adam","policy_version":1,"run_id":null,"task_id":null,"when":"2024-01-01T00:00:00+00:00"}],"total_entries":1}"#;
+
+const NO_RUNS: &str = r#"{"dag_runs":[],"total_entries":0}"#;
+
+const POOLS: &str =
+    r#"{"pools":[{"name":"default_pool","occupied_slots":0,"open_slots":128,"queued_slots":0,"running_slots":0,"slots":128}],"total_entries":1}"#;
+
+const NO_VARIABLES: &str = r#"{"total_entries":0,"variables":[]}"#;
+
+/// There is no entry yet, no other version, and the state is as it was.
+const UNCHANGED: &[Row] = &[
     (
         Who::First,
         Step::Ask((
@@ -42,24 +61,63 @@ const AFTER: &[Row] = &[
     ),
 ];
 
+/// adam pauses b. There is one entry then, no other version, and all else is as it was.
+const AFTER: &[Row] = &[
+    (
+        Who::First,
+        Step::Ask((PAUSE, Status::Ok, (Some(1), Some(1)), PAUSED)),
+        (1, 1),
+    ),
+    (
+        Who::First,
+        Step::Ask((LIST_LOGS, Status::Ok, (Some(1), Some(1)), LOGS)),
+        (1, 1),
+    ),
+    (
+        Who::Second,
+        Step::Ask((LIST_DAGS, Status::Ok, (Some(1), Some(1)), B_PAUSED)),
+        (1, 1),
+    ),
+    (
+        Who::Second,
+        Step::Ask((LIST_RUNS, Status::Ok, (Some(1), Some(1)), NO_RUNS)),
+        (1, 1),
+    ),
+    (
+        Who::First,
+        Step::Ask((LIST_POOLS, Status::Ok, (Some(1), Some(1)), POOLS)),
+        (1, 1),
+    ),
+    (
+        Who::First,
+        Step::Ask((LIST_VARIABLES, Status::Ok, (Some(1), Some(1)), NO_VARIABLES)),
+        (1, 1),
+    ),
+];
+
 /// What a control is made of, over the sample configuration; none where opening it was refused memory.
 fn parts(alloc: Global) -> Result<Option<Parts>, Fail> {
     let (policy, state) = opened(alloc, OF_SAMPLE, Dags::Three)?;
     Ok(Parts::open(alloc, policy, 9, state, 20).ok())
 }
 
-/// The same, opened again where that was refused.
-fn parts_again(alloc: Global) -> Result<Parts, Fail> {
-    if let Some(parts) = parts(alloc)? {
-        return Ok(parts);
-    }
-    match parts(alloc)? {
+/// The same after it was refused.
+fn other_parts(rt: &impl Abort, alloc: Global) -> Result<Parts, Fail> {
+    match once_refused(rt, true, parts(alloc))? {
         Some(parts) => Ok(parts),
-        None => Err(Fail::new("a control: OutOfMemory")),
+        None => Err(Fail::new("a control is not opened")),
     }
 }
 
-/// Whether a session is told what a row says. Where there was no memory for that, it asks again.
+/// What a control is made of, and whether opening it was refused memory before.
+fn parts_again(rt: &impl Abort, alloc: Global) -> Result<(Parts, bool), Fail> {
+    match parts(alloc)? {
+        Some(parts) => Ok((parts, false)),
+        None => Ok((other_parts(rt, alloc)?, true)),
+    }
+}
+
+/// Whether a session is told what a row says. Where there was no memory for that, it asks again, if none was refused before.
 fn asks_again<N: Named, R: Wait>(
     rt: &R,
     alloc: Global,
@@ -67,14 +125,18 @@ fn asks_again<N: Named, R: Wait>(
     who: Who,
     row: told::Row,
     at: Instant,
+    was_refused: &mut bool,
 ) -> Result<bool, Fail> {
     let gave = given(rt, alloc, pair, who, row, at)?;
     let outcome = outcome_of(&gave, row);
     drop(gave);
     match outcome {
         Outcome::Told => Ok(true),
-        Outcome::NothingDone => asks(rt, alloc, pair, who, row, at),
-        Outcome::Other => Ok(false),
+        Outcome::NothingDone if !*was_refused => {
+            *was_refused = true;
+            asks(rt, alloc, pair, who, row, at)
+        }
+        _ => Ok(false),
     }
 }
 
@@ -85,62 +147,79 @@ fn goes<N: Named, R: Wait>(
     pair: &mut Pair<N>,
     row: Row,
     at: Instant,
+    was_refused: &mut bool,
 ) -> Result<bool, Fail> {
     let (who, step, seen) = row;
     match step {
         Step::Ask(row) => {
-            let is_told = asks_again(rt, alloc, pair, who, row, at)?;
+            let is_told = asks_again(rt, alloc, pair, who, row, at, was_refused)?;
             Ok(is_told && pair.seen(who) == seen)
         }
         _ => Ok(false),
     }
 }
 
-/// How many of these rows go as they say, in January, up to the first that does not.
-fn played<N: Named, R: Wait>(
+/// How many of these rows go as they say, in January, up to the first that does not. Where memory was refused before, there is memory for
+/// each row.
+fn played<N: Named, R: Abort + Wait>(
     rt: &R,
     alloc: Global,
     pair: &mut Pair<N>,
     rows: &[Row],
+    was_refused: &mut bool,
 ) -> Result<usize, Fail> {
     let at = Instant::read("2024-01-01T00:00:00Z")?;
     for (place, row) in rows.iter().enumerate() {
-        if !goes(rt, alloc, pair, *row, at)? {
+        let goes = goes(rt, alloc, pair, *row, at, was_refused);
+        if !once_refused(rt, *was_refused, goes)? {
             return Ok(place);
         }
     }
     Ok(rows.len())
 }
 
-/// How many rows go as they say while vera is demoted, and after it.
-type Told = (usize, usize);
+/// How many rows go as they say while vera is demoted, before b is paused, and then.
+type Told = [usize; 3];
 
-fn both_played<N: Named, R: Wait>(rt: &R, alloc: Global, pair: &mut Pair<N>) -> Result<Told, Fail> {
-    let told = played(rt, alloc, pair, DEMOTED)?;
-    Ok((told, played(rt, alloc, pair, AFTER)?))
+fn all_played<N: Named, R: Abort + Wait>(
+    rt: &R,
+    alloc: Global,
+    pair: &mut Pair<N>,
+    mut was_refused: bool,
+) -> Result<Told, Fail> {
+    let demoted = played(rt, alloc, pair, DEMOTED, &mut was_refused)?;
+    let unchanged = played(rt, alloc, pair, UNCHANGED, &mut was_refused)?;
+    let after = played(rt, alloc, pair, AFTER, &mut was_refused)?;
+    Ok([demoted, unchanged, after])
 }
 
 /// The same with two sessions over a control of these parts.
-fn demoted<N: Named, R: Wait>(rt: &R, alloc: Global, parts: Parts) -> Result<Told, Fail>
+fn demoted<N: Named, R: Abort + Wait>(
+    rt: &R,
+    alloc: Global,
+    parts: Parts,
+    was_refused: bool,
+) -> Result<Told, Fail>
     requires board { parts.board ≡ N.name.site }
     requires plane { IsOfName N.name parts.plane }
 {
     let mut pair = Pair::<N>::open(rt, alloc, parts);
-    let told = both_played(rt, alloc, &mut pair);
+    let told = all_played(rt, alloc, &mut pair, was_refused);
     drop(pair);
     told
 }
 
 /// The same over the sample. The name is picked here.
-fn demoted_in_sample<R: Wait>(rt: &R, alloc: Global) -> Result<Told, Fail> {
-    let parts = parts_again(alloc)?;
-    demoted::<Brand, R>(rt, alloc, parts)
+fn demoted_in_sample<R: Abort + Wait>(rt: &R, alloc: Global) -> Result<Told, Fail> {
+    let (parts, was_refused) = parts_again(rt, alloc)?;
+    demoted::<Brand, R>(rt, alloc, parts, was_refused)
 }
 
 #[test]
 fn calls_of_two_users_are_answered_or_nothing_is_done(rt: HostRuntime) -> Result<(), Fail> {
-    let (told, after) = demoted_in_sample(&rt, rt.alloc())?;
-    story_holds(&rt, told, DEMOTED.len(), "vera is demoted");
-    story_holds(&rt, after, AFTER.len(), "what stands then");
+    let [demoted, unchanged, after] = demoted_in_sample(&rt, rt.alloc())?;
+    story_holds(&rt, demoted, DEMOTED.len(), "vera is demoted");
+    story_holds(&rt, unchanged, UNCHANGED.len(), "what stands then");
+    story_holds(&rt, after, AFTER.len(), "b is paused");
     Ok(())
 }

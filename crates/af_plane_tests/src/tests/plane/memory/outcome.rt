@@ -1,4 +1,5 @@
 //! What comes of a request for which there may be no memory.
+use crate::tests::plane::asserts::holds;
 use crate::tests::plane::audit::same::is_same;
 use crate::tests::plane::opening::{Dags, state};
 use crate::tests::plane::told::{Row, is_shown};
@@ -6,6 +7,7 @@ use af_audit::replay;
 use af_ops::Served;
 use af_plane::Plane;
 use std::alloc::Global;
+use std::process::Abort;
 use std::test::Fail;
 
 /// What comes of a request.
@@ -25,6 +27,17 @@ pub fn outcome_of(gave: &Served, row: Row) -> Outcome {
         Served::Shown(_) => Outcome::Other,
         Served::NothingDone => Outcome::NothingDone,
     }
+}
+
+/// What is told, where memory may have been refused before. It is refused once a run: where it was, there is memory for all that comes then, and
+/// an error ends the test, in words that do not say that memory was missed.
+pub fn once_refused<T>(
+    rt: &impl Abort,
+    was_refused: bool,
+    told: Result<T, Fail>,
+) -> Result<T, Fail> {
+    holds(rt, told.is_ok() || !was_refused, "an error after a refusal");
+    told
 }
 
 /// Whether the entries of a plane make its state of these DAGs, with which it opened.

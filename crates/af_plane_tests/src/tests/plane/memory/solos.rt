@@ -1,7 +1,7 @@
 //! Changes that a server for one thread makes: of the state, and of the policy.
 use crate::tests::plane::asserts::holds;
 use crate::tests::plane::calls::Asked;
-use crate::tests::plane::memory::outcome::{Outcome, is_replay, outcome_of};
+use crate::tests::plane::memory::outcome::{Outcome, is_replay, once_refused, outcome_of};
 use crate::tests::plane::opening::{Dags, opened};
 use crate::tests::plane::solos::playing::{answer, answered};
 use crate::tests::plane::told::Row;
@@ -126,24 +126,34 @@ fn tried(rt: &impl Wait, alloc: Global, solo: &mut Solo, row: Row) -> Result<Out
     Ok(outcome)
 }
 
-/// What is told after a change of which this came.
-fn rows_after(change: Change, outcome: Outcome) -> Option<&'static [Row]> {
-    match outcome {
-        Outcome::Told => Some(change.made),
-        Outcome::NothingDone => Some(change.not_made),
-        Outcome::Other => None,
-    }
+/// Whether the entries make the state.
+fn is_made_again(alloc: Global, solo: &Solo) -> Result<bool, Fail> {
+    is_replay(alloc, solo.plane(), Dags::Three)
+}
+
+/// Whether the entries make the state, these rows go as they say, and the entries then make the state too.
+fn stands(rt: &impl Wait, alloc: Global, solo: &mut Solo, rows: &[Row]) -> Result<bool, Fail> {
+    let before = is_made_again(alloc, solo)?;
+    let told = answered(rt, alloc, solo, rows)?;
+    let after = is_made_again(alloc, solo)?;
+    Ok(before && told == rows.len() && after)
 }
 
 /// Whether a change is made whole, or not at all.
-fn goes(rt: &impl Wait, alloc: Global, solo: &mut Solo, change: Change) -> Result<bool, Fail> {
-    let outcome = tried(rt, alloc, solo, change.row)?;
-    let Some(rows) = rows_after(change, outcome) else {
-        return Ok(false);
-    };
-    let told = answered(rt, alloc, solo, rows)?;
-    let is_replay = is_replay(alloc, solo.plane(), Dags::Three)?;
-    Ok(told == rows.len() && is_replay)
+fn goes(
+    rt: &(impl Abort + Wait),
+    alloc: Global,
+    solo: &mut Solo,
+    change: Change,
+) -> Result<bool, Fail> {
+    match tried(rt, alloc, solo, change.row)? {
+        Outcome::Told => stands(rt, alloc, solo, change.made),
+        Outcome::NothingDone => {
+            let stands = stands(rt, alloc, solo, change.not_made);
+            once_refused(rt, true, stands)
+        }
+        Outcome::Other => Ok(false),
+    }
 }
 
 /// Ends the test where a change is made in part.

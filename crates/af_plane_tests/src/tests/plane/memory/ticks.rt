@@ -1,12 +1,13 @@
 //! A tick at which the run of a month is due.
 use crate::tests::plane::asserts::holds;
 use crate::tests::plane::due::{OF_FEBRUARY, has_made, is_at};
-use crate::tests::plane::memory::outcome::is_replay;
+use crate::tests::plane::memory::outcome::{is_replay, once_refused};
 use crate::tests::plane::opening::{Dags, MONTHLY};
 use crate::tests::plane::playing::{By, Player, Row, Step, make_player, played};
 use af_audit::AuditFault;
 use af_names::Instant;
 use std::alloc::Global;
+use std::process::Abort;
 use std::test::*;
 
 /// The last microsecond of February.
@@ -36,47 +37,46 @@ fn is_made(player: &Player) -> Result<bool, Fail> {
     Ok(is_at(player, OF_FEBRUARY.2)? && has_made)
 }
 
-/// What should come after a tick; none where it is as it should not be.
-fn rows_after(
-    player: &Player,
-    told: Result<bool, AuditFault>,
-) -> Result<Option<&'static [Row]>, Fail> {
-    let (is_so, rows) = match told {
-        Ok(true) => (is_made(player)?, MADE),
-        Err(AuditFault::OutOfMemory) => (is_untouched(player)?, NOT_MADE),
-        _ => (false, MADE),
-    };
-    Ok(if is_so { Some(rows) } else { None })
-}
-
-/// Whether the tick in March makes the run of February, or leaves all as it was.
-fn ticks(alloc: Global, player: &mut Player) -> Result<Option<&'static [Row]>, Fail> {
-    let march = Instant::read(MARCH)?;
-    let told = player.plane.tick(alloc, march);
-    rows_after(player, told)
-}
-
 /// Whether these rows go as they say, the run of February is then made, and the entries make the state.
-fn stands(alloc: Global, player: &mut Player, rows: &[Row]) -> Result<bool, Fail> {
+fn goes_on(alloc: Global, player: &mut Player, rows: &[Row]) -> Result<bool, Fail> {
     let told = played(alloc, player, rows)?;
     let is_made = is_made(player)?;
     let is_replay = is_replay(alloc, &player.plane, Dags::AndDue(MONTHLY))?;
     Ok(told == rows.len() && is_made && is_replay)
 }
 
-/// Whether a player that is not due before March goes so.
-fn goes(alloc: Global, player: &mut Player) -> Result<bool, Fail> {
-    let told = played(alloc, player, BEFORE)?;
-    match ticks(alloc, player)? {
-        Some(rows) => Ok(stands(alloc, player, rows)? && told == BEFORE.len()),
-        None => Ok(false),
+/// Whether the run is made once.
+fn stands_made(alloc: Global, player: &mut Player) -> Result<bool, Fail> {
+    let is_made = is_made(player)?;
+    Ok(is_made && goes_on(alloc, player, MADE)?)
+}
+
+/// Whether nothing is done yet, and the run is made then.
+fn stands_not_made(alloc: Global, player: &mut Player) -> Result<bool, Fail> {
+    let is_untouched = is_untouched(player)?;
+    Ok(is_untouched && goes_on(alloc, player, NOT_MADE)?)
+}
+
+/// Whether the tick in March makes the run of February, or leaves all as it was.
+fn ticks(rt: &impl Abort, alloc: Global, player: &mut Player) -> Result<bool, Fail> {
+    let march = Instant::read(MARCH)?;
+    match player.plane.tick(alloc, march) {
+        Ok(true) => stands_made(alloc, player),
+        Err(AuditFault::OutOfMemory) => once_refused(rt, true, stands_not_made(alloc, player)),
+        _ => Ok(false),
     }
+}
+
+/// Whether a player that is not due before March goes so.
+fn goes(rt: &impl Abort, alloc: Global, player: &mut Player) -> Result<bool, Fail> {
+    let told = played(alloc, player, BEFORE)?;
+    Ok(told == BEFORE.len() && ticks(rt, alloc, player)?)
 }
 
 #[test]
 fn a_month_is_made_or_nothing_is_done(rt: HostRuntime) -> Result<(), Fail> {
     let mut player = make_player(rt.alloc(), By::Turn, 1_000_000, MONTHLY)?;
-    let goes = goes(rt.alloc(), &mut player);
+    let goes = goes(&rt, rt.alloc(), &mut player);
     drop(player);
     holds(&rt, goes?, "what stands after a tick");
     Ok(())

@@ -65,11 +65,11 @@ fn is_given<R: Wait>(
     solo: &mut Solo,
     question: &Question,
     told: &Shown,
-) -> bool {
+) -> Result<bool, AllocError> {
     let gave = answered(rt, alloc, solo, question);
     let is_given = match shown(&gave) {
-        Some(shown) => are_same(shown, told),
-        None => false,
+        Some(shown) => Ok(are_same(shown, told)),
+        None => Err(AllocError),
     };
     drop(gave);
     is_given
@@ -86,7 +86,7 @@ fn goes<R: Wait>(
     if question.changes && told.seq.is_none() && is_moved(alloc, told)? {
         return Ok(told.version == Some(solo.session().seen().0));
     }
-    Ok(is_given(rt, alloc, solo, question, told))
+    is_given(rt, alloc, solo, question, told)
 }
 
 /// Whether the call that stands there is answered again as it was.
@@ -126,12 +126,12 @@ pub fn has_body<R: Wait>(
     solo: &mut Solo,
     question: &Question,
     text: Option<&[u8]>,
-) -> bool {
+) -> Result<bool, AllocError> {
     let gave = answered(rt, alloc, solo, question);
-    let is_body = match shown(&gave) {
-        Some(shown) => body(shown) == text,
-        None => false,
+    let has_body = match shown(&gave) {
+        Some(shown) => Ok(text.is_some() && body(shown) == text),
+        None => Err(AllocError),
     };
     drop(gave);
-    text.is_some() && is_body
+    has_body
 }

@@ -31,7 +31,7 @@ impl<N: Named> Heard for (Control<N>, Door<N>) {
         session: usize,
     ) -> Result<Vec<Served>, AllocError> {
         let (control, door) = self;
-        let mut visitor = control.session(rt, door);
+        let mut visitor = control.session(rt, door.ticket());
         let mut told = Vec::new(alloc);
         for number in 0..=CALLS {
             let Some(asked) = make_question(alloc, session, number)? else {
@@ -48,9 +48,17 @@ impl<N: Named> Heard for (Control<N>, Door<N>) {
                 asked.at,
             );
             drop(asked);
-            told.push(gave)?;
+            told.push(with_memory(gave)?)?;
         }
         Ok(told)
+    }
+}
+
+/// An answer, if there was memory for one.
+fn with_memory(gave: Served) -> Result<Served, AllocError> {
+    match gave {
+        Served::NothingDone => Err(AllocError),
+        told => Ok(told),
     }
 }
 
