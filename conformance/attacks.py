@@ -11,6 +11,7 @@ import socket
 import struct
 import threading
 import time
+from concurrent.futures import ThreadPoolExecutor
 
 import with_model  # noqa: F401
 import crowd_cases
@@ -20,9 +21,13 @@ import request_cases
 from config_cases import role_row
 from exchanges import Exchange
 from request_cases import PLAIN, head, sized, with_body
-from serving import ROOM, Client
+from serving import ROOM, Broken, Client
 
 SLEEP = 60  # seconds until an attack is no longer waited for
+# Seconds from the turn of a peer that sends nothing, or takes nothing: from when it may be ended, and when it has to be. Its turn is the moment from which the
+# server gives it ten seconds; how long it waited for a worker before does not count.
+ENDED_AFTER, ENDED_WITHIN = 9.5, 11
+LAST_RECEIVED = 52  # where the kernel's account of a connection says how many milliseconds ago data came
 TOKEN = crowd_cases.token("adam")
 # Changes that would show in the event logs if a part of them were enough.
 CHANGES = [
@@ -49,6 +54,10 @@ PLANE = oracle.Plane(config_of(0))
 
 class Wrong(Exception):
     """What an attack was told, and should not be."""
+
+
+class Untimely(Wrong):
+    """A peer that was ended too early, or too late."""
 
 
 class Turn(random.Random):
@@ -112,6 +121,32 @@ def ask(port, data, pieces=None, pause=0.0, stays=False):
             with contextlib.suppress(OSError):
                 stream.shutdown(socket.SHUT_WR)
         compare(data, all_of(stream))
+
+
+def is_taken(stream):
+    """Asks something, and reads the answer: so a worker has the connection. The moment at which the answer came, which is the peer's turn."""
+    send(stream, PLAIN)
+    came = b""
+    while len(came) < len(model(PLAIN)) and (piece := stream.recv(ROOM)):
+        came += piece
+    compare(PLAIN, came)
+    # (this thread may have been told late, since others run)
+    account = stream.getsockopt(socket.IPPROTO_TCP, socket.TCP_INFO, LAST_RECEIVED + 4)
+    return time.monotonic() - struct.unpack_from("=I", account, LAST_RECEIVED)[0] / 1000
+
+
+def in_time(began, what):
+    """That a peer is ended now, so long after its turn as it should be."""
+    took = time.monotonic() - began
+    if not ENDED_AFTER <= took <= ENDED_WITHIN:
+        raise Untimely(f"{what} was ended {took:.1f} s after its turn, and not between {ENDED_AFTER} and {ENDED_WITHIN} s")
+
+
+def end_of(stream, began):
+    """Waits for the end of a silent peer, whose turn came at a moment; nothing may be told it."""
+    if came := all_of(stream):
+        raise Wrong(f"a silent peer was told {came[:300]!r}")
+    in_time(began, "a silent peer")
 
 
 def compare(data, came):
@@ -246,30 +281,72 @@ def ten_thousand_requests(port, turn):
 
 
 def never_reads(port, turn):
-    """It asks for more than all buffers hold, and is ended."""
+    """It takes one answer. Then it asks for more than all buffers hold, takes nothing, and is ended."""
     with socket.socket() as stream:
+        # (small buffers, also of the server, whose size follows from that of a segment: they are full at once)
         stream.setsockopt(socket.SOL_SOCKET, socket.SO_RCVBUF, 4096)
+        stream.setsockopt(socket.IPPROTO_TCP, socket.TCP_MAXSEG, 536)
         stream.settimeout(SLEEP)
         stream.connect(("127.0.0.1", port))
-        began = time.monotonic()
+        began = is_taken(stream)
         try:
             while time.monotonic() < began + SLEEP:
                 stream.sendall(LONG)
         except (BrokenPipeError, ConnectionResetError):
-            return
+            return in_time(began, "a reader that never reads")
         except OSError as why:
             raise Wrong(f"a reader that never reads is not ended: {why!r}") from why
         raise Wrong("a reader that never reads is not ended")
 
 
+def part_of_a_change(turn):
+    """Nothing, or the beginning of a request."""
+    data = turn.choice(CHANGES)
+    return data[: turn.choice([0, turn.randrange(len(data))])]
+
+
 def silent(port, turn):
-    """It sends nothing, or a part of a request, and is ended."""
+    """It is answered, and then sends nothing, or a part of a request, and is ended."""
     with opened(port) as stream:
-        data = turn.choice(CHANGES)
-        send(stream, data[: turn.choice([0, turn.randrange(len(data))])])
+        began = is_taken(stream)
+        send(stream, part_of_a_change(turn))
+        end_of(stream, began)
+
+
+def silent_from_the_start(port, turn):
+    """It sends nothing, or a part of a request, and is ended. Nobody knows when a worker took it, but that was not before now."""
+    began = time.monotonic()
+    with opened(port) as stream:
+        send(stream, part_of_a_change(turn))
         came = all_of(stream)
     if came:
         raise Wrong(f"a silent peer was told {came[:300]!r}")
+    if (took := time.monotonic() - began) < ENDED_AFTER:
+        raise Untimely(f"a silent peer was ended {took:.1f} s after it came")
+
+
+def each_held(port, workers):
+    """Each worker, all of which are idle, is held by a silent peer. After how many seconds the next client was answered, and what is wrong, or None."""
+    began, took = time.monotonic(), None
+    with contextlib.ExitStack() as kept, ThreadPoolExecutor(workers) as pool:
+        ends = []
+        for number in range(workers):
+            came, stream = time.monotonic(), kept.enter_context(opened(port))
+            data = CHANGES[number % len(CHANGES)]
+            send(stream, data[: (0, 40, len(data) - 1)[number % 3]])
+            ends.append(pool.submit(end_of, stream, came))
+        try:
+            came = time.monotonic()
+            with Client(port, SLEEP) as client:
+                compare(PLAIN, client.ask(PLAIN).answer)
+            took = time.monotonic() - came
+            if took > ENDED_WITHIN or time.monotonic() - began < ENDED_AFTER:
+                raise Wrong(f"the next client was answered after {took:.1f} s")
+            for it in ends:
+                it.result()
+        except (Wrong, Broken, OSError) as why:
+            return took, f"with each of {workers} workers held by a silent peer: {str(why) or repr(why)}"
+    return took, None
 
 
 # ---- All of them ----------------------------------------------------------------------------------------------------
@@ -290,5 +367,6 @@ ATTACKS = [
     (cut_or_random, 300, 2),
     (ten_thousand_requests, 6, 1),
     (never_reads, 4, 4),
-    (silent, 2 * WORKERS, 2 * WORKERS),
+    (silent, WORKERS, WORKERS),
+    (silent_from_the_start, WORKERS, WORKERS),
 ]

@@ -6,15 +6,20 @@
   python3 conformance/many_clients.py --seconds 600 --clients 16 --workers 12
   python3 conformance/many_clients.py --program 'PATH/PROGRAM'
 
-The clients (crowd_cases.py) list, show, pause, trigger, mark, clear and delete, change pools and variables, and read event logs. Two of them change roles and users.
+The clients (crowd_cases.py) list, show, pause, trigger, mark, clear and delete, change pools and variables, and read event logs. Two of them change roles and
+users. Two more connections send many changes of the policy at the same moment, until one of them is told that the policy has moved.
 Meanwhile the server ticks each second, claims and reports. At the end all event logs are read, and history.py says whether every answer is the model's under
-the version and at the number that it names, each change of the policy in order of version, and each of the state in order of number. Ten times the memory of
-the server is looked at, and how many entries and versions there are: it may grow by what these take, and by little else.
+the version and at the number that it names, each change of the policy in order of version, and each of the state in order of number. The server
+has to listen at 127.0.0.1 alone. Ten times the memory of the server is looked at, and how many entries and versions there are: it may grow by what
+these take, and by little else.
 
-The exchanges are kept until they are checked: some 3 KB of memory each, all in all; sixteen clients make some 400,000 in ten minutes. The last line is `N passed, M failed`, N the answers that were compared. The status is 0 only where M is 0. The seed fixes what a client asks for, but not when.
+The exchanges are kept until they are checked: some 3 KB of memory each, all in all; sixteen clients make some 400,000 in ten minutes. The last line is
+`N passed, M failed`, N the answers that were compared. The status is 0 only where M is 0. The seed fixes what a client asks for, but not when. A run of 30
+seconds or more also has to bring entries of each kind, a version, and an answer that the policy has moved.
 """
 import argparse
 import collections
+import contextlib
 import resource
 import shlex
 import shutil
@@ -27,13 +32,17 @@ import crowd_cases
 import growth
 from exchanges import number_in, rows_of_pages
 from history import fault
-from request_cases import head
+from request_cases import head, with_body
 from serving import EMPTY, PROGRAM, Broken, Client, Serving
 
 SECONDS, PAUSE = 120, 0.045  # the mean pause of a client between two writes, in seconds
 LENGTHS = [1, 4, 25, 100, 400, 1000]  # after how many requests a client opens another connection
 NEEDED = ["tick", "claim", "report", "trigger_dag_run", "clear_dag_run", "patch_pool"]  # entries without which so many seconds show little
 LONG = 30
+MOVED = b'"policy moved to version '
+VERSION, MOVE = "a version", "an answer that the policy has moved"  # what it has to bring besides
+# How many changes an administrator sends at once, so many that two who do so at the same moment meet; how often; and how long one may wait for the other.
+AT_ONCE, EVERY, WAITS = 150, 3, 5
 
 
 class Player(threading.Thread):
@@ -64,6 +73,45 @@ class Player(threading.Thread):
                 client.finish()
 
 
+class Rush(threading.Thread):
+    """Two administrators who send many changes of the policy at the same moment, and again, until one is told that the policy has moved."""
+
+    def __init__(self, port, until):
+        super().__init__(daemon=True)
+        self.port, self.until, self.sessions, self.broken = port, until, [], None
+        tokens = [crowd_cases.token(it) for it in ("adam", "zoe")]
+        self.first = [head(b"GET /api/v1/own/me HTTP/1.1", [b"Host: h", b"Authorization: Bearer " + it]) for it in tokens]
+        self.changes = [[with_body(b"PATCH /api/v1/users/ida HTTP/1.1", it, b'{"roles":[{"name":"Auditor"}]}')] * AT_ONCE for it in tokens]
+
+    def run(self):
+        try:
+            while time.monotonic() < self.until and not self.has_met():
+                self.meet()
+                time.sleep(max(0, min(EVERY, self.until - time.monotonic())))
+        except (Broken, OSError) as why:
+            self.broken = f"{why!r} (changes of the policy at once)"
+
+    def has_met(self):
+        return any(MOVED in it.answer for session in self.sessions for it in session)
+
+    def meet(self):
+        """Once both have a worker, each sends all its changes. Where one had to wait long, the other is idle for too long, and neither does."""
+        with contextlib.ExitStack() as kept:
+            both = [kept.enter_context(Client(self.port)) for _ in self.first]
+            found = [both[0].ask_all([self.first[0]])]
+            answered = time.monotonic()
+            found.append(both[1].ask_all([self.first[1]]))
+            self.sessions += found
+            sent = time.monotonic()
+            if sent - answered < WAITS:
+                for client, changes in zip(both, self.changes):
+                    client.send(b"".join(changes))
+                for client, changes, session in zip(both, self.changes, found):
+                    session += client.answers_to(changes, sent)
+            for it in both:
+                it.finish()
+
+
 def all_rows(port, token):
     """The rows of the event logs, and the sessions that read them page by page: a further one where a connection has had its requests."""
     sessions, bodies, count = [], [], 0
@@ -88,6 +136,8 @@ class Played:
     def __init__(self, config, port, guests, seconds):
         until = time.monotonic() + seconds
         threads = [Player(it, port, until) for it in guests]
+        if seconds >= LONG:
+            threads.append(Rush(port, until))
         for it in threads:
             it.start()
         for it in threads:
@@ -111,18 +161,29 @@ class Played:
     def said(self):
         """What the clients met, in lines."""
         events = collections.Counter(it["event"] for it in self.rows)
-        exchanges = [it for session in self.sessions for it in session]
+        exchanges = self.exchanges()
         statuses = collections.Counter(it.answer[9:12].decode() for it in exchanges)
-        moved = sum(b'"policy moved to version ' in it.answer for it in exchanges)
         listed = lambda counts: ", ".join(f"{name} {counts[name]}" for name in sorted(counts))
-        versions = max((number_in(it.answer.partition(EMPTY)[0], b"X-Policy-Version") or 0 for it in exchanges), default=0)
-        yield f"{len(exchanges)} answers on {len(self.sessions)} connections: {listed(statuses)}; {moved} of them that the policy moved"
-        yield f"{versions} versions"
+        yield f"{len(exchanges)} answers on {len(self.sessions)} connections: {listed(statuses)}; {self.moved()} of them that the policy moved"
+        yield f"{self.versions()} versions"
         yield f"{len(self.rows)} entries: {listed(events)}"
 
+    def exchanges(self):
+        return [it for session in self.sessions for it in session]
+
+    def moved(self):
+        return sum(MOVED in it.answer for it in self.exchanges())
+
+    def versions(self):
+        return max((number_in(it.answer.partition(EMPTY)[0], b"X-Policy-Version") or 0 for it in self.exchanges()), default=0)
+
     def lacks(self, seconds):
-        """The entries that so long a time has to have brought, and has not."""
-        return [it for it in NEEDED if it not in {row["event"] for row in self.rows}] if seconds >= LONG else []
+        """What so long a time has to have brought, and has not."""
+        if seconds < LONG:
+            return []
+        came = {row["event"] for row in self.rows}
+        missing = [f"an entry {it}" for it in NEEDED if it not in came]
+        return missing + [VERSION] * (not self.versions()) + [MOVE] * (not self.moved())
 
 
 def main():
@@ -130,7 +191,7 @@ def main():
     parser.add_argument("--program", default=PROGRAM, help="the program and its first words, as a shell would read them")
     parser.add_argument("--seconds", type=float, default=SECONDS)
     parser.add_argument("--seed", default="1")
-    parser.add_argument("--workers", type=int, default=8)
+    parser.add_argument("--workers", type=int, default=8, help=f"two at least where it lasts {LONG} seconds, or no change meets another")
     parser.add_argument("--clients", type=int, default=10)
     asked = parser.parse_args()
     program = shlex.split(asked.program)
@@ -139,6 +200,7 @@ def main():
     config = crowd_cases.config(time.time_ns() // 1000)
     try:
         with Serving(program, config, asked.workers) as server:
+            elsewhere = server.elsewhere()
             with growth.Watch(server, crowd_cases.token("adam"), asked.seconds) as watch:
                 played = Played(config, server.port, crowd_cases.guests(asked.seed, config, asked.clients), asked.seconds)
             played.sessions += watch.sessions
@@ -148,8 +210,8 @@ def main():
     for line in [*played.said(), *watch.said()]:
         print(line, flush=True)
     began = time.monotonic()
-    wrong = [it for it in (played.check(), watch.fault(), server.fault()) if it]
-    wrong += [f"no entry of these kinds came: {', '.join(it)}" for it in [played.lacks(asked.seconds)] if it]
+    wrong = [it for it in (elsewhere, played.check(), watch.fault(), server.fault()) if it]
+    wrong += [f"there was none of these: {', '.join(it)}" for it in [played.lacks(asked.seconds)] if it]
     print(f"checked in {time.monotonic() - began:.0f} s, with {resource.getrusage(resource.RUSAGE_SELF).ru_maxrss / 1024:.0f} MiB of memory at most")
     for it in wrong:
         print(it[:4000])

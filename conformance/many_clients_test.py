@@ -14,9 +14,12 @@ from unittest import mock
 
 import with_model  # noqa: F401
 import crowd_cases
+import many_clients
 import oracle
-from many_clients import Played, all_rows
+from exchanges import Exchange
+from many_clients import MOVE, NEEDED, VERSION, Played, all_rows
 from oracle_names import isoformat
+from oracle_verdict import told
 from serving_test import STAND_IN
 from stand_in import StandIn, moment
 
@@ -39,6 +42,14 @@ class Slow(StandIn):
         if plane.version() > self.plane.version():
             time.sleep(0.02)
         return found
+
+
+class OneByOne(StandIn):
+    """Right, and no change of the policy begins before the one before it is made."""
+
+    def on_policy(self, request, body):
+        with self.lock:
+            return self.decided(self.plane, request, body)
 
 
 class LosesUpdates(StandIn):
@@ -146,10 +157,38 @@ class Crowds(unittest.TestCase):
             self.assertRegex(said, "session|client|event logs|entry", kind.__name__)
 
     def test_what_is_missing(self):
+        """Entries of each kind, a version, and that the policy moved: a long run has to bring all of them, a short one none."""
         it = played(StandIn, seconds=0)
         it.rows = [{"event": "tick"}]
-        self.assertEqual(it.lacks(1), [])
-        self.assertIn("report", it.lacks(120))
+        answer = lambda version, text: Exchange(b"", oracle.answer_text((*told(409, text)[:2], [f"X-Policy-Version: {version}"])))
+        entries = [f"an entry {name}" for name in NEEDED]
+        for sessions, missing in (
+            ([[answer(0, "exists: x")]], [VERSION, MOVE]),
+            ([[answer(0, "exists: x")], [answer(3, "exists: policy moved to version 3")]], [MOVE]),
+            ([[answer(3, "policy moved to version 3")]], []),
+        ):
+            it.sessions = sessions
+            self.assertEqual((it.lacks(1), it.lacks(29.9)), ([], []))
+            self.assertEqual(it.lacks(30), entries[1:] + missing)
+            it.rows = [{"event": name} for name in NEEDED]
+            self.assertEqual(it.lacks(120), missing)
+            it.rows = it.rows[:1]
+
+    def test_changes_at_once(self):
+        """Two administrators who send many changes at the same moment are told that the policy moved; by a server that makes one after another never."""
+        with mock.patch.multiple(many_clients, LONG=0, AT_ONCE=20, EVERY=0.1):
+            for kind, moves in ((Slow, True), (OneByOne, False)):
+                it = played(kind, seconds=1.5)
+                self.assertIsNone(it.check())
+                self.assertGreater(it.versions(), 20)
+                self.assertEqual((it.moved() > 0, MOVE not in it.lacks(1)), (moves, moves))
+        with StandIn(crowd_cases.config(moment()), patience=0.5).listens(1) as port, mock.patch.object(many_clients, "WAITS", 0.1):
+            rush = many_clients.Rush(port, time.monotonic() + 0.1)
+            rush.run()
+            self.assertEqual(([len(it) for it in rush.sessions], rush.broken), ([1, 1], None))
+        rush.until = time.monotonic() + 1
+        rush.run()
+        self.assertRegex(rush.broken, "changes of the policy at once")
 
     def test_the_rows_of_all_pages(self):
         """More entries than a page has, read while more come."""

@@ -7,6 +7,8 @@
   python3 conformance/refusals.py --only clear,roles        the cases with one of these words in their names
   python3 conformance/refusals.py --tests                   each test that `rt test` has built, but those that compare whole answers
   python3 conformance/refusals.py --tests --only memory::   each that has this word in its name: those of modules of this name
+  python3 conformance/refusals.py --tests --only memory:: --least 6         the same, and fewer tests than six are a fault
+  python3 conformance/refusals.py --tests --only threads --most 300         the first 300 allocations of each test; how many were left out is said
 
 A run is refused its first allocation, the next its second, and so on, until a run meets none to refuse. Each is to end in
 one of three ways: as the run with all its memory does, which is as the oracle says; with some of its answers, whole and in
@@ -16,8 +18,10 @@ method that is not there, the 503 comes at the opening alone.
 
 A test is to pass, or to end in the fault that says out of memory and in no other; a run that is refused nothing is to pass. The allocations of all threads are
 counted together, and a test of threads makes more or fewer of them by turns. So only several runs in a row that are refused nothing end the runs of a test.
+Each test that --only names has to pass in one run at least that is refused an allocation: one that never does shows nothing of what stands after a refusal.
 
-The last line is `N passed, M failed`, both numbers of runs, and the status 0 only where M is 0. Without a C compiler (`cc`) the status is 2.
+The last line is `N passed, M failed`, both numbers of runs; a test that shows nothing, or a test too few, counts as one that failed. The status is 0 only
+where M is 0. Without a C compiler (`cc`) the status is 2.
 """
 import argparse
 import glob
@@ -27,6 +31,7 @@ import shlex
 import shutil
 import subprocess
 import sys
+import tempfile
 from concurrent.futures import ThreadPoolExecutor
 
 import with_model  # noqa: F401
@@ -66,26 +71,25 @@ def answers_in(text):
 
 
 def run(program, words, data, library=None, number=0):
-    """Exit status, standard output, standard error, and whether the allocation of that number was asked for. Status None: it did not end."""
+    """Exit status, standard output, standard error, and whether the allocation of that number was refused. Status None: it did not end.
+
+    With number 0 none is refused, and the last is how many were asked for.
+    """
     if library is None:
         it = subprocess.run([*program, *words], input=data, capture_output=True, timeout=SECONDS)
-        return it.returncode, it.stdout, it.stderr, False
-    reader, writer = os.pipe()
-    env = {"LD_PRELOAD": library, "REFUSE": str(number), "REFUSE_FD": str(writer)}
-    try:
-        it = subprocess.run([*program, *words], input=data, capture_output=True, timeout=SECONDS, env=env, pass_fds=[writer])
-        status, out, err = it.returncode, it.stdout, it.stderr
-    except subprocess.TimeoutExpired as why:
-        status, out, err = None, why.stdout or b"", why.stderr or b""
-    finally:
-        os.close(writer)
-    with os.fdopen(reader, "rb") as pipe:
-        met = pipe.read() != b""
-    return status, out, err, met
+        return it.returncode, it.stdout, it.stderr, 0
+    with tempfile.TemporaryFile() as told:
+        env = {"LD_PRELOAD": library, "REFUSE": str(number), "REFUSE_FD": str(told.fileno())}
+        try:
+            it = subprocess.run([*program, *words], input=data, capture_output=True, timeout=SECONDS, env=env, pass_fds=[told.fileno()])
+            status, out, err = it.returncode, it.stdout, it.stderr
+        except subprocess.TimeoutExpired as why:
+            status, out, err = None, why.stdout or b"", why.stderr or b""
+        return status, out, err, os.fstat(told.fileno()).st_size
 
 
 def run_test(program, name, library, number):
-    """Exit status and output of a test, and whether the allocation of that number was asked for."""
+    """Exit status and output of a test, and whether the allocation of that number was refused; with number 0 how many were asked for."""
     status, out, err, met = run([program], [name], b"", library, number)
     return status, out + err, met
 
@@ -98,24 +102,52 @@ IN_PARTS = ("tests::memory::", "tests::operations::")
 OUT_OF_MEMORY = re.compile(rb"(: (\w+\()*(OutOfMemory|AllocError|AllocFailed|Memory)\b|left: \S*(OutOfMemory|Memory|AllocError))")
 
 
+def is_passed(status, text):
+    return status == 0 and b"test result: ok" in text
+
+
 def is_end_of_test(status, text, met):
     """Whether a run of a test ended as it must: it passed, or it was refused an allocation and says so."""
-    return (status == 0 and b"test result: ok" in text) or (met and status in (101, -6) and OUT_OF_MEMORY.search(text) is not None)
+    return is_passed(status, text) or (met and status in (101, -6) and OUT_OF_MEMORY.search(text) is not None)
 
 
-def refuse_each_of_test(program, name, library):
-    """How many runs of a test ended as they must, and how many did not."""
-    right, wrong, number, unmet = 0, 0, 1, 0
-    while unmet < TRIES and wrong < MOST_WRONG and number < MOST:
-        status, text, met = run_test(program, name, library, number)
+class Played:
+    """What the runs of a test came to: how many ended as they must, how many did not, in how many it was refused an allocation and passed, and how many
+    allocations were left out."""
+
+    def __init__(self, program, name, library):
+        self.program, self.name, self.library = program, name, library
+        self.right = self.wrong = self.passed = self.left = 0
+
+    def run(self, number):
+        """One run. Whether the allocation of that number was refused; with number 0 how many were asked for."""
+        status, text, told = run_test(self.program, self.name, self.library, number)
+        met = told if number else 0
         if is_end_of_test(status, text, met):
-            right += 1
+            self.right += 1
         else:
-            wrong += 1
             what = f"allocation {number} refused" if met else "nothing refused"
-            print(f"{name}, {what}: {'it did not end' if status is None else f'status {status}'}, {text[-300:]!r}")
+            self.fail(f"{self.name}, {what}: {'it did not end' if status is None else f'status {status}'}, {text[-300:]!r}")
+        self.passed += met and is_passed(status, text)
+        return told
+
+    def fail(self, why):
+        self.wrong += 1
+        print(why)
+
+
+def refuse_each_of_test(program, name, library, most=MOST, goes_on=False):
+    """Refuses a test so many of its first allocations, in a run each. `goes_on`: it has to pass in one at least of these runs."""
+    it, number, unmet = Played(program, name, library), 1, 0
+    while unmet < TRIES and it.wrong < MOST_WRONG and number <= most:
+        met = it.run(number)
         number, unmet = number + met, 0 if met else unmet + 1
-    return right, wrong
+    if number > most:
+        it.left = max(0, it.run(0) - most)
+    if goes_on and not it.passed:
+        what = f"of {number - 1} runs that were refused an allocation it passed in none" if number > 1 else "it was refused nothing in any run"
+        it.fail(f"{name}: {what}, so it shows nothing of what stands after a refusal")
+    return it
 
 
 def tests_in(program, words):
@@ -134,21 +166,24 @@ def has_word(name, words):
     return any(word in name for word in words)
 
 
-def refuse_tests(library, words, jobs, top=ROOT):
-    """The same of all tests that are built below a folder, so many at a time."""
-    right = wrong = 0
+def refuse_tests(library, words, jobs, least=0, most=MOST, top=ROOT):
+    """The same of all tests that are built below a folder, so many at a time. How many runs ended as they must, and what did not, or lacks."""
+    right = wrong = count = 0
     programs = sorted(glob.glob(os.path.join(top, "crates", "*", "out", "*_tests")))
     with ThreadPoolExecutor(jobs) as lanes:
-        played = [(it, [lanes.submit(refuse_each_of_test, it, name, library) for name in tests_in(it, words)]) for it in programs]
+        played = [(it, [lanes.submit(refuse_each_of_test, it, name, library, most, bool(words)) for name in tests_in(it, words)]) for it in programs]
         for program, tests in played:
-            counts = [it.result() for it in tests]
-            one, other = sum(count[0] for count in counts), sum(count[1] for count in counts)
+            came = [it.result() for it in tests]
+            one, other = sum(it.right for it in came), sum(it.wrong for it in came)
             if tests:
-                print(f"{os.path.basename(program)}: {len(tests)} tests, {one} runs as they must be, {other} not", flush=True)
-            right, wrong = right + one, wrong + other
-    if not right + wrong:
+                left = "".join(f"; of {it.name} {it.left} allocations are left out" for it in came if it.left)
+                print(f"{os.path.basename(program)}: {len(tests)} tests, {one} runs as they must be, {other} not{left}", flush=True)
+            right, wrong, count = right + one, wrong + other, count + len(tests)
+    if not count:
         print(f"refusals: no test {f'with {words} in its name ' if words else ''}is built; `rt test` builds those of a crate")
-    return right, wrong
+    if count < least:
+        print(f"refusals: {count} tests were played, and there have to be {least} at least")
+    return right, wrong + (count < least)
 
 
 def refuse_program(program, library, has, words):
@@ -196,6 +231,9 @@ def refuse_each(program, library, has, name, config, data):
         else:
             wrong += 1
             print(f"{name}, allocation {number} refused: status {status}, {out[-200:]!r}, {err!r}")
+    if not right + wrong:
+        wrong = 1
+        print(f"{name}: no allocation was refused")
     told = ", ".join(f"{count} with {kind}" for kind, count in sorted(kinds.items()))
     print(f"{name}: {right} runs as they must be ({told}), {wrong} not", flush=True)
     return right, wrong
@@ -208,13 +246,17 @@ def main():
     parser.add_argument("--tests", action="store_true", help="the tests of the crates in place of the program")
     parser.add_argument("--only", type=lambda text: text.split(","), default=[], metavar="WORD,..", help="the cases, or tests, with one of these words in their names")
     parser.add_argument("--jobs", type=int, default=1, metavar="N", help="how many tests are played at a time")
+    parser.add_argument("--least", type=int, default=0, metavar="N", help="how many tests there have to be at least")
+    parser.add_argument("--most", type=int, default=MOST, metavar="N", help="how many allocations of a test are refused at most, the first ones")
     asked = parser.parse_args()
+    if not asked.tests and (asked.least or asked.most != MOST):
+        parser.error("--least and --most need --tests")
     if shutil.which("cc") is None:
         print("refusals: a C compiler (cc) is not installed")
         return 2
     library = build()
     if asked.tests:
-        right, wrong = refuse_tests(library, asked.only, asked.jobs)
+        right, wrong = refuse_tests(library, asked.only, asked.jobs, asked.least, asked.most)
     else:
         right, wrong = refuse_program(shlex.split(asked.program), library, asked.has, asked.only)
     print(f"{right} passed, {wrong} failed")

@@ -56,7 +56,7 @@ class Right(unittest.TestCase):
         """A test that is refused memory says so; other ends of a test are none of it."""
         for text in (b"Error: OutOfMemory", b"Error: Reply(OutOfMemory)", b"\nthe id of a run: OutOfMemory\n", b"two tasks: AllocFailed { .. }", b"left: Err(OutOfMemory)\nright: Ok(1)"):
             self.assertTrue(OUT_OF_MEMORY.search(text), text)
-        for text in (b"added once", b"Error: RunExists", b"the id of a run: BadName", b"left: Err(RunExists)\nright: Ok(1)"):
+        for text in (b"added once", b"Error: RunExists", b"the id of a run: BadName", b"left: Err(RunExists)\nright: Ok(1)", b"what stands after a tick", AGAIN):
             self.assertFalse(OUT_OF_MEMORY.search(text), text)
 
     def test_cases(self):
@@ -75,10 +75,13 @@ class Right(unittest.TestCase):
         self.assertEqual(told, [400, 400, 403, 400, 400, 400, 404, 409, 404, 409, 409, 204, 409, 400, 401])
 
 
+# What a test says that had no memory again for what it asked after a refusal, though there is memory then: a plain failure, and not a fault that says so.
+AGAIN = b"assertion failed: out of memory is told again, where there is memory\n"
 # A program of tests: each makes some allocations, of which one is refused and told on the pipe; what it does then depends on its name.
 TESTS = """#!%s
 import os, sys
-NAMES = ["refused::a_good_one", "refused::threads", "refused::one_that_lies", "refused::one_that_hangs", "refused::one_that_fails", "other::a_good_one"]
+ENDS = ["lies", "hangs", "fails", "is_refused_again", "never_goes_on", "makes_none"]
+NAMES = ["refused::a_good_one", "refused::threads", *("refused::one_that_" + it for it in ENDS), "other::a_good_one"]
 if sys.argv[1:] == ["--list"]:
     print("".join(f"{it}: test\\n" for it in NAMES))
     sys.exit()
@@ -89,17 +92,20 @@ with open(counts, "a") as file:
 with open(counts) as file:
     turn = file.read().count(f"{name} {number}\\n")
 # (the threads make seven allocations, but for each second run, which makes four)
-met = number <= (7 if name.endswith("threads") and turn %% 2 == 0 else 4)
-if met:
-    os.write(int(os.environ["REFUSE_FD"]), b"x")
+made = 7 if name.endswith("threads") and turn %% 2 == 0 else 0 if name.endswith("none") else 4
+met = 0 < number <= made
+os.write(int(os.environ["REFUSE_FD"]), b"x" * (met if number else made))
 if met and name.endswith("hangs") and number == 2:
     while True:
         pass
-if name.endswith("fails") or met and number == 3:
+if met and name.endswith("again") and number == 2:
+    print(%r, end="")
+    sys.exit(101)
+if name.endswith("fails") or met and (number == 3 or name.endswith("never_goes_on")):
     print("Error: OutOfMemory" if met and not name.endswith("lies") else "Error: RunExists")
     sys.exit(101)
 print("test result: ok")
-""" % sys.executable
+""" % (sys.executable, AGAIN.decode())
 # Four threads that make a thousand allocations each. The status is how many failed.
 THREADS = """
 #include <pthread.h>
@@ -143,10 +149,10 @@ class Tests(unittest.TestCase):
         program.write_text(TESTS)
         program.chmod(0o755)
 
-    def play(self, *words):
+    def play(self, *words, **more):
         """How many runs were right and wrong, and the lines that were printed."""
         with contextlib.redirect_stdout(io.StringIO()) as said:
-            counts = refusals.refuse_tests("", words, 1, self.top)
+            counts = refusals.refuse_tests("", words, 1, top=self.top, **more)
         return counts, said.getvalue().rstrip("\n").split("\n")
 
     def test_words(self):
@@ -173,8 +179,63 @@ class Tests(unittest.TestCase):
         self.assertEqual(counts, (3 + refusals.TRIES, 1))
         self.assertIn("allocation 2 refused: it did not end", said[0])
         counts, said = self.play("fails")
-        self.assertEqual(counts, (4, refusals.TRIES))
+        self.assertEqual(counts, (4, refusals.TRIES + 1))
         self.assertIn("refused::one_that_fails, nothing refused: status 101", said[0])
+
+    def test_out_of_memory_again(self):
+        """What is asked after a refusal has memory: a test that is told otherwise is wrong, though it was refused an allocation."""
+        self.built()
+        counts, said = self.play("refused_again")
+        self.assertEqual(counts, (3 + refusals.TRIES, 1))
+        self.assertEqual(said[0], f"refused::one_that_is_refused_again, allocation 2 refused: status 101, {AGAIN!r}")
+
+    def test_what_shows_nothing(self):
+        """A test that is named has to go on after a refusal in some run; where all are played, it may always end there, or make no allocation."""
+        self.built()
+        for word, right, what in (
+            ("never_goes_on", 4, "of 4 runs that were refused an allocation it passed in none"),
+            ("makes_none", 0, "it was refused nothing in any run"),
+        ):
+            counts, said = self.play(word)
+            self.assertEqual(counts, (right + refusals.TRIES, 1))
+            self.assertEqual(said[0], f"refused::one_that_{word}: {what}, so it shows nothing of what stands after a refusal")
+            with contextlib.redirect_stdout(io.StringIO()):
+                program = str(self.top / "crates" / "some" / "out" / "some_tests")
+                it = refusals.refuse_each_of_test(program, f"refused::one_that_{word}", "")
+            self.assertEqual((it.right, it.wrong), (right + refusals.TRIES, 0))
+
+    def test_the_first_allocations_of_each(self):
+        """After so many a run that is refused nothing ends the runs of a test; how many are left out is said."""
+        self.built()
+        counts, said = self.play("a_good", "threads", most=2)
+        self.assertEqual(counts, (3 * (2 + 1), 0))
+        left = "".join(f"; of {it} 2 allocations are left out" for it in ("refused::a_good_one", "refused::threads", "other::a_good_one"))
+        self.assertEqual(said, [f"some_tests: 3 tests, 9 runs as they must be, 0 not{left}"])
+        for most, right in ((4, 4 + 1), (5, 4 + refusals.TRIES)):
+            self.assertEqual(self.play("refused::a", most=most), ((right, 0), [f"some_tests: 1 tests, {right} runs as they must be, 0 not"]))
+        counts, said = self.play("fails", most=1)
+        self.assertEqual(counts, (1, 2))
+        self.assertIn("refused::one_that_fails, nothing refused: status 101", said[0])
+        for words in (["--most", "3"], ["--least", "3"]):
+            ran = subprocess.run([sys.executable, refusals.__file__, *words], capture_output=True, text=True)
+            self.assertEqual((ran.returncode, ran.stdout), (2, ""))
+            self.assertIn("--least and --most need --tests", ran.stderr)
+
+    def test_a_program_that_is_refused_nothing(self):
+        """A library that the program does not load refuses nothing, and that is no success."""
+        program, data = [sys.executable, oracle.__file__], request("GET /own/me")
+        with contextlib.redirect_stdout(io.StringIO()) as said:
+            self.assertEqual(refusals.refuse_each(program, "", having("landed"), "a case", "base.json", data), (0, 1))
+        self.assertIn("a case: no allocation was refused\n", said.getvalue())
+
+    def test_fewer_tests_than_the_least(self):
+        self.built()
+        good = 2 * (4 + refusals.TRIES)
+        for least, wrong in ((0, 0), (2, 0), (3, 1)):
+            counts, said = self.play("a_good", least=least)
+            self.assertEqual(counts, (good, wrong))
+            self.assertEqual(said[-1] == "refusals: 2 tests were played, and there have to be 3 at least", bool(wrong), said)
+        self.assertEqual(self.play("nothing", least=1)[0], (0, 1))
 
     def test_the_counts_of_threads(self):
         """One allocation of all threads is refused, whichever it is; without a compiler nothing can be, and the program says so."""
@@ -188,6 +249,7 @@ class Tests(unittest.TestCase):
         for number in (1, 2, 1999, 3999, 4000):
             self.assertEqual(refusals.run([str(program)], [], b"", library, number), (1, b"", b"", True), number)
         self.assertEqual(refusals.run([str(program)], [], b"", library, 4001), (0, b"", b"", False))
+        self.assertEqual(refusals.run([str(program)], [], b"", library, 0), (0, b"", b"", 4000))
 
     def without_a_compiler(self):
         with mock.patch.dict(os.environ, {"PATH": ""}):

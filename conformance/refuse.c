@@ -1,6 +1,6 @@
 /* Makes one allocation of a program fail, the one whose number REFUSE gives, from 1 on; loaded before the C library.
    The allocations of all threads are counted together, each once, and none is refused but that one.
-   Where it was asked for, one byte goes to the descriptor that REFUSE_FD gives. */
+   Where it was asked for, one byte goes to the descriptor that REFUSE_FD gives. Where the number is 0, none is refused, and each gives a byte. */
 #define _GNU_SOURCE
 #include <dlfcn.h>
 #include <errno.h>
@@ -23,10 +23,12 @@ static int is_refused(void)
 {
     if (wanted < 0)
         wanted = number_of("REFUSE");
-    if (atomic_fetch_add(&asked, 1) + 1 != wanted)
+    if (atomic_fetch_add(&asked, 1) + 1 != wanted && wanted)
         return 0;
     if (getenv("REFUSE_FD") && write((int)number_of("REFUSE_FD"), "x", 1) < 0)
         abort();
+    if (!wanted)
+        return 0;
     errno = ENOMEM;
     return 1;
 }

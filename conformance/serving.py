@@ -26,6 +26,7 @@ LENGTH = re.compile(rb"\r\ncontent-length: *([0-9]+)\r\n", re.IGNORECASE)
 CLOSES = re.compile(rb"\r\nconnection: *close\r\n", re.IGNORECASE)
 EMPTY = b"\r\n\r\n"
 START_SECONDS, END_SECONDS, ANSWER_SECONDS = 30, 10, 60
+LOCAL, LISTENS = "0100007F", "0A"  # 127.0.0.1, and a socket that listens, as the tables of /proc/net have them
 ROOM = 1 << 16
 
 
@@ -93,6 +94,15 @@ class Serving:
         """The bytes of memory that the process has now. Linux alone."""
         with open(f"/proc/{self.process.pid}/statm", encoding="ascii") as file:
             return int(file.read().split()[1]) * os.sysconf("SC_PAGE_SIZE")
+
+    def elsewhere(self):
+        """That it listens at another address than 127.0.0.1, or at none; or None. Linux alone."""
+        found = set()
+        for table in ("tcp", "tcp6"):
+            with open(f"/proc/net/{table}", encoding="ascii") as file:
+                rows = [line.split() for line in file.readlines()[1:]]
+            found |= {row[1].partition(":")[0] for row in rows if row[3] == LISTENS and int(row[1].partition(":")[2], 16) == self.port}
+        return None if found == {LOCAL} else f"the server listens at {sorted(found)} and not at {LOCAL} alone"
 
     def end(self):
         """Ends the server by SIGTERM, and keeps its exit status and what else it printed. Status -15: it ran until then."""
@@ -188,8 +198,13 @@ class Client:
 
     def ask_all(self, requests):
         """Sends some requests in one write, and reads an answer to each, up to one that closes: what follows it is not carried out."""
-        sent, found = time.monotonic(), []
+        sent = time.monotonic()
         self.send(b"".join(requests))
+        return self.answers_to(requests, sent)
+
+    def answers_to(self, requests, sent):
+        """The same of requests that were sent at a moment."""
+        found = []
         for it in requests:
             answer = self.answer(is_bare(it))
             found.append(Exchange(it, answer, sent, time.monotonic()))

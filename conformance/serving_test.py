@@ -58,6 +58,15 @@ class Program(unittest.TestCase):
             with self.assertRaisesRegex(Broken, said), Serving(self.script(text), BASE, 1, start):
                 pass
 
+    def test_servers_that_listen_elsewhere(self):
+        text = "import socket, time\nat = socket.create_server((%r, 0))\nprint('listening on 127.0.0.1:%%d' %% at.getsockname()[1], flush=True)\ntime.sleep(60)"
+        for address, told in (("127.0.0.1", None), ("0.0.0.0", "listens at \\['00000000'\\]"), ("127.0.0.2", "listens at \\['0200007F'\\]")):
+            with Serving(self.script(text % address), BASE, 1) as server:
+                found = server.elsewhere()
+            self.assertEqual(found, None) if told is None else self.assertRegex(found, told)
+        with Serving(self.script("import time\nprint('listening on 127.0.0.1:1', flush=True)\ntime.sleep(60)"), BASE, 1) as server:
+            self.assertRegex(server.elsewhere(), r"listens at \[\]")
+
     def test_servers_that_end_badly(self):
         with Serving(self.script("import time\nprint('listening on 127.0.0.1:1\\nmore', flush=True)\ntime.sleep(60)"), BASE, 1) as server:
             pass

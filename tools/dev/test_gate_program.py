@@ -8,11 +8,13 @@ import importlib.machinery
 import importlib.util
 import os
 import pathlib
+import re
 import shutil
 import subprocess
 import sys
 import tempfile
 import unittest
+from unittest import mock
 
 sys.dont_write_bytecode = True
 HERE = pathlib.Path(__file__).resolve().parent
@@ -122,14 +124,37 @@ class Gate(Case):
         self.assertEqual((status, lines[-1]), (1, "0 passed, 1 failed"))
         self.assertIn("the server does not say where it listens: b''; standard error: ''", lines)
 
+    def refused_memory(self):
+        (part,) = [it for it in GATE.parts_for("program") if it.name == "refused memory"]
+        return part
+
     def test_refused_memory(self):
         """The tests of refused memory are a part of the gate, and it fails where none is built."""
-        (part,) = [it for it in GATE.parts_for("program") if it.name == "refused memory"]
-        self.assertEqual(part.words[1:], ["conformance/refusals.py", "--tests", "--only", "memory::", "--jobs", "2"])
+        with mock.patch.dict(os.environ, {"CI": ""}):
+            part = self.refused_memory()
+        self.assertEqual(part.words[1:], ["conformance/refusals.py", "--tests", "--only", "memory::", "--least", str(GATE.MEMORY_TESTS), "--jobs", "2"])
         self.assertFalse(part.asks)
         part.words[4] = "no test has these words"
         passed, failed, said = GATE.run(part, str(self.room / "none"))
         self.assertEqual((passed, failed), (0, int(shutil.which("cc") is not None)), said)
+
+    def test_how_many_tests_of_refused_memory_there_are(self):
+        """The gate asks for as many as the sources have: what is below a module `memory` is in a file of this name, or in a folder of it."""
+        count = 0
+        for path in TOP.glob("crates/*/src/**/*.rt"):
+            text = path.read_text(encoding="utf-8")
+            self.assertNotRegex(text, r"\bmod \w*memory\s*\{", path)
+            if any(it.endswith("memory") for it in path.relative_to(TOP).with_suffix("").parts):
+                count += len(re.findall(r"(?m)^ *#\[test\]", text))
+        self.assertEqual(GATE.MEMORY_TESTS, count)
+
+    def test_no_compiler(self):
+        """Without a C compiler the tests of refused memory are not run, and where CI is set they have to be."""
+        for ci, wanted, first in (("", (0, 0), "not run: "), ("true", (0, 1), "")):
+            with mock.patch.dict(os.environ, {"CI": ci, "PATH": str(self.room)}):
+                passed, failed, said = GATE.run(self.refused_memory(), str(self.room / "none"))
+            self.assertEqual((passed, failed), wanted)
+            self.assertTrue(said.startswith(f"{first}refusals: a C compiler (cc) is not installed"), said)
 
     def test_what_is_not_installed(self):
         """Status 2 counts as nothing only with the words for it, and only of a part that may lack something."""
@@ -140,7 +165,9 @@ class Gate(Case):
             part.words = [str(self.script("part", text))]
             passed, failed, said = GATE.run(part, "none")
             self.assertEqual((passed, failed), wanted, said)
-        self.assertEqual([it.name for it in GATE.parts_for("program") if it.may_lack], ["refused memory", "openapi"])
+        for ci, names in (("", ["refused memory", "openapi"]), ("true", ["openapi"])):
+            with mock.patch.dict(os.environ, {"CI": ci}):
+                self.assertEqual([it.name for it in GATE.parts_for("program") if it.may_lack], names)
 
     def test_no_program(self):
         status, lines = self.gate(self.room / "none", "--after", "0", "69 passed, 0 failed")
