@@ -2,9 +2,11 @@
 use Rattle.std.proofs.Common.{◌≡◌, ◌∙◌, ◌⊎◌, inl, inr, refl, sym, ap, subst, ℕ, ◌+◌, List, [], ◌∷◌, length, Bool, true, false}
 use Rattle.std.proofs.lemmas.Bool.{false≢true}
 use Rattle.std.proofs.lemmas.List.{length-append}
-use Rattle.std.specs.Prelude.{Some, None, Result, Ok, Err}
+use Rattle.std.specs.Prelude.{Option, Some, None, Result, Ok, Err, if◌then◌else◌}
 use Rattle.af_role.specs.Pairs.{PairRow}
 use Rattle.af_policy.specs.Grants.{first_unmet}
+use Rattle.af_policy.specs.Identity.{bearer_of}
+use Rattle.af_policy.specs.Rows.{PolicyRows}
 use Rattle.af_ops.specs.declared.answer.CallFault.{CallFault}
 use Rattle.af_ops.specs.declared.answer.CallFault.TheVariants as why
 use Rattle.af_ops.specs.declared.answer.OpFault.TheVariants.{OutOfMemory}
@@ -15,15 +17,17 @@ use Rattle.af_ops.specs.declared.served.Served.TheVariants as served
 use Rattle.af_ops.specs.declared.served.Served.TheVariants.{Shown}
 use Rattle.af_ops.specs.Decisions.{IsDecided, IsDoing, fault_verdict}
 use Rattle.af_ops.specs.Edits.{edited, is_edit}
-use Rattle.af_ops.specs.Endpoints.{dag_of}
+use Rattle.af_ops.specs.Effects.{effect_of}
+use Rattle.af_ops.specs.Endpoints.{dag_of, endpoint_of}
 use Rattle.af_ops.specs.Prepared.{IsExact, Preparation}
 use Rattle.af_ops.specs.Required.{needs_for}
 use Rattle.af_ops.specs.Served.{IsServed, reply_told}
 use Rattle.af_ops.specs.Standings.{StandingRows}
-use Rattle.af_ops.specs.Verdicts.{Refuses, Verdict, dag_ids, granted_verdict}
+use Rattle.af_ops.specs.Table.{is_open}
+use Rattle.af_ops.specs.Verdicts.{Refuses, Verdict, dag_ids, granted_verdict, judged, opened}
 use Rattle.af_audit.specs.declared.act.Act.TheVariants.{Did}
 use Rattle.af_audit.specs.declared.actor.Actor.TheVariants.{User}
-use Rattle.af_audit.specs.Answered.{standing_of}
+use Rattle.af_audit.specs.Answered.{closed_verdict, standing_of, verdict_on}
 use Rattle.af_audit.specs.Acts.{after_op}
 use Rattle.af_audit.specs.Entries.{AuditRows, has_room, with_entry}
 use Rattle.af_audit.specs.Ledgers.{Enters, LedgerRows, entry_of}
@@ -44,6 +48,11 @@ pub served_fault : (asked : Op) (it : Verdict) (old : StandingRows) (fault : Cal
 served_fault asked it old fault gave (inl is) was = subst (λ (v : Verdict). IsServed asked v old gave old) (sym is) was
 served_fault asked it old fault gave (inr wants) was =
     without_memory asked it old gave old (subst (λ (f : CallFault). IsServed asked (fault_verdict f) old gave old) wants.1 was)
+
+-- the verdict on what is not open
+pub closed_is : (policy : PolicyRows) (old : LedgerRows) (token : Option (List ℕ)) (asked : Op) (t : ℕ) → is_open (endpoint_of asked) ≡ false → closed_verdict policy old token asked t ≡ verdict_on policy old token asked t
+closed_is policy old token asked t closed =
+    sym (ap (λ (b : Bool). if b then opened (effect_of (λ dag. false) old.state asked t) else judged old.audit.limit policy (standing_of old) asked t (bearer_of policy token)) closed)
 
 -- ---- where a ledger stands
 

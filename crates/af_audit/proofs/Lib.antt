@@ -11,4 +11,5 @@ pub mod RequestLemmas
 pub mod TickedLemmas
 pub mod TriggerLemmas
 pub mod RowLemmas
+pub mod Sharing
 pub mod Threads

@@ -12,6 +12,7 @@ mod answering;
 mod claiming;
 mod identifying;
 mod listing;
+mod reading;
 mod recording;
 mod reporting;
 mod ticking;

@@ -1,5 +1,5 @@
 -- What is decided of an operation that is permitted.
-use Rattle.std.proofs.Common.{◌≡◌, ◌⊎◌, inl, inr, ℕ, Bool, true, false, List, refl, ap, sym, subst}
+use Rattle.std.proofs.Common.{◌≡◌, ◌∙◌, ◌⊎◌, inl, inr, ℕ, Bool, true, false, List, refl, ap, sym, subst}
 use Rattle.std.specs.Prelude.{Option, Some, None, Result, Ok, Err, IsOk, is_some, nat_lt, if◌then◌else◌}
 use Rattle.af_sched.specs.State.{StateRows}
 use Rattle.af_ops.specs.declared.answer.CallFault.{CallFault}
@@ -7,15 +7,21 @@ use Rattle.af_ops.specs.declared.answer.CallFault.TheVariants as why
 use Rattle.af_ops.specs.declared.answer.OpFault.{OpFault}
 use Rattle.af_ops.specs.declared.answer.OpFault.TheVariants.{HistoryFull, OutOfMemory}
 use Rattle.af_ops.specs.declared.answer.Under.{Under}
+use Rattle.af_ops.specs.declared.method.Method.{Method}
+use Rattle.af_ops.specs.declared.method.Method.TheVariants.{Get, Post, Patch, Delete}
 use Rattle.af_ops.specs.declared.op.Op.{Op}
 use Rattle.af_ops.specs.declared.served.Served.{Served}
 use Rattle.af_ops.specs.declared.served.Served.TheVariants as served
 use Rattle.af_ops.specs.Decisions.{ChangesWhereDone, IsDecided, IsDoing, chooses, fault_verdict}
-use Rattle.af_ops.specs.Effects.{Effect}
-use Rattle.af_ops.specs.Prepared.{MemoryLast}
+use Rattle.af_ops.specs.Effects.{Effect, effect_of}
+use Rattle.af_ops.specs.Endpoints.{endpoint_of}
+use Rattle.af_ops.specs.Methods.{same_method}
+use Rattle.af_ops.specs.Prepared.{MemoryLast, Preparation, done_on}
 use Rattle.af_ops.specs.Served.{IsServed}
 use Rattle.af_ops.specs.Standings.{StandingRows}
-use Rattle.af_ops.specs.Verdicts.{Verdict, Changes, Refuses, done, opened, recorded}
+use Rattle.af_ops.specs.Table.{reads_only, route_of}
+use Rattle.af_ops.specs.Verdicts.{Verdict, Changes, Refuses, Tells, done, opened, recorded}
+use Rattle.af_ops.proofs.ReadingLemmas.{readings_keep}
 
 -- what is said of an operation that is not refused, where memory is wanted for it, or that it is refused
 module _ (asked : Op) (limit : ℕ) (under : Under) (state : StateRows) where
@@ -86,6 +92,32 @@ module _ (asked : Op) (limit : ℕ) (under : Under) (state : StateRows) where
   pub none_wanted : (changes : Bool) (effect : Result Effect OpFault) (fault : OpFault) → nat_lt under.seq limit ≡ false → fault ≡ OutOfMemory → ChangesWhereDone effect changes → MemoryLast OutOfMemory effect (Err fault) → IsDecided asked state (done limit under effect) (Err (why.Op (if changes then HistoryFull else fault)))
   none_wanted true effect fault full want changes told = full_wanted effect fault full want changes told
   none_wanted false effect fault full want changes told = kept_wanted effect fault changes told
+
+-- ---- an operation that only reads
+
+gets : (method : Method) → same_method method Get ≡ true → method ≡ Get
+gets Get is = refl
+gets Post is = cc
+gets Patch is = cc
+gets Delete is = cc
+
+stays : (effect : Result Effect OpFault) → ((it : Effect) → effect ≡ Ok it → it.next ≡ None) → ChangesWhereDone effect false
+stays (Ok it) keeps = ap (λ (next : Option StateRows). is_some next) (keeps it refl)
+stays (Err fault) keeps = λ want. refl
+
+module _ (reads : List ℕ → Bool) (state : StateRows) (asked : Op) (now : ℕ) (reading : reads_only (endpoint_of asked) ≡ true) (limit : ℕ) (under : Under) where
+  keeps : (it : Effect) → effect_of reads state asked now ≡ Ok it → it.next ≡ None
+  keeps it is = readings_keep reads state asked now it (gets (route_of (endpoint_of asked)).method reading) is
+
+  -- its reply is told
+  pub read_told : (prepared : Preparation) → effect_of reads state asked now ≡ Ok (done_on state prepared) → done limit under (effect_of reads state asked now) ≡ Tells prepared.reply
+  read_told prepared is =
+      ap (done limit under) is ∙ ap (recorded limit under prepared.reply) (keeps (done_on state prepared) is)
+
+  -- its fault, or no memory for it
+  pub read_wanted : (fault : OpFault) → MemoryLast OutOfMemory (effect_of reads state asked now) (Err fault) → IsDecided asked state (done limit under (effect_of reads state asked now)) (Err (why.Op fault))
+  read_wanted fault told =
+      kept_wanted asked limit under state (effect_of reads state asked now) fault (stays (effect_of reads state asked now) keeps) told
 
 none_some : {X : Type 0} {x : X} → None ≡ Some x → ⊥
 none_some same = cc

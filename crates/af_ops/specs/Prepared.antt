@@ -18,6 +18,10 @@ pub record Preparation : Type 0 where
   pub reply : Option (List ℕ)
   pub edit : Edit
 
+-- a reply, with no edit
+abbrev pub told_alone : Option (List ℕ) → Preparation
+told_alone reply = record { reply = reply; edit = edit.Nothing }
+
 -- its effect on a state
 abbrev pub done_on : StateRows → Preparation → Effect
 done_on state prepared = record { reply = prepared.reply; next = next_by prepared.edit state }

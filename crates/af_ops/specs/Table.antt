@@ -176,6 +176,10 @@ needs_of it = (route_of it).needs
 abbrev pub is_open : Endpoint → Bool
 is_open it = (route_of it).is_open
 
+-- whether an operation only reads: it is asked for by GET
+abbrev pub reads_only : Endpoint → Bool
+reads_only it = same_method (route_of it).method Get
+
 -- whether a row of the table has this method and this path
 abbrev pub is_route : Method → PathTemplate → Endpoint → Bool
 is_route method template it = same_method (route_of it).method method && same_template (route_of it).template template

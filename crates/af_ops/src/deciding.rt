@@ -1,21 +1,26 @@
 ghost use Rattle.std.specs.Prelude.{◌≡◌, ◌<◌, ◌≤◌, ◌↔◌, ℕ, List, Bool, false, true, Err, IfErr, IfOk, Ok, if◌then◌else◌};
+ghost use Rattle.af_base.specs.Readings.{seen};
 ghost use Rattle.af_policy.specs.Grants.{reads_dag};
 ghost use Rattle.af_policy.specs.Views.{held};
 ghost use Rattle.af_ops.specs.declared.answer.CallFault.{CallFault};
 ghost use Rattle.af_ops.specs.declared.answer.OpFault.TheVariants.{HistoryFull, OutOfMemory};
+ghost use Rattle.af_ops.specs.declared.answer.Under.{Under};
 ghost use Rattle.af_ops.specs.Decisions.{ChangesWhereDone, IsDecided, chooses};
 ghost use Rattle.af_ops.specs.Edits.{is_edit};
-ghost use Rattle.af_ops.specs.Prepared.{CanDo, IsExact, MemoryLast};
+ghost use Rattle.af_ops.specs.Endpoints.{endpoint_of};
+ghost use Rattle.af_ops.specs.Prepared.{CanDo, IsExact, MemoryLast, told_alone};
+ghost use Rattle.af_ops.specs.Table.{reads_only};
 ghost use Rattle.af_ops.specs.Verdicts.{done, granted_verdict};
 ghost use Rattle.af_ops.specs.Effects.{effect_of, paused_dag, run_marked};
 
 use crate::answer::{CallFault, OpFault, Under};
+use crate::body::Body;
 use crate::op::Op;
 use crate::operations::dags::differs;
 use crate::operations::pools::would_change_pools;
 use crate::operations::variables::would_change_variables;
 use crate::prepared::Prepared;
-use crate::preparing::prepare_for;
+use crate::preparing::{prepare_for, prepare_read_for};
 use crate::table::needs_for;
 use af_names::{DagId, Instant, RunId};
 use af_policy::View;
@@ -74,6 +79,42 @@ fn permitted(
             }
             Err(CallFault::Op(fault))
         }
+    }
+}
+
+/// Decides what a user asks whom a policy grants this, an operation that only reads, and gives the body of its reply, if it has one.
+/// The state is only looked at. There is no entry, so the verdict is the same whatever their limit, their number and the policy
+/// version. Out of memory is told only of an operation that is permitted and not refused.
+pub fn read_for(
+    alloc: Global,
+    view: &View<'_>,
+    state: &State,
+    op: &Op,
+    now: Instant,
+) -> Result<Option<Body>, CallFault>
+    requires { reads_only (endpoint_of op.now) ≡ true }
+    ensures verdict { (limit : ℕ) (under : Under) → IsDecided op.now state.now.rows (granted_verdict limit (held view.now) (record { under = under; state = state.now.rows }) op.now now) (seen told_alone result) }
+{
+    if let Some(need) = view.missing(needs_for(op), op.dag(), state.dags()) {
+        return Err(CallFault::Denied(need));
+    }
+    permitted_read(alloc, view, state, op, now)
+}
+
+/// Works out a permitted operation that only reads.
+fn permitted_read(
+    alloc: Global,
+    view: &View<'_>,
+    state: &State,
+    op: &Op,
+    now: Instant,
+) -> Result<Option<Body>, CallFault>
+    requires { reads_only (endpoint_of op.now) ≡ true }
+    ensures verdict { (limit : ℕ) (under : Under) → IsDecided op.now state.now.rows (done limit under (effect_of (reads_dag (held view.now)) state.now.rows op.now now)) (seen told_alone result) }
+{
+    match prepare_read_for(alloc, state, op, view, now) {
+        Ok(prepared) => Ok(prepared.into_reply()),
+        Err(fault) => Err(CallFault::Op(fault)),
     }
 }
 

@@ -89,7 +89,7 @@ pub use body::Body;
 pub use body_fault::{BodyFault, Member};
 pub use call::Call;
 pub use clear::Clear;
-pub use deciding::decide_for;
+pub use deciding::{decide_for, read_for};
 pub use edit::Edit;
 pub use endpoint::Endpoint;
 pub use member_name::name_of;

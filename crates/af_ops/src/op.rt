@@ -1,11 +1,13 @@
 ghost use Rattle.std.specs.Prelude.{◌≡◌};
 ghost use Rattle.std.specs.Option.{option_copied};
 ghost use Rattle.af_ops.specs.Endpoints.{cleared_run, dag_of, endpoint_of, given_id, given_in, ids_in, row_name_of, run_of, task_ids_of, task_of};
+ghost use Rattle.af_ops.specs.Table.{reads_only};
 
 use crate::body_fault::BodyFault;
 use crate::clear::Clear;
 use crate::endpoint::Endpoint;
 use crate::pool_op::PoolOp;
+use crate::table::reads_only;
 use crate::trigger::Trigger;
 use crate::variable_op::VariableOp;
 use af_listing::Window;
@@ -76,6 +78,13 @@ impl Op {
             Op::Pool(op) => op.endpoint(),
             Op::Variable(op) => op.endpoint(),
         }
+    }
+
+    /// Whether it only reads.
+    pub fn is_read(&self) -> bool
+        ensures { result ≡ reads_only (endpoint_of self.now) }
+    {
+        reads_only(self.endpoint())
     }
 
     /// The DAG that it names, or none.

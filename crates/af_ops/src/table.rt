@@ -1,6 +1,6 @@
 ghost use Rattle.std.specs.Prelude.{◌≡◌};
 ghost use Rattle.af_ops.specs.Required.{needs_for};
-ghost use Rattle.af_ops.specs.Table.{endpoint_at, has_method, is_route, methods_at, needs_of, needing, opened, route_of};
+ghost use Rattle.af_ops.specs.Table.{endpoint_at, has_method, is_route, methods_at, needs_of, needing, opened, reads_only, route_of};
 
 use crate::endpoint::Endpoint;
 use crate::method::Method;
@@ -192,6 +192,13 @@ pub fn needs(endpoint: Endpoint) -> &'static [Need]
     ensures { result.now ≡ needs_of endpoint }
 {
     route_of(endpoint).needs
+}
+
+/// Whether an operation only reads: it is asked for by GET.
+pub(crate) fn reads_only(endpoint: Endpoint) -> bool
+    ensures { result ≡ reads_only endpoint }
+{
+    route_of(endpoint).method == Method::Get
 }
 
 /// The operation that a method names at a path; none where the path has other methods.

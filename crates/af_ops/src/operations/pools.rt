@@ -1,5 +1,5 @@
 // The operations on pools.
-ghost use Rattle.std.specs.Prelude.{◌≡◌, ◌==◌, IfOk, IsOk, None, Ok, if◌then◌else◌};
+ghost use Rattle.std.specs.Prelude.{◌≡◌, ◌==◌, IfOk, IsOk, None, Ok, true, if◌then◌else◌};
 ghost use Rattle.serde_json.specs.Written.{compact_text};
 ghost use Rattle.af_base.specs.Readings.{seen};
 ghost use Rattle.af_pool.specs.Pools.{add_fault, set_fault};
@@ -8,7 +8,9 @@ ghost use Rattle.af_ops.specs.declared.edit.Edit.TheVariants.{Nothing, PoolSet};
 ghost use Rattle.af_ops.specs.Decisions.{ChangesWhereDone};
 ghost use Rattle.af_ops.specs.EffectParts.{input_or};
 ghost use Rattle.af_ops.specs.PoolEffects.{adding, got_pool, listed, listed_pools, pool_added, pool_changed, pool_deleted, pool_effect, pool_or, pool_told, pools_data, settable, told_fault, unless_fault};
+ghost use Rattle.af_ops.specs.PoolOps.{endpoint_of};
 ghost use Rattle.af_ops.specs.Prepared.{CanDo, IsExact, MemoryLast, done_on};
+ghost use Rattle.af_ops.specs.Table.{reads_only};
 
 use crate::answer::OpFault;
 use crate::body_fault::{BodyFault, Member};
@@ -36,11 +38,24 @@ pub(crate) fn prepare_pools(
     ensures rows { state.new.rows ≡ state.old.rows }
 {
     match op {
-        PoolOp::List(asked) => listed_pools(alloc, state, asked),
+        PoolOp::List(_) | PoolOp::Get(_) => read_pools(alloc, state, op),
         PoolOp::Add(input) => pool_added(alloc, state, input),
-        PoolOp::Get(name) => got_pool(alloc, state, name),
         PoolOp::Change(name, input) => pool_changed(alloc, state, name, input),
         PoolOp::Delete(name) => pool_deleted(alloc, state, name),
+    }
+}
+
+/// What an operation that only reads tells of the pools.
+pub(crate) fn read_pools(alloc: Global, state: &State, op: &PoolOp) -> Result<Prepared, OpFault>
+    requires { reads_only (endpoint_of op.now) ≡ true }
+    ensures told { MemoryLast OutOfMemory (pool_effect state.now.rows op.now) (seen (done_on state.now.rows) result) }
+    ensures room { IfOk result (λ prepared. CanDo state.now prepared.edit) }
+    ensures exact { IfOk result (λ prepared. IsExact state.now.rows prepared.edit) }
+{
+    match op {
+        PoolOp::List(asked) => listed_pools(alloc, state, asked),
+        PoolOp::Get(name) => got_pool(alloc, state, name),
+        PoolOp::Add(_) | PoolOp::Change(_, _) | PoolOp::Delete(_) => unreachable!(),
     }
 }
 

@@ -1,5 +1,5 @@
 // The operations on variables.
-ghost use Rattle.std.specs.Prelude.{◌≡◌, IfOk, None, Ok, if◌then◌else◌, nat_eq};
+ghost use Rattle.std.specs.Prelude.{◌≡◌, IfOk, None, Ok, true, if◌then◌else◌, nat_eq};
 ghost use Rattle.std.specs.Cmp.Lexicographic.{pointwise};
 ghost use Rattle.serde_json.specs.Written.{compact_text};
 ghost use Rattle.af_base.specs.Readings.{seen};
@@ -10,6 +10,8 @@ ghost use Rattle.af_ops.specs.Decisions.{ChangesWhereDone};
 ghost use Rattle.af_ops.specs.EffectParts.{input_or};
 ghost use Rattle.af_ops.specs.VariableEffects.{adding, got_variable, listed_variables, told_fault, unless_fault, variable_added, variable_changed, variable_deleted, variable_effect, variable_or, variables_data};
 ghost use Rattle.af_ops.specs.Prepared.{CanDo, IsExact, MemoryLast, done_on};
+ghost use Rattle.af_ops.specs.Table.{reads_only};
+ghost use Rattle.af_ops.specs.VariableOps.{endpoint_of};
 
 use crate::answer::OpFault;
 use crate::body_fault::BodyFault;
@@ -37,11 +39,28 @@ pub(crate) fn prepare_variables(
     ensures rows { state.new.rows ≡ state.old.rows }
 {
     match op {
-        VariableOp::List(asked) => listed_variables(alloc, state, asked),
+        VariableOp::List(_) | VariableOp::Get(_) => read_variables(alloc, state, op),
         VariableOp::Add(input) => variable_added(alloc, state, input),
-        VariableOp::Get(key) => got_variable(alloc, state, key),
         VariableOp::Change(key, input) => variable_changed(alloc, state, key, input),
         VariableOp::Delete(key) => variable_deleted(alloc, state, key),
+    }
+}
+
+/// What an operation that only reads tells of the variables.
+pub(crate) fn read_variables(
+    alloc: Global,
+    state: &State,
+    op: &VariableOp,
+) -> Result<Prepared, OpFault>
+    requires { reads_only (endpoint_of op.now) ≡ true }
+    ensures told { MemoryLast OutOfMemory (variable_effect state.now.rows op.now) (seen (done_on state.now.rows) result) }
+    ensures room { IfOk result (λ prepared. CanDo state.now prepared.edit) }
+    ensures exact { IfOk result (λ prepared. IsExact state.now.rows prepared.edit) }
+{
+    match op {
+        VariableOp::List(asked) => listed_variables(alloc, state, asked),
+        VariableOp::Get(key) => got_variable(alloc, state, key),
+        VariableOp::Add(_) | VariableOp::Change(_, _) | VariableOp::Delete(_) => unreachable!(),
     }
 }
 

@@ -1,27 +1,16 @@
-use Rattle.std.proofs.Common.{◌≡◌, ◌∙◌, ap, subst, sym, ℕ, List, Bool, false}
-use Rattle.std.specs.Prelude.{Option, if◌then◌else◌}
+use Rattle.std.proofs.Common.{◌≡◌, ◌∙◌, ap, subst, sym, false}
 use Rattle.std.specs.Option.{option_copied}
-use Rattle.af_policy.specs.Identity.{bearer_of}
-use Rattle.af_policy.specs.Rows.{PolicyRows}
 use Rattle.af_ops.specs.declared.answer.Under as under
-use Rattle.af_ops.specs.declared.op.Op.{Op}
 use Rattle.af_ops.specs.declared.served.Served.TheVariants as served
 use Rattle.af_ops.specs.Decisions.{fault_verdict}
-use Rattle.af_ops.specs.Effects.{effect_of}
 use Rattle.af_ops.specs.Endpoints.{endpoint_of}
 use Rattle.af_ops.specs.Served.{IsServed}
 use Rattle.af_ops.specs.Standings.{StandingRows}
 use Rattle.af_ops.specs.Table.{RouteRow, is_open, route_of}
-use Rattle.af_ops.specs.Verdicts.{Verdict, judged, opened}
+use Rattle.af_ops.specs.Verdicts.{Verdict}
 use Rattle.af_audit.specs.Answered.{closed_verdict, standing_of, verdict_on}
-use Rattle.af_audit.specs.Ledgers.{LedgerRows}
-use Rattle.af_audit.proofs.JudgedLemmas.{served_fault}
+use Rattle.af_audit.proofs.JudgedLemmas.{closed_is, served_fault}
 use Rattle.af_audit.proofs.ledger.Ledger.answer.Goals as goal
-
--- the verdict on what is not open
-closed_is : (policy : PolicyRows) (old : LedgerRows) (token : Option (List ℕ)) (asked : Op) (t : ℕ) → is_open (endpoint_of asked) ≡ false → closed_verdict policy old token asked t ≡ verdict_on policy old token asked t
-closed_is policy old token asked t closed =
-    sym (ap (λ (b : Bool). if b then opened (effect_of (λ dag. false) old.state asked t) else judged old.audit.limit policy (standing_of old) asked t (bearer_of policy token)) closed)
 
 pub returns-in-Ok-clause-served : goal.returns-in-Ok-clause-served
 returns-in-Ok-clause-served c =
