@@ -1,17 +1,25 @@
 -- Every run of steps keeps the rule.
-use Rattle.std.proofs.Common.{◌≡◌, ◌≢◌, ℕ, zero, suc, ◌+◌, ◌≤◌, true, false, true≢false, List, [], ◌∷◌, ◌++◌, set, refl, sym, ap, ◌∙◌, subst, ⊎_elim, inl, inr, arith, length-append}
+use Rattle.std.proofs.Common.{◌≡◌, ◌≢◌, ℕ, zero, suc, ◌+◌, ◌≤◌, true, false, true≢false, List, [], ◌∷◌, ◌++◌, length, set, refl, sym, ap, ◌∙◌, subst, ⊎_elim, inl, inr, arith, length-append}
 use Rattle.std.proofs.lemmas.List.{append-nil}
 use mathlib.Core.Option.{some, some-injective, some-ne-none}
 use mathlib.Core.List.{IsPrefix}
 use lib.ListN.{get_elem?}
 use Rattle.atomic_table.proofs.Lists.{at_set, at_snoc, at_longer, set_else}
-use Rattle.af_prefixes.proofs.PrefixLemmas.{prefix_self, prefix_empty, prefix_more, prefixes_agree}
+use Rattle.af_prefixes.proofs.PrefixLemmas.{prefix_self, prefix_empty, prefix_more, prefix_whole, prefixes_agree, prefixes_in_a_row}
 use Rattle.af_tally.specs.declared.view.View.{View}
-use Rattle.af_tally.specs.Steps.{Standing, IsSeat, keeping, witness, copied, informed, nobody, opened, Kind, add, load, split, join, Does, opening, further, Knows, IsKept}
+use Rattle.af_tally.specs.Steps.{Standing, IsSeat, keeping, witness, copied, compared, informed, nobody, opened, Kind, add, load, split, join, Does, opening, further, Knows, IsKept}
 use Rattle.af_tally.specs.Laws.{OthersKeepTheirView, NoSeatForgets, EveryRunKeepsTheRule, NoStepFalls, SeatsAgree}
 
 off : false ≡ true → ⊥
 off e = true≢false (sym e)
+
+-- of two beginnings of one list the shorter begins the longer
+pub prefix_shorter : {A : Type 0} (xs ys zs : List A) → IsPrefix xs zs → IsPrefix ys zs → length xs ≤ length ys → IsPrefix xs ys
+prefix_shorter {A} xs ys zs p q le =
+    ⊎_elim
+    (λ (it : IsPrefix xs ys). it)
+    (λ (it : IsPrefix ys xs). subst (λ (l : List A). IsPrefix l ys) (prefix_whole ys xs it le) (prefix_self ys))
+    (prefixes_in_a_row xs ys zs p q)
 
 module _ {E : Type 0} where
   -- a witness that has seen a beginning
@@ -52,13 +60,13 @@ module _ {E : Type 0} where
             (record { keeps = λ _. (mine.0, whole); seen = subst (λ (l : List E). IsPrefix l now) (sym whole) (prefix_self now); told = prefix_empty now });
       }
 
-  -- the keeper loads
-  loaded_kept : (s : Standing E) (seat : ℕ) (v : View E) → IsKept s → IsSeat s seat v → v.keeps ≡ true → IsKept (record s { views = set s.views seat (keeping v.seen) })
-  loaded_kept s seat v kept at keeps =
+  -- a seat loads
+  loaded_kept : (s : Standing E) (seat : ℕ) (v : View E) → IsKept s → IsSeat s seat v → IsKept (record s { views = set s.views seat (compared v) })
+  loaded_kept s seat v kept at =
       let mine = kept.knows seat v at in
       record {
         counts = kept.counts;
-        knows = knows_set s.entries s.entries s.views seat (keeping v.seen) (λ j u apart k. k) kept.knows (record { keeps = λ _. mine.keeps keeps; seen = mine.seen; told = prefix_empty s.entries });
+        knows = knows_set s.entries s.entries s.views seat (compared v) (λ j u apart k. k) kept.knows (record { keeps = mine.keeps; seen = mine.seen; told = prefix_empty s.entries });
       }
 
   -- a seat is split
@@ -87,7 +95,7 @@ module _ {E : Type 0} where
   -- each kind of step keeps the rule
   step_kept : (kind : Kind E) (was now : Standing E) → IsKept was → Does kind was now → IsKept now
   step_kept (add seat entry) was now kept (v, at, keeps, room, is) = subst IsKept (sym is) (added_kept was seat v entry kept at keeps)
-  step_kept (load seat) was now kept (v, at, keeps, is) = subst IsKept (sym is) (loaded_kept was seat v kept at keeps)
+  step_kept (load seat) was now kept (v, at, is) = subst IsKept (sym is) (loaded_kept was seat v kept at)
   step_kept (split seat) was now kept (v, at, is) = subst IsKept (sym is) (split_kept was seat v kept at)
   step_kept (join seat other) was now kept (v, u, at, there, apart, is) = subst IsKept (sym is) (joined_kept was seat other v u kept at there)
 
@@ -103,7 +111,7 @@ module _ {E : Type 0} where
   step_rises (add seat entry) was now (v, at, keeps, room, is) =
       let word : now.word ≡ was.word + 1 = ap (λ (s : Standing E). s.word) is in
       (ap (λ (s : Standing E). s.entries) is, omega (arith, word))
-  step_rises (load seat) was now (v, at, keeps, is) = stays was now (ap (λ (s : Standing E). s.entries) is) (ap (λ (s : Standing E). s.word) is)
+  step_rises (load seat) was now (v, at, is) = stays was now (ap (λ (s : Standing E). s.entries) is) (ap (λ (s : Standing E). s.word) is)
   step_rises (split seat) was now (v, at, is) = stays was now (ap (λ (s : Standing E). s.entries) is) (ap (λ (s : Standing E). s.word) is)
   step_rises (join seat other) was now (v, u, at, there, apart, is) = stays was now (ap (λ (s : Standing E). s.entries) is) (ap (λ (s : Standing E). s.word) is)
 
@@ -115,7 +123,7 @@ module _ {E : Type 0} where
   -- the views of all other seats stay
   pub step_leaves : OthersKeepTheirView E
   step_leaves (add seat entry) was now by v (u, at, keeps, room, is) apart here = subst (λ (s : Standing E). IsSeat s by v) (sym is) (set_else was.views seat by (keeping (u.seen ++ entry ∷ [])) apart ∙ here)
-  step_leaves (load seat) was now by v (u, at, keeps, is) apart here = subst (λ (s : Standing E). IsSeat s by v) (sym is) (set_else was.views seat by (keeping u.seen) apart ∙ here)
+  step_leaves (load seat) was now by v (u, at, is) apart here = subst (λ (s : Standing E). IsSeat s by v) (sym is) (set_else was.views seat by (compared u) apart ∙ here)
   step_leaves (split seat) was now by v (u, at, is) apart here = subst (λ (s : Standing E). IsSeat s by v) (sym is) (at_longer was.views (copied u ∷ []) by v here)
   step_leaves (join seat other) was now by v (u, t, at, there, distinct, is) apart here =
       subst
@@ -138,8 +146,8 @@ module _ {E : Type 0} where
   pub step_remembers : NoSeatForgets E
   step_remembers (add seat entry) was now by v w (u, at, keeps, room, is) stays here there =
       seen_set was.views seat by u (keeping (u.seen ++ entry ∷ [])) v w at (prefix_more u.seen u.seen entry (prefix_self u.seen)) here (subst (λ (s : Standing E). IsSeat s by w) is there)
-  step_remembers (load seat) was now by v w (u, at, keeps, is) stays here there =
-      seen_set was.views seat by u (keeping u.seen) v w at (prefix_self u.seen) here (subst (λ (s : Standing E). IsSeat s by w) is there)
+  step_remembers (load seat) was now by v w (u, at, is) stays here there =
+      seen_set was.views seat by u (compared u) v w at (prefix_self u.seen) here (subst (λ (s : Standing E). IsSeat s by w) is there)
   step_remembers (split seat) was now by v w (u, at, is) stays here there =
       let still : get_elem? (was.views ++ copied u ∷ []) by ≡ some w = subst (λ (s : Standing E). IsSeat s by w) is there in
       subst (λ (y : View E). IsPrefix v.seen y.seen) (some-injective v w (sym (at_longer was.views (copied u ∷ []) by v here) ∙ still)) (prefix_self v.seen)

@@ -1,5 +1,5 @@
 -- What the word's table asks of each step: it takes the run of steps one further, and tells what it is to tell.
-use Rattle.std.proofs.Common.{◌≡◌, ◌≢◌, ℕ, ◌+◌, ◌%◌, ◌^◌, ◌<◌, true, List, [], ◌∷◌, ◌++◌, length, set, slice_index, refl, sym, ap, subst, ⊎_elim, arith}
+use Rattle.std.proofs.Common.{◌≡◌, ◌≢◌, ℕ, ◌+◌, ◌%◌, ◌^◌, ◌<◌, ◌≤◌, ◌⊎◌, true, List, [], ◌∷◌, ◌++◌, length, set, slice_index, refl, sym, ap, subst, ⊎_elim, arith}
 use mathlib.Core.Option.{some, none}
 use mathlib.Core.List.{IsPrefix}
 use lib.ListN.{get_elem?}
@@ -7,9 +7,9 @@ use Rattle.atomic_table.specs.Table as table
 use Rattle.atomic_table.specs.Table.{State, Me, Act, keeps, step, Valid, carried_after, Allows, Splits, Joins}
 use Rattle.atomic_table.proofs.Lists.{at_set, set_again}
 use Rattle.af_tally.specs.declared.view.View.{View}
-use Rattle.af_tally.specs.Steps.{Standing, keeping, copied, informed, nobody, add, load, split, join, Run, opening, further, Ruled}
+use Rattle.af_tally.specs.Steps.{Standing, keeping, copied, compared, informed, nobody, add, load, split, join, Run, opening, further, Ruled}
 use Rattle.af_tally.specs.Tells.{Adds, Compares}
-use Rattle.af_tally.proofs.RunLemmas.{run_kept}
+use Rattle.af_tally.proofs.RunLemmas.{prefix_shorter, run_kept}
 
 module _ {E : Type 0} where
   -- the rule, as the table takes it
@@ -54,28 +54,32 @@ module _ {E : Type 0} where
       (sym one)
       (λ s kept sized at small. add_at slots id me.0 entry me.1 s keeper room kept at s.words kept.words_are)
 
-  -- the keeper compares
-  compare_at : (slots id : ℕ) (v : View E) (carried : List (ℕ × ℕ)) (s : State ℕ (View E)) → v.keeps ≡ true → (kept : Rule s) → get_elem? s.views id ≡ some v
+  -- a seat compares
+  compare_at : (slots id : ℕ) (v : View E) (carried : List (ℕ × ℕ)) (s : State ℕ (View E)) (kept : Rule s) → get_elem? s.views id ≡ some v
       → (words : List ℕ) → words ≡ kept.word ∷ []
       → (w : View E) × (a : Act ℕ) × Valid s.homes carried a × Ruled (set words 0 (slice_index words 0)) (set s.views id w)
       × Compares (step slots 0 0 0 none) (v, carried) (slice_index words 0) (w, carried_after carried a)
-  compare_at slots id v carried s keeper kept at words is =
+  compare_at slots id v carried s kept at words is =
       let was = standing_of s.words s.views kept in
-      let all = (run_kept was kept.run).knows id v at in
-      let mine = all.keeps keeper in
-      let w = keeping v.seen in
+      let mine = (run_kept was kept.run).knows id v at in
+      let w = compared v in
       let now : Standing E = record was { views = set s.views id w } in
       let P : List ℕ → Type 0 = λ ws. (w : View E) × (a : Act ℕ) × Valid s.homes carried a × Ruled (set ws 0 (slice_index ws 0)) (set s.views id w) × Compares (step slots 0 0 0 none) (v, carried) (slice_index ws 0) (w, carried_after carried a) in
+      let begins : (v.keeps ≡ true) ⊎ (length v.told ≤ length v.seen) → IsPrefix v.told v.seen = λ which.
+      ⊎_elim
+      (λ (keeper : v.keeps ≡ true). subst (λ (l : List E). IsPrefix v.told l) (sym (mine.keeps keeper).1) mine.told)
+      (λ (le : length v.told ≤ length v.seen). prefix_shorter v.told v.seen kept.entries mine.told mine.seen le)
+      which in
       subst P (sym is) (
         w,
         keeps,
         tt,
-        record { word = kept.word; entries = kept.entries; words_are = refl; run = further (load id) was now kept.run (v, at, keeper, refl) },
-        (refl, subst (λ (l : List E). IsPrefix v.told l) (sym mine.1) all.told, refl),
+        record { word = kept.word; entries = kept.entries; words_are = refl; run = further (load id) was now kept.run (v, at, refl) },
+        (refl, begins, refl),
       )
 
-  pub compares : (slots id : ℕ) (me : Me ℕ (View E)) → me.0.keeps ≡ true → Allows Rule slots id me 0 (λ n. n) (Compares (step slots 0 0 0 none) me)
-  compares slots id me keeper s kept sized at small = compare_at slots id me.0 me.1 s keeper kept at s.words kept.words_are
+  pub compares : (slots id : ℕ) (me : Me ℕ (View E)) → Allows Rule slots id me 0 (λ n. n) (Compares (step slots 0 0 0 none) me)
+  compares slots id me s kept sized at small = compare_at slots id me.0 me.1 s kept at s.words kept.words_are
 
   -- a split
   pub gives : (id : ℕ) (v : View E) → Splits Rule id v v (copied v)

@@ -40,6 +40,10 @@ module _ {E : Type 0} where
   abbrev pub informed : View E → View E → View E
   informed v u = record { keeps = v.keeps; seen = v.seen; told = u.seen }
 
+  -- the view of a seat that has compared what it was told of with what it has seen, and forgets the first
+  abbrev pub compared : View E → View E
+  compared v = record v { told = [] }
+
   -- the view of a seat that was given up: it knows nothing
   abbrev pub nobody : View E
   nobody = witness []
@@ -50,14 +54,14 @@ module _ {E : Type 0} where
 
   -- what a step of each kind does
   -- * add: the keeper records, that is, adds one entry to all that it has seen, and one to the word; all other views stay
-  -- * load: the keeper forgets what it was told of; all else stays
+  -- * load: a seat forgets what it was told of; all else stays
   -- * split: a new seat, a witness, has seen what this one has; all else stays
   -- * join: a seat is told of what another had seen, and that one is given up; all else stays
   abbrev pub Does : Kind E → Standing E → Standing E → Type 0
   Does (add seat entry) was now =
       (v : View E) × IsSeat was seat v × (v.keeps ≡ true) × (was.word + 1 < 2 ^ 32)
       × (now ≡ record { word = was.word + 1; entries = was.entries ++ entry ∷ []; views = slice_set was.views seat (keeping (v.seen ++ entry ∷ [])) })
-  Does (load seat) was now = (v : View E) × IsSeat was seat v × (v.keeps ≡ true) × (now ≡ record was { views = slice_set was.views seat (keeping v.seen) })
+  Does (load seat) was now = (v : View E) × IsSeat was seat v × (now ≡ record was { views = slice_set was.views seat (compared v) })
   Does (split seat) was now = (v : View E) × IsSeat was seat v × (now ≡ record was { views = was.views ++ copied v ∷ [] })
   Does (join seat other) was now =
       (v : View E) × (u : View E) × IsSeat was seat v × IsSeat was other u × (¬ (other ≡ seat))

@@ -27,7 +27,7 @@ impl<E, N: Writes<E>> Play<u8, View<E>> for Add<N> {
     ghost then = { Adds N.entries };
 }
 
-/// A load that compares what the keeper was told of with what it has seen.
+/// A load that compares what the seat was told of with what it has seen.
 pub struct Compare;
 
 impl<E> Play<u8, View<E>> for Compare {
@@ -36,7 +36,7 @@ impl<E> Play<u8, View<E>> for Compare {
     ghost then = { Compares };
 }
 
-/// A split: a witness has seen what the keeper has.
+/// A split: a witness has seen what the seat has, which is the keeper's or the spare one.
 pub struct Copied;
 
 impl<E> Split<View<E>> for Copied {
@@ -47,7 +47,7 @@ impl<E> Split<View<E>> for Copied {
     ghost right = { copied };
 }
 
-/// A join: the keeper is told of what a witness has seen, and that one is spent.
+/// A join: a seat is told of what a witness has seen, and that one is spent.
 pub struct Inform;
 
 impl<E> Join<View<E>> for Inform {

@@ -16,8 +16,4 @@ join_seat-requires g c = (
 )
 
 pub load-requires : goal.load-requires
-load-requires g c = (
-  c.join_seat.ensures.0 ∙ c.self.invariant.1,
-  omega (arith, c.self.invariant.0),
-  compares _ _ _ (ap (λ (m : Me ℕ (View g.row.E.Denot)). m.0.keeps) c.join_seat.ensures.2 ∙ ap (λ (m : Me ℕ (View g.row.E.Denot)). m.0.keeps) c.self.invariant.2),
-)
+load-requires g c = (c.join_seat.ensures.0 ∙ c.self.invariant.1, omega (arith, c.self.invariant.0), compares _ _ _)
