@@ -14,4 +14,6 @@ mod ControlLemmas
 mod StayLemmas
 pub mod NameLemmas
 mod CallLemmas
+mod LookLemmas
 pub mod Threads
+pub mod SessionThreads

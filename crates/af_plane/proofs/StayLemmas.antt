@@ -1,5 +1,5 @@
 -- A session that calls has still seen what it had seen, and its answers name versions that never fall.
-use Rattle.std.proofs.Common.{◌≡◌, ◌∙◌, inl, inr, refl, sym, ap, subst, ℕ, ◌≤◌, ◌+◌, List, [], ◌∷◌, Bool, true, false, length, arith}
+use Rattle.std.proofs.Common.{◌≡◌, ◌∙◌, inl, inr, ⊎_elim, refl, sym, ap, subst, ℕ, ◌≤◌, ◌+◌, List, [], ◌∷◌, Bool, true, false, length, arith}
 use Rattle.std.specs.Prelude.{Option, Some}
 use mathlib.Core.List.{IsPrefix}
 use Rattle.af_prefixes.proofs.PrefixLemmas.{prefix_length, prefix_more, prefix_self, prefix_trans}
@@ -18,10 +18,10 @@ use Rattle.af_plane.specs.declared.grounds.Grounds.TheVariants as grounds
 use Rattle.af_plane.specs.Events.{Exchange, named_in}
 use Rattle.af_plane.specs.Growth.{IsOneMore}
 use Rattle.af_plane.specs.Laws.{NoSessionGoesBack}
-use Rattle.af_plane.specs.Looks.{Basis, HasMet, Missed, On, Openly, looked}
+use Rattle.af_plane.specs.Looks.{Basis, HasMet, HasRead, Missed, On, Openly, looked}
 use Rattle.af_plane.specs.Names.{IsCall, Name}
 use Rattle.af_plane.specs.Planes.{Applies}
-use Rattle.af_plane.specs.Requests.{RequestRows}
+use Rattle.af_plane.specs.Requests.{RequestRows, only_reads}
 use Rattle.af_plane.specs.Shared.{as_solo}
 use Rattle.af_plane.specs.Solos.{NamesLast}
 use Rattle.af_plane.specs.Stays.{Calls, CallsOn}
@@ -49,13 +49,21 @@ module _ (site : Site) (old new : PlaneRows) (was now : Visit) (gave : Served) (
       subst (IsPrefix was.entries.entries) (sym shown)
       (prefix_trans was.entries.entries old.ledger.audit.entries new.ledger.audit.entries (subst (IsPrefix was.entries.entries) found met.begins) more)
 
+  read_more : HasRead old was new now → IsPrefix was.entries.entries now.entries.entries
+  read_more read =
+      let shown : now.entries.entries ≡ old.keeper.entries = ap (λ (k : Known Entry). k.entries) read.entries ∙ ap (λ (p : PlaneRows). p.keeper.entries) read.plane in
+      subst (IsPrefix was.entries.entries) (sym shown) read.begins
+
   acted_more : (asked : RequestRows) (basis : Basis) → IsActed site asked old was gave new now basis → IsPrefix was.entries.entries now.entries.entries
   acted_more asked Openly is = absurd is
   acted_more asked Missed is =
       met_more is.met (subst (λ (l : LedgerRows). IsPrefix old.ledger.audit.entries l.audit.entries) (sym is.ledger) (prefix_self old.ledger.audit.entries))
   acted_more asked (On (grounds.Under m)) is =
-      met_more is.met (begins old.ledger.audit.entries new.ledger.audit.entries
-      (applied_more (policy_of site m) (looked m.version old.ledger) new.ledger asked.token asked.call asked.at gave is.applied))
+      ⊎_elim
+      (λ (met : HasMet old was new now). met_more met (begins old.ledger.audit.entries new.ledger.audit.entries
+      (applied_more (policy_of site m) (looked m.version old.ledger) new.ledger asked.token asked.call asked.at gave is.applied)))
+      (λ (beside : (only_reads asked.call ≡ true) × HasRead old was new now). read_more beside.1)
+      is.met
   acted_more asked (On (grounds.Made r)) is = absurd is
   acted_more asked (On (grounds.Overtaken m)) is = absurd is
   acted_more asked (On (grounds.Spent m pushed)) is = absurd is

@@ -126,8 +126,9 @@ DeedsAreEvents =
     × ((claim : Claim) (outcome : Outcome) (t : ℕ) (told : Result (Unit {0}) ReportRefusal) (it : IsDone name was now (λ l m. IsReported t claim outcome l m told × ReportIs l claim outcome t told m)) → it.old ≡ old.plane
     → shared.IsHappening name versions old (shared.Reported session claim outcome t told) versions (record { plane = it.new; visits = slice_set old.visits session now }))
 
--- All that sessions over one plane ask for, in the order in which they took its lock, and all that happens there between, is one run of the
--- world of as many sessions: its steps are those of the events, with the answers that were given.
+-- Take an order of all that happens at one plane: the first finds the opening plane, and each other what the one before it left. In it is all
+-- that the sessions ask for. It is one run of the world of as many sessions: its steps are those of the events, with the answers that were
+-- given.
 abbrev pub CallsOfAllAreOneRun : Type 0
 CallsOfAllAreOneRun =
     (name : Name) (first : SharedRows) (events : List shared.Happening) (turns : List AnsweredStep) (left : VersionRows) (new : SharedRows)

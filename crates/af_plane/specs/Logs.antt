@@ -14,6 +14,10 @@ use Rattle.af_plane.specs.Visits.{Visit, VisitorRows}
 abbrev pub new_visitor : Visit → VisitorRows
 new_visitor visit = record { visit = visit; calls = []; times = []; ticks = []; claims = []; reports = []; outcomes = []; mes = []; reads = []; changes = []; unreads = [] }
 
+-- its log is as before: no call, tick, claim, report or operation on the policy was added; it may have looked
+abbrev pub HasDoneNothing : VisitorRows → VisitorRows → Type 0
+HasDoneNothing was now = now ≡ record was { visit = now.visit }
+
 -- it has called at a time, and was served this
 abbrev pub HasCalled : VisitorRows → Call → ℕ → Served → VisitorRows → Type 0
 HasCalled was asked at gave now =

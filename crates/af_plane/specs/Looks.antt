@@ -6,6 +6,7 @@ use Rattle.af_ops.specs.declared.served.Served.{Served}
 use Rattle.af_ops.specs.PolicyUnder.{IsNoPolicyTold}
 use Rattle.af_audit.specs.Ledgers.{LedgerRows}
 use Rattle.af_board.specs.Marks.{HasSeen, IsOf, Marked, Site, policy_of}
+use Rattle.af_word.specs.Calls.{Looked}
 use Rattle.af_plane.specs.declared.grounds.Grounds.{Grounds}
 use Rattle.af_plane.specs.declared.grounds.Grounds.TheVariants.{Made, Overtaken, Spent, Under}
 use Rattle.af_plane.specs.Visits.{PlaneRows, Visit}
@@ -58,6 +59,25 @@ pub record HasMet (old : PlaneRows) (was : Visit) (new : PlaneRows) (now : Visit
   pub steps : new.pass.steps ≡ old.pass.steps + 2
   pub deeds : new.pass.deeds ≡ old.pass.deeds + was.pass.deeds + 2
   pub given : now.pass.deeds ≡ new.pass.deeds
+
+-- A session has read a plane beside others: the plane is as it was. The session has looked at the version at which the plane looked last, and
+-- has seen what the plane has of the entries, which begin with those that it had seen. Only the number of that version is tied to the plane,
+-- and not its place.
+pub record HasRead (old : PlaneRows) (was : Visit) (new : PlaneRows) (now : Visit) : Type 0 where
+  pub plane : new ≡ old
+  pub version : length now.pass.places ≡ old.ledger.version + 1
+  pub begins : IsPrefix was.entries.entries old.keeper.entries
+  pub entries : now.entries ≡ new.keeper
+  -- it has looked
+  pub looked : was.pass.steps < now.pass.steps
+  -- no version was published, and no pass was split
+  pub deeds : now.pass.deeds ≡ was.pass.deeds
+
+-- a session has looked, and done nothing else
+pub record HasOnlyLooked (was now : Visit) : Type 0 where
+  pub pass : Looked was.pass now.pass
+  pub entries : now.entries ≡ was.entries
+  pub grounds : now.grounds ≡ was.grounds
 
 -- A session has visited a plane, which did not look: both are over one board and one keeper still, and have seen the same of both, and all
 -- that either had seen; the session holds the mark that it had.

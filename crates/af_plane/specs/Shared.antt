@@ -1,5 +1,6 @@
--- Sessions of any number over one plane behind a lock. Their calls, in the order in which they took the lock, with what they ask of the policy
--- and what the scheduler and executors do between, are one run of the world of as many sessions (this product's own rule).
+-- Sessions of any number over one plane behind a lock (this product's own rule). Take an order of all that happens there: the first finds the
+-- opening plane, and each other what the one before it left. In it are their calls, what they ask of the policy, and what the scheduler and
+-- executors do. It is one run of the world of as many sessions.
 use Rattle.std.specs.Prelude.{◌≡◌, ℕ, List, [], ◌∷◌, ◌++◌, Bool, Option, Some, None, Result, Ok, Err, slice_get, slice_set}
 use Rattle.af_policy.specs.Versions.{VersionRows}
 use Rattle.af_sched.specs.declared.claim.Claim.{Claim}

@@ -1,6 +1,7 @@
--- What a turn on the plane comes to: the session looks at the board together with the plane, and what is asked is decided under the version
--- that is found, of which the session keeps the mark (this product's own rule).
-use Rattle.std.specs.Prelude.{◌≡◌, ℕ, true, false, Option, Some, None}
+-- What a turn on the plane comes to (this product's own rule). The session looks at the board. The plane looks with it, or, beside other
+-- calls, has looked last at the version that the session finds. What is asked is decided under that version, of which the session keeps the
+-- mark.
+use Rattle.std.specs.Prelude.{◌≡◌, ◌⊎◌, ℕ, true, false, Option, Some, None}
 use Rattle.af_ops.specs.declared.call.Call.{Call}
 use Rattle.af_ops.specs.declared.call.Call.TheVariants as call
 use Rattle.af_ops.specs.declared.op.Op.{Op}
@@ -15,9 +16,9 @@ use Rattle.af_audit.specs.Ledgers.{LedgerRows}
 use Rattle.af_board.specs.Marks.{IsLast, Marked, Site, policy_of}
 use Rattle.af_plane.specs.declared.grounds.Grounds.TheVariants.{Made, Overtaken, Spent, Under}
 use Rattle.af_plane.specs.Blind.{TellsWhatIsRead}
-use Rattle.af_plane.specs.Looks.{Basis, HasMet, HasSame, IsMissed, Missed, On, Openly, looked}
+use Rattle.af_plane.specs.Looks.{Basis, HasMet, HasRead, HasSame, IsMissed, Missed, On, Openly, looked}
 use Rattle.af_plane.specs.Planes.{Applies}
-use Rattle.af_plane.specs.Requests.{RequestRows}
+use Rattle.af_plane.specs.Requests.{RequestRows, only_reads}
 use Rattle.af_plane.specs.Visits.{PlaneRows, Visit}
 
 -- a call that is the plane's
@@ -26,17 +27,24 @@ IsOfPlane (call.State asked) = Unit {0}
 IsOfPlane (call.Entries window) = Unit {0}
 IsOfPlane (call.Policy asked) = ⊥
 
+-- a call on the plane that is decided under a version
+abbrev pub IsUnderVersion : Call → Type 0
+IsUnderVersion (call.State asked) = is_open (endpoint_of asked) ≡ false
+IsUnderVersion (call.Entries window) = Unit {0}
+IsUnderVersion (call.Policy asked) = ⊥
+
 -- an open operation was served, which is decided under no policy and looks at nothing
 abbrev pub IsOpenly : Op → ℕ → LedgerRows → Served → Type 0
 IsOpenly asked t ledger gave =
     IsServed asked (opened (effect_of (λ dag. false) ledger.state asked t)) (standing_of ledger) gave (standing_of ledger)
 
--- It was decided under this version, which is the last that the session and the plane have then seen: the verdict under its policy was served,
--- and what that changes is done.
+-- It was decided under this version, which is the last that the session has then seen, and at which the plane has looked last: the verdict under
+-- its policy was served, and what that changes is done.
 pub record IsActedUnder (site : Site) (asked : RequestRows) (old : PlaneRows) (was : Visit) (gave : Served) (new : PlaneRows) (now : Visit) (m : Marked) : Type 0 where
   pub held : now.grounds ≡ Under m
   pub last : IsLast site now.pass m
-  pub met : HasMet old was new now
+  -- by a meeting, or beside others if the call only reads
+  pub met : HasMet old was new now ⊎ ((only_reads asked.call ≡ true) × HasRead old was new now)
   pub same : HasSame site was.grounds m
   pub applied : Applies (policy_of site m) (looked m.version old.ledger) asked.token asked.call asked.at (Some gave) new.ledger
   -- what is read of DAGs, tasks, runs and instances shows nothing of a DAG that the token's owner may not read

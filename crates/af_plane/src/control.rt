@@ -1,4 +1,4 @@
-ghost use Rattle.std.specs.Prelude.{◌≡◌};
+ghost use Rattle.std.specs.Prelude.{◌≡◌, true};
 ghost use Rattle.std.specs.Option.{option_copied};
 ghost use Rattle.af_ops.specs.declared.policy_op.PolicyOp.TheVariants as asks;
 ghost use Rattle.af_audit.specs.Claimed.{IsClaimed};
@@ -9,6 +9,7 @@ ghost use Rattle.af_plane.specs.Logs.{HasAskedOnce, HasCalled, HasClaimed, HasRe
 ghost use Rattle.af_plane.specs.Looks.{held};
 ghost use Rattle.af_plane.specs.Names.{IsCall, IsDone, IsOfName};
 ghost use Rattle.af_plane.specs.Planes.{ClaimIs, ReportIs, TickIs};
+ghost use Rattle.af_plane.specs.Requests.{only_reads};
 ghost use Rattle.af_plane.specs.Solos.{first_mark};
 ghost use Rattle.af_plane.specs.Turns.{IsOfPlane};
 
@@ -26,19 +27,25 @@ use af_policy::{Ask, ChangeKind, PolicyRead};
 use af_sched::{Claim, Outcome};
 use std::alloc::Global;
 use std::hint::spin_loop;
-use std::sync::{Mutex, MutexGuard, Wait};
+use std::sync::{RwLock, RwLockReadGuard, RwLockWriteGuard, Wait};
+use std::thread;
 
 /// How often a thread tries to take the lock before it sleeps.
 const TRIES: u32 = 1_000;
 
-/// For how many pauses of the processor it waits after each.
+/// How many of these tries come one after another. After each of the others the thread lets others run: who has the lock may be waiting for a
+/// processor.
+const AT_ONCE: u32 = 100;
+
+/// For how many pauses of the processor it waits between tries that come one after another.
 const PAUSES: u32 = 8;
 
-/// A board, and a plane behind a lock, which threads share, each with a session of its own.
+/// A board, and a plane behind a lock, which threads share, each with a session of its own. Calls that only read (`Request::only_reads`) may
+/// have the lock together. All else that takes it has it alone.
 #[derive(Drop)]
 pub struct Control<N: Named> {
     board: Board,
-    locked: Mutex<Locked<N>>,
+    locked: RwLock<Locked<N>>,
     ghost board_is: { board ≡ N.name.site },
 }
 
@@ -51,23 +58,32 @@ impl<N: Named> Control<N> {
         let (door, board, plane) = Door::of(parts);
         let control = Control {
             board,
-            locked: Mutex::new(Locked::of(plane)),
+            locked: RwLock::new(Locked::of(plane)),
         };
         (control, door)
     }
 
-    /// The plane, when no other thread has it. A turn takes less time than the system takes to wake a thread, so a thread first tries for
+    /// The plane alone, when no other thread has it. A turn takes less time than the system takes to wake a thread, so a thread first tries for
     /// about as long as some turns take, and only then sleeps.
-    fn plane(&self, rt: &impl Wait) -> MutexGuard<'_, Locked<N>> {
-        for _ in 0..TRIES {
-            if let Some(plane) = self.locked.try_lock() {
+    fn plane(&self, rt: &impl Wait) -> RwLockWriteGuard<'_, Locked<N>> {
+        for tries in 0..TRIES {
+            if let Some(plane) = self.locked.try_write() {
                 return plane;
             }
-            for _ in 0..PAUSES {
-                spin_loop();
-            }
+            wait_a_little(tries);
         }
-        self.locked.lock(rt)
+        self.locked.write(rt)
+    }
+
+    /// The plane together with other calls that only read, when no thread has it alone.
+    fn shared(&self, rt: &impl Wait) -> RwLockReadGuard<'_, Locked<N>> {
+        for tries in 0..TRIES {
+            if let Some(plane) = self.locked.try_read() {
+                return plane;
+            }
+            wait_a_little(tries);
+        }
+        self.locked.read(rt)
     }
 
     /// The versions of the policy. They are read and made without the plane's lock.
@@ -85,9 +101,49 @@ impl<N: Named> Control<N> {
         self.plane(rt).session(&self.board, ticket)
     }
 
-    /// Answers a call on the state, or for event logs, by one turn under the lock. It does nothing else: the session then has this call, with
-    /// this answer, and no more.
+    /// Answers a call on the state, or for event logs, by one turn on the plane. It does nothing else: the session then has this call, with
+    /// this answer, and no more. A call that only reads (`Request::only_reads`) shares the lock with others of its kind. It has a turn alone if
+    /// its session finds another version than the one at which the plane looked last. So it does if the policy of the last version is not to be
+    /// had, or if the entries could not be shown (`Keeper::show`). All other calls have the lock alone, `GET /version` and dry runs among them.
     pub fn call(
+        &self,
+        rt: &impl Wait,
+        alloc: Global,
+        session: &mut Visitor<N>,
+        request: &Request<'_>,
+    ) -> Served
+        requires { IsOfPlane request.now.call }
+        ensures call { IsCall N.name request.now session.old.visit result session.new.visit }
+        ensures once { HasCalled session.old request.now.call request.now.at result session.new }
+    {
+        if request.only_reads() {
+            self.read_call(rt, alloc, session, request)
+        } else {
+            self.alone(rt, alloc, session, request)
+        }
+    }
+
+    /// Answers a call that only reads: beside others, or by a turn alone.
+    fn read_call(
+        &self,
+        rt: &impl Wait,
+        alloc: Global,
+        session: &mut Visitor<N>,
+        request: &Request<'_>,
+    ) -> Served
+        requires { only_reads request.now.call ≡ true }
+        ensures call { IsCall N.name request.now session.old.visit result session.new.visit }
+        ensures once { HasCalled session.old request.now.call request.now.at result session.new }
+    {
+        let read = self.shared(rt).read(alloc, &self.board, session, request);
+        match read {
+            Some(served) => served,
+            None => self.alone(rt, alloc, session, request),
+        }
+    }
+
+    /// Answers a call by a turn on the plane alone.
+    fn alone(
         &self,
         rt: &impl Wait,
         alloc: Global,
@@ -199,5 +255,16 @@ impl<N: Named> Control<N> {
     {
         self.plane(rt)
             .report(alloc, &self.board, session, claim, outcome, at)
+    }
+}
+
+/// What a thread does after so many tries for the lock.
+fn wait_a_little(tries: u32) {
+    if tries < AT_ONCE {
+        for _ in 0..PAUSES {
+            spin_loop();
+        }
+    } else {
+        thread::yield_now();
     }
 }

@@ -69,9 +69,9 @@ pub fn deeds_are_events()
     ensures { DeedsAreEvents }
 {}
 
-/// All calls of any number of sessions over one plane behind a lock, in the order in which they took it, with what they ask of the policy and
-/// the ticks, claims and reports between, are one run of the world of as many sessions: its steps are those of the events, and its answers
-/// those that were given.
+/// Take an order of all that happens at one plane: the first finds the opening plane, and each other what the one before it left. In it are all
+/// calls of any number of sessions, what they ask of the policy, and the ticks, claims and reports. It is one run of the world of as many
+/// sessions: its steps are those of the events, and its answers those that were given.
 pub fn calls_of_all_are_one_run()
     ensures { CallsOfAllAreOneRun }
 {}

@@ -1,9 +1,10 @@
 ghost use Rattle.std.specs.Prelude.{◌≡◌};
 ghost use Rattle.std.specs.Option.{option_copied};
+ghost use Rattle.af_plane.specs.Requests.{only_reads};
 
 use af_audit::Presented;
 use af_names::Instant;
-use af_ops::Call;
+use af_ops::{Call, route_of};
 use std::marker::Model;
 
 /// What is asked: a call, the token that came with it, and the time at which it is decided.
@@ -31,6 +32,18 @@ impl<'a> Request<'a> {
         match self.token {
             Some(token) => Some(token.bytes()),
             None => None,
+        }
+    }
+
+    /// Whether the call only reads: it is a GET on the state that is decided under a version, or a request for event logs. An open operation
+    /// is decided under none. Other calls may change nothing too, as a dry run does.
+    pub fn only_reads(&self) -> bool
+        ensures { result ≡ only_reads self.now.call }
+    {
+        match self.call {
+            Call::State(op) => op.is_read() && !route_of(op.endpoint()).is_open,
+            Call::Entries(_) => true,
+            Call::Policy(_) => false,
         }
     }
 }

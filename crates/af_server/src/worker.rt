@@ -65,7 +65,7 @@ impl<'a, N: Named, R: Wait + Machine, G: Gate> Worker<'a, N, R, G> {
         }
     }
 
-    /// Decides a call on the plane, by one turn under the lock. The token is hashed before.
+    /// Decides a call on the plane, by one turn there. The token is hashed before the lock is taken.
     fn take_turn(&mut self, token: Option<&[u8]>, call: &Call) -> Served
         requires { IsOfPlane call.now }
         ensures { Works R.behaviour.tells N.name self.old (option_copied token.entry) call.now result self.new }

@@ -1,11 +1,12 @@
-ghost use Rattle.std.specs.Prelude.{◌≡◌};
+ghost use Rattle.std.specs.Prelude.{◌≡◌, true, IfNone, IfSome};
 ghost use Rattle.af_audit.specs.Claimed.{IsClaimed};
 ghost use Rattle.af_audit.specs.Reported.{IsReported};
 ghost use Rattle.af_audit.specs.Ticked.{IsTicked};
-ghost use Rattle.af_plane.specs.Logs.{HasCalled, HasClaimed, HasReported, HasTicked, new_visitor};
-ghost use Rattle.af_plane.specs.Looks.{held};
+ghost use Rattle.af_plane.specs.Logs.{HasCalled, HasClaimed, HasDoneNothing, HasReported, HasTicked, new_visitor};
+ghost use Rattle.af_plane.specs.Looks.{HasOnlyLooked, held};
 ghost use Rattle.af_plane.specs.Names.{IsCall, IsDoneOn, IsOfName};
 ghost use Rattle.af_plane.specs.Planes.{ClaimIs, ReportIs, TickIs};
+ghost use Rattle.af_plane.specs.Requests.{only_reads};
 ghost use Rattle.af_plane.specs.Solos.{first_mark};
 ghost use Rattle.af_plane.specs.Turns.{IsOfPlane};
 
@@ -61,6 +62,31 @@ impl<N: Named> Locked<N> {
         session.calls = session.calls.and(request.call, &served);
         session.times = session.times.and(&request.at, &served);
         served
+    }
+
+    /// One turn of a session, for a call that only reads. It borrows the plane as shared and changes nothing of it, so that other sessions may
+    /// do so at the same time. None if it has to be a turn on the plane alone: then the session has looked, and nothing else is done.
+    pub(crate) fn read(
+        &self,
+        alloc: Global,
+        board: &Board,
+        session: &mut Visitor<N>,
+        request: &Request<'_>,
+    ) -> Option<Served>
+        requires board { board.now ≡ N.name.site }
+        requires reads { only_reads request.now.call ≡ true }
+        ensures once { IfSome result (λ gave. HasCalled session.old request.now.call request.now.at gave session.new) }
+        ensures call { IfSome result (λ gave. (it : IsCall N.name request.now session.old.visit gave session.new.visit) × (it.old ≡ self.now.plane) × (it.new ≡ self.now.plane)) }
+        ensures none { IfNone result (HasOnlyLooked session.old.visit session.new.visit × HasDoneNothing session.old session.new) }
+    {
+        self.plane.conditions();
+        let read = self.plane.read(alloc, board, &mut session.session, request);
+        let Some(served) = read else {
+            return None;
+        };
+        session.calls = session.calls.and(request.call, &served);
+        session.times = session.times.and(&request.at, &served);
+        Some(served)
     }
 
     /// A tick, while a session visits.

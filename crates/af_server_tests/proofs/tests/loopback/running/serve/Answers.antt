@@ -1,12 +1,8 @@
 use Rattle.std.proofs.Crossing.{crosses}
 use denote.Param.Send.{sendable}
-use Rattle.af_mask.proofs.Threads.{compiled_sync, compiled_send}
-use Rattle.af_word.proofs.word.VersionWord.TheSendSync as word
-use Rattle.boxcar.proofs.slot.OnceSlot.TheSendSync as slot
-use Rattle.boxcar.proofs.tag.Tag.TheSendSync as tag
-use Rattle.af_plane.proofs.Threads.{plane_send}
+use Rattle.af_plane.proofs.Threads.{control_sync}
 use Rattle.af_server_tests.proofs.tests.loopback.running.serve.Goals as goal
 
 -- a control and its door may be shared by threads
 pub serve_shared-requires-sync-C : goal.serve_shared-requires-sync-C
-serve_shared-requires-sync-C g c κs within = search (sendable, crosses, plane_send, compiled_sync, compiled_send, word.the_sync, slot.the_send, slot.the_sync, tag.the_sync) depth 60 fits 100000
+serve_shared-requires-sync-C g c κs within = search (sendable, crosses, control_sync) depth 60 fits 100000
