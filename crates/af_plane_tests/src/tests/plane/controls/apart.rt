@@ -6,7 +6,7 @@ use crate::tests::plane::calls::read_asked;
 use crate::tests::plane::controls::asking::answered;
 use crate::tests::plane::controls::pair::Who;
 use crate::tests::plane::controls::playing::{Row, Step};
-use crate::tests::plane::controls::rows::{DEMOTED, PAUSED_ONCE};
+use crate::tests::plane::controls::rows::{DEMOTED, PAUSED_ONCE, READ_AGAIN, TRIGGERED};
 use crate::tests::plane::controls::turns::Turns;
 use crate::tests::plane::playing::token;
 use crate::tests::plane::told;
@@ -24,7 +24,17 @@ use std::thread::Threads;
 pub enum Story {
     Demoted,
     PausedOnce,
+    ReadAgain,
+    Triggered,
 }
+
+/// Each story, how many of its rows are of the first session, and how many of the second.
+pub const STORIES: &[(Story, usize, usize)] = &[
+    (Story::Demoted, 2, 2),
+    (Story::PausedOnce, 2, 2),
+    (Story::ReadAgain, 6, 2),
+    (Story::Triggered, 2, 2),
+];
 
 impl Story {
     /// What is asked, and what is told.
@@ -32,6 +42,8 @@ impl Story {
         match self {
             Story::Demoted => DEMOTED,
             Story::PausedOnce => PAUSED_ONCE,
+            Story::ReadAgain => READ_AGAIN,
+            Story::Triggered => TRIGGERED,
         }
     }
 }
@@ -138,7 +150,7 @@ fn is_told<N: Named, R: Wait>(
 }
 
 /// Whether a row in which a user asks goes as it says.
-fn goes<N: Named, R: Wait>(
+pub fn goes<N: Named, R: Wait>(
     rt: &R,
     alloc: Global,
     control: &Control<N>,

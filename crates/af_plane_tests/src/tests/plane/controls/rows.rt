@@ -102,6 +102,59 @@ pub const PAUSED_ONCE: &[Row] = &[
     ),
 ];
 
+const LOGS_OF_ONE: &str =
+    r#"{"event_logs":[{"dag_id":"b","event":"patch_dag","event_log_id":1,"owner":"uma","policy_version":1,"run_id":null,"task_id":null,"when":"2024-01-01T00:00:00+00:00"}],"total_entries":1}"#;
+
+/// vera reads in the first session. adam changes her roles in the second, so her next read is decided under a version that the plane had not
+/// looked at, and the one behind it under one that it had. A pause in the second is shown to the next read in the first.
+pub const READ_AGAIN: &[Row] = &[
+    (
+        Who::First,
+        Step::Ask((OF_VERA, Status::Ok, (Some(0), Some(0)), THREE)),
+        (0, 0),
+    ),
+    (
+        Who::Second,
+        Step::Ask((DEMOTE, Status::Ok, (Some(1), None), OF_PUBLIC)),
+        (1, 0),
+    ),
+    (
+        Who::First,
+        Step::Ask((OF_VERA, Status::Forbidden, (Some(1), Some(0)), NO_DAGS)),
+        (1, 0),
+    ),
+    (
+        Who::First,
+        Step::Ask((OF_VERA, Status::Forbidden, (Some(1), Some(0)), NO_DAGS)),
+        (1, 0),
+    ),
+    (
+        Who::First,
+        Step::Ask((OF_ADAM, Status::Ok, (Some(1), Some(0)), THREE)),
+        (1, 0),
+    ),
+    (
+        Who::Second,
+        Step::Ask((PAUSE, Status::Ok, (Some(1), Some(1)), PAUSED)),
+        (1, 1),
+    ),
+    (
+        Who::First,
+        Step::Ask((
+            ("admin", Endpoint::ListEntries, &[], ""),
+            Status::Ok,
+            (Some(1), Some(1)),
+            LOGS_OF_ONE,
+        )),
+        (1, 1),
+    ),
+    (
+        Who::First,
+        Step::Ask((OF_ADAM, Status::Ok, (Some(1), Some(1)), B_PAUSED)),
+        (1, 1),
+    ),
+];
+
 const TRIGGER: Asked = (
     "abc",
     Endpoint::TriggerRun,
@@ -111,6 +164,40 @@ const TRIGGER: Asked = (
 
 const RUN: &str =
     r#"{"dag_id":"b","dag_run_id":"r1","data_interval_end":"2024-01-01T00:00:00+00:00","data_interval_start":"2024-01-01T00:00:00+00:00","end_date":null,"logical_date":"2024-01-01T00:00:00+00:00","run_type":"manual","start_date":null,"state":"queued"}"#;
+
+/// uma's session is the first. Her run is seen in the second, and a pause there is seen in hers.
+pub const TRIGGERED: &[Row] = &[
+    (
+        Who::First,
+        Step::Ask((TRIGGER, Status::Ok, (Some(0), Some(1)), RUN)),
+        (0, 1),
+    ),
+    (
+        Who::Second,
+        Step::Ask((
+            ("test", Endpoint::GetRun, &["b", "r1"], ""),
+            Status::Ok,
+            (Some(0), Some(1)),
+            RUN,
+        )),
+        (0, 1),
+    ),
+    (
+        Who::Second,
+        Step::Ask((PAUSE, Status::Ok, (Some(0), Some(2)), PAUSED)),
+        (0, 2),
+    ),
+    (
+        Who::First,
+        Step::Ask((
+            ("abc", Endpoint::GetDag, &["b"], ""),
+            Status::Ok,
+            (Some(0), Some(2)),
+            PAUSED,
+        )),
+        (0, 2),
+    ),
+];
 
 const CLEAR: Asked = ("abc", Endpoint::ClearInstances, &["b"], "{}");
 
