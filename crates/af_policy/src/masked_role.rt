@@ -1,13 +1,14 @@
-ghost use Rattle.std.specs.Prelude.{◌≡◌, List, ℕ, IfOk};
+ghost use Rattle.std.specs.Prelude.{◌≡◌, false, List, ℕ, IfOk};
 ghost use Rattle.af_role.specs.declared.action.Action.{Action};
 ghost use Rattle.af_role.specs.declared.resource.ResourceKind.{ResourceKind};
+ghost use Rattle.af_role.specs.Access.{synced_role};
 ghost use Rattle.af_role.specs.DagMasks.{dag_has};
 ghost use Rattle.af_role.specs.KindMasks.{kind_has};
 ghost use Rattle.af_role.specs.Pairs.{on_dag, on_kind};
 ghost use Rattle.af_role.specs.Roles.{lists};
 
 use af_names::DagId;
-use af_role::{Action, DagMask, KindMask, Mask, Permissions, Role};
+use af_role::{AccessControl, Action, DagMask, KindMask, Mask, Permissions, Role};
 use std::alloc::{AllocError, Global};
 use std::marker::Model;
 
@@ -73,5 +74,13 @@ impl MaskedRole {
         ensures { result ≡ lists self.now (on_dag action dag.now) }
     {
         self.mask.has_on_dag(action, dag)
+    }
+
+    /// Whether a sync of a DAG's access control may change the role; where not, it stays as it is.
+    /// The DAG is looked up in the mask, by binary search.
+    pub(crate) fn is_touched(&self, dag: &DagId, access: &AccessControl) -> bool
+        ensures stays { result ≡ false → synced_role dag.now access.now self.now ≡ self.now }
+    {
+        (!self.role.is_admin() && self.dags().has_any_on(dag)) || access.names(self.role.name())
     }
 }

@@ -8,7 +8,7 @@ use crate::masked_role::MaskedRole;
 use crate::role_rows::RoleByName;
 use crate::shared::Table;
 use af_names::DagId;
-use af_role::{AccessControl, Role};
+use af_role::AccessControl;
 use std::alloc::{AllocError, Global};
 use std::sync::Arc;
 
@@ -40,7 +40,7 @@ fn sync_each(
 {
     for row in rows {
         made.facts();
-        sync_row(alloc, made, row.role(), dag, access)?;
+        sync_row(alloc, made, row.masked(), dag, access)?;
     }
     Ok(())
 }
@@ -49,14 +49,14 @@ fn sync_each(
 fn sync_row(
     alloc: Global,
     made: &mut Table<RoleByName>,
-    role: &Role,
+    role: &MaskedRole,
     dag: &DagId,
     access: &AccessControl,
 ) -> Result<(), AllocError>
     ensures { OnOk result ((made.new ≡ with_role made.old (synced_role dag.now access.now role.now)) ⊎ ((made.new ≡ made.old) × (synced_role dag.now access.now role.now ≡ role.now))) }
 {
     if role.is_touched(dag, access) {
-        let role = MaskedRole::of(alloc, role.synced(alloc, dag, access)?)?;
+        let role = MaskedRole::of(alloc, role.role().synced(alloc, dag, access)?)?;
         let role = Arc::new(alloc, role)?;
         made.put(alloc, RoleByName::new(role))?;
     }

@@ -4,7 +4,7 @@ use Rattle.std.specs.List.{AllByRecursion, filter, flat_map, list_any}
 use Rattle.std.specs.Cmp.Lexicographic.{pointwise}
 use Rattle.af_role.specs.declared.access.AccessRow.{AccessRow}
 use Rattle.af_role.specs.Access.{is_about, is_admin_name, listed_pairs, names_role, pairs_at, row_pairs, synced_role}
-use Rattle.af_role.specs.Roles.{RoleRow}
+use Rattle.af_role.specs.Roles.{RoleRow, contains_pair, lists}
 use Rattle.std.specs.List.Sorted.{IsStrictlySortedBy}
 use Rattle.std.specs.Cmp.{IsTotalOrder}
 use Rattle.std.specs.Cmp.Rules.{comparing}
@@ -17,7 +17,14 @@ use Rattle.std.proofs.Math.Seq.{take-suc}
 use Rattle.std.proofs.lemmas.List.Sums.{fold-append}
 use Rattle.std.proofs.lemmas.List.Concat.{flat_map-cons}
 use Rattle.std.proofs.lemmas.List.Kept.{IsStrictlySortedBy-filter}
-use Rattle.af_role.specs.Pairs.{PairRow, pair_cmp, with_pair, with_pairs}
+use Rattle.af_role.specs.Pairs.{PairRow, on_dag, pair_cmp, same_pair, with_pair, with_pairs}
+use Rattle.af_base.specs.Ordered.{is_there}
+use Rattle.af_role.specs.declared.action.Action.{Action}
+use Rattle.af_role.specs.declared.action.Action.TheVariants.{Create, Read, Edit, Delete}
+use Rattle.af_role.specs.declared.dag_mask.DagActions.{DagActions}
+use Rattle.af_role.specs.Resources.{same_action}
+use Rattle.af_role.specs.DagMasks.{dag_has, id_of}
+use Rattle.af_role.proofs.DagMaskLemmas.{none_has}
 
 pub pair_total : IsTotalOrder pair_cmp
 pair_total = search (comparing, rules) depth 9
@@ -101,3 +108,32 @@ untouched dag access role none =
     kept : (admin : Bool) → (not admin && list_any (is_about dag) role.pairs) ≡ false → cond admin role.pairs (filter (λ pair. not (is_about dag pair)) role.pairs) ≡ role.pairs
     kept true out = refl
     kept false out = filter-none (is_about dag) role.pairs out
+
+-- a permission on a DAG is that of its own action there
+same_action-self : (action : Action) → same_action action action ≡ true
+same_action-self Create = refl
+same_action-self Read = refl
+same_action-self Edit = refl
+same_action-self Delete = refl
+
+and-true : (a b : Bool) → b ≡ true → (a && b) ≡ false → a ≡ false
+and-true true b is e = sym is ∙ e
+and-true false b is e = refl
+
+-- where no action on a DAG is listed, no permission is about it
+unlisted : (dag : List ℕ) (pairs : List PairRow) → ((action : Action) → contains_pair pairs (on_dag action dag) ≡ false) → list_any (is_about dag) pairs ≡ false
+unlisted dag [] none = refl
+unlisted dag (p ∷ ps) none =
+    let here = or-false (same_pair p (on_dag p.action dag)) (contains_pair ps (on_dag p.action dag)) (none p.action)
+    in (λ i. and-true (is_about dag p) (same_action p.action p.action) (same_action-self p.action) here.0 i || list_any (is_about dag) ps)
+    ∙ unlisted dag ps (λ action. (or-false (same_pair p (on_dag action dag)) (contains_pair ps (on_dag action dag)) (none action)).1)
+
+-- a sync does not touch a role that it does not name, and in whose mask the DAG has no row
+pub untouched_by_mask : (dag : List ℕ) (access : List AccessRow) (role : RoleRow) (rows : List DagActions) → ((id : List ℕ) (action : Action) → dag_has rows id action ≡ lists role (on_dag action id)) → ((not (is_admin_name role.name) && is_there id_of rows dag) || names_role access role.name) ≡ false → synced_role dag access role ≡ role
+untouched_by_mask dag access role rows masks none =
+    let parts = or-false (not (is_admin_name role.name) && is_there id_of rows dag) (names_role access role.name) none
+    in untouched dag access role (λ i. absent (not (is_admin_name role.name)) parts.0 i || parts.1 i)
+  where
+    absent : (other : Bool) → (other && is_there id_of rows dag) ≡ false → (other && list_any (is_about dag) role.pairs) ≡ false
+    absent true out = unlisted dag role.pairs (λ action. sym (masks dag action) ∙ none_has rows dag action out)
+    absent false out = refl

@@ -59,7 +59,8 @@ stands_has rows dag place d action stands =
     (λ other e inside apart. ap (λ b. b && has ((get_or rows other e).actions) action) (stands.alone other e inside apart))
     ∙ ap (λ b. b && has ((get_or rows place d).actions) action) (stands.here d)
 
-none_has : (rows : List DagActions) (dag : List ℕ) (action : Action) → list_any (has_key id_of dag) rows ≡ false → dag_has rows dag action ≡ false
+-- a DAG that no row is about has no action
+pub none_has : (rows : List DagActions) (dag : List ℕ) (action : Action) → list_any (has_key id_of dag) rows ≡ false → dag_has rows dag action ≡ false
 none_has [] dag action none = refl
 none_has (x ∷ xs) dag action none = step (has_key id_of dag x) (none_has xs dag action) none
   where

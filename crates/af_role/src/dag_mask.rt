@@ -1,12 +1,12 @@
 ghost use Rattle.std.specs.Prelude.{◌≡◌, ◌||◌, ◌&&◌, [], List, ℕ, nat_eq, OnOk};
 ghost use Rattle.std.specs.Cmp.Lexicographic.{pointwise};
-ghost use Rattle.af_base.specs.Ordered.{AreInOrder};
+ghost use Rattle.af_base.specs.Ordered.{AreInOrder, is_there};
 ghost use Rattle.af_role.specs.declared.action.Action.{Action};
 ghost use Rattle.af_role.specs.Resources.{same_action};
 ghost use Rattle.af_role.specs.DagMasks.{dag_has, id_of};
 
 use crate::{Action, Actions};
-use af_base::{Keyed, place_in};
+use af_base::{Keyed, is_there, place_in};
 use af_names::DagId;
 use std::alloc::{AllocError, Global};
 use std::marker::Model;
@@ -60,6 +60,13 @@ impl DagMask {
         ensures order { AreInOrder id_of self.now }
     {
         self.rows.as_slice()
+    }
+
+    /// Whether some action on a DAG is there. The DAG is found by binary search.
+    pub fn has_any_on(&self, dag: &DagId) -> bool
+        ensures { result ≡ is_there id_of self.now dag.now }
+    {
+        is_there(self.rows.as_slice(), dag.as_str())
     }
 
     /// Whether an action on a DAG is there. The DAG is found by binary search.

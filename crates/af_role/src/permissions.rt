@@ -1,5 +1,5 @@
 ghost use Rattle.std.specs.Prelude.{◌≡◌, [], length, not, IfOk, OnOk, OnErr};
-ghost use Rattle.std.specs.List.{filter, list_any};
+ghost use Rattle.std.specs.List.{filter};
 ghost use Rattle.std.specs.Map.Iter.{ShowsInOrder, deref};
 ghost use Rattle.std.specs.List.Sorted.{IsStrictlySortedBy};
 ghost use Rattle.af_role.specs.Pairs.{PairRow, pair_cmp, with_pair, with_pairs};
@@ -61,13 +61,6 @@ impl Permissions {
         ensures order { IsStrictlySortedBy pair_cmp self.now }
     {
         self.pairs.iter()
-    }
-
-    /// Whether some permission is about one DAG alone.
-    pub fn has_any_on(&self, dag: &DagId) -> bool
-        ensures { result ≡ list_any (is_about dag.now) self.now }
-    {
-        self.iter().any(|own| own.is_about(dag))
     }
 
     /// Adds the permissions of another set, each at its place. `AllocError` only where a growth was refused.

@@ -1,7 +1,6 @@
-ghost use Rattle.std.specs.Prelude.{◌≡◌, ◌⊎◌, ◌||◌, ◌&&◌, true, false, not, Ok, Err, IfOk, IfErr, OnOk, OnErr, map};
-ghost use Rattle.std.specs.List.{list_any};
+ghost use Rattle.std.specs.Prelude.{◌≡◌, ◌⊎◌, true, Ok, Err, IfOk, IfErr, OnOk, OnErr, map};
 ghost use Rattle.std.specs.Option.{is_some, option_copied};
-ghost use Rattle.af_role.specs.Access.{has_role, is_about, is_admin_name, kept_pairs, names_role, synced, synced_role, unknown_role};
+ghost use Rattle.af_role.specs.Access.{has_role, is_admin_name, kept_pairs, synced, synced_role, unknown_role};
 
 use crate::{AccessControl, Permissions, Role, SyncFault};
 use af_names::{DagId, RoleName};
@@ -103,14 +102,5 @@ impl Role {
         ensures { result ≡ is_admin_name self.now.name }
     {
         self.name().as_str() == "Admin"
-    }
-
-    /// Whether a sync of a DAG's access control may change the role; where not, it stays as it is.
-    #[tactic(auto, using(crate::proofs::AccessLemmas::untouched))]
-    pub fn is_touched(&self, dag: &DagId, access: &AccessControl) -> bool
-        ensures test { result ≡ ((not (is_admin_name self.now.name) && list_any (is_about dag.now) self.now.pairs) || names_role access.now self.now.name) }
-        ensures stays { result ≡ false → synced_role dag.now access.now self.now ≡ self.now }
-    {
-        (!self.is_admin() && self.permissions().has_any_on(dag)) || access.names(self.name())
     }
 }

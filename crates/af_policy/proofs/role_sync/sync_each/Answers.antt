@@ -11,4 +11,4 @@ loop-row-preserved c =
     c.args.rows.now c.loop-row.row-index c.row-item.result c.loop-row.made c.sync_row.new.made c.row-item.is c.loop-row-test.true
     c.loop-row.invariant c.facts.ensures
     (subst (λ (role : RoleRow). (c.sync_row.new.made ≡ with_role c.loop-row.made (synced_role c.args.dag.now c.args.access.now role)) ⊎ ((c.sync_row.new.made ≡ c.loop-row.made) × (synced_role c.args.dag.now c.args.access.now role ≡ role)))
-    c.role.ensures c.in_ok-sync_row.ensures)
+    c.masked.ensures c.in_ok-sync_row.ensures)
