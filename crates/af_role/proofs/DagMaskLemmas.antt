@@ -1,15 +1,19 @@
 -- Rows of single DAGs: the row that a search found, and what is there after an action is added.
-use Rattle.std.proofs.Common.{◌≡◌, ◌≢◌, ℕ, zero, suc, ◌<◌, List, [], ◌∷◌, length, get_or, set, take, drop, Bool, true, false, ◌&&◌, ◌||◌, nat_eq, refl, sym, ap, ◌∙◌, arith}
-use Rattle.std.specs.Prelude.{insert}
+use Rattle.std.proofs.Common.{◌≡◌, ◌≢◌, ℕ, zero, suc, ◌+◌, ◌<◌, ◌≤◌, List, [], ◌∷◌, length, get_or, set, take, drop, Bool, true, false, ◌&&◌, ◌||◌, nat_eq, refl, sym, ap, subst, ◌∙◌, arith}
+use Rattle.std.specs.Prelude.{insert, Ok, Err}
+use Rattle.std.specs.Ordering.{nat_cmp, ordering_index}
+use Rattle.std.specs.declared.cmp.Ordering.{Ordering}
+use Rattle.std.specs.declared.cmp.Ordering.TheVariants.{Less, Equal, Greater}
 use Rattle.std.specs.List.{list_any}
-use Rattle.std.specs.Cmp.Lexicographic.{pointwise, bytes_decides}
+use Rattle.std.specs.Cmp.Lexicographic.{pointwise, bytes_decides, slice_cmp}
 use Rattle.std.proofs.Math.Bool.{and-or_distrib_left}
 use Rattle.std.proofs.lemmas.Bool.{true≢false}
-use Rattle.std.proofs.lemmas.List.{take-append-drop}
+use Rattle.std.proofs.lemmas.List.{get_or_default, take-append-drop}
 use Rattle.std.proofs.lemmas.List.Folds.{list_any-append}
 use Rattle.af_names.proofs.OrderLemmas.{list_any-none}
-use Rattle.af_base.specs.Ordered.{has_key}
+use Rattle.af_base.specs.Ordered.{AreInOrder, has_key}
 use Rattle.af_base.specs.Places.{StandsAt, FitsAt}
+use Rattle.af_base.proofs.OrderedLemmas.{place_from_search}
 use Rattle.af_role.specs.declared.action.Action.{Action}
 use Rattle.af_role.specs.declared.dag_mask.DagActions.{DagActions}
 use Rattle.af_role.specs.ActionSets.{has}
@@ -87,3 +91,25 @@ pub added_row : (rows : List DagActions) (dag : List ℕ) (place : ℕ) (row : D
 added_row rows dag place row b same is other a =
     list_any-insert (row_has other a) rows place row
     ∙ (λ i. (pointwise nat_eq (same i) other && is a i) || dag_has rows other a)
+
+lowest : (o : Ordering) → ordering_index o ≤ 0 → o ≡ Less
+lowest Less within = refl
+lowest Equal within = absurd (omega (arith, within))
+lowest Greater within = absurd (omega (arith, within))
+
+-- the last row is that of the DAG, or stands before it
+module _ (rows : List DagActions) (dag : List ℕ) (last : ℕ) (row : DagActions) (order : AreInOrder id_of rows) (at : row ≡ get_or rows last row) (ends : last + 1 ≡ length rows) where
+  at_last : (o : Ordering) → slice_cmp nat_cmp row.dag dag ≡ o → (d : DagActions) → slice_cmp nat_cmp ((get_or rows last d).dag) dag ≡ o
+  at_last o is d = ap (λ (own : DagActions). slice_cmp nat_cmp own.dag dag) (get_or_default rows last d row (omega (arith, ends)) ∙ sym at) ∙ is
+
+  pub stands_last : slice_cmp nat_cmp row.dag dag ≡ Equal → StandsAt id_of rows dag last
+  stands_last same = place_from_search id_of rows dag (Ok last) order (omega (arith, ends)) (at_last Equal same)
+
+  pub fits_behind : slice_cmp nat_cmp row.dag dag ≡ Less → FitsAt id_of rows dag (length rows)
+  fits_behind below =
+      place_from_search id_of rows dag (Err (length rows)) order (omega arith)
+      (λ rises. (
+        λ j d low high. lowest (slice_cmp nat_cmp ((get_or rows j d).dag) dag)
+            (subst (λ o. ordering_index (slice_cmp nat_cmp ((get_or rows j d).dag) dag) ≤ ordering_index o) (at_last Less below d) (rises j last d (omega (arith, high, ends)) (omega (arith, ends)))),
+        λ j d low high. absurd (omega (arith, low, high)),
+      ))

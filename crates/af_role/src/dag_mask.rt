@@ -1,6 +1,7 @@
-ghost use Rattle.std.specs.Prelude.{◌≡◌, ◌||◌, ◌&&◌, [], List, ℕ, nat_eq, OnOk};
+ghost use Rattle.std.specs.Prelude.{◌≡◌, ◌||◌, ◌&&◌, [], List, ℕ, nat_eq, OnOk, MatchResult};
 ghost use Rattle.std.specs.Cmp.Lexicographic.{pointwise};
 ghost use Rattle.af_base.specs.Ordered.{AreInOrder, is_there};
+ghost use Rattle.af_base.specs.Places.{FitsAt, StandsAt};
 ghost use Rattle.af_role.specs.declared.action.Action.{Action};
 ghost use Rattle.af_role.specs.Resources.{same_action};
 ghost use Rattle.af_role.specs.DagMasks.{dag_has, id_of};
@@ -9,6 +10,7 @@ use crate::{Action, Actions};
 use af_base::{Keyed, is_there, place_in};
 use af_names::DagId;
 use std::alloc::{AllocError, Global};
+use std::cmp::Ordering;
 use std::marker::Model;
 
 /// The actions on one DAG.
@@ -83,7 +85,7 @@ impl DagMask {
     pub fn add(&mut self, alloc: Global, action: Action, dag: &DagId) -> Result<(), AllocError>
         ensures { OnOk result ((other : List ℕ) (a : Action) → dag_has self.new other a ≡ ((pointwise nat_eq dag.now other && same_action action a) || dag_has self.old other a)) }
     {
-        match place_in(self.rows.as_slice(), dag.as_str()) {
+        match place_from_end(self.rows.as_slice(), dag.as_str()) {
             Ok(place) => {
                 let row = &mut self.rows[place];
                 row.actions = row.actions.with(action);
@@ -95,5 +97,20 @@ impl DagMask {
             }
         }
         Ok(())
+    }
+}
+
+/// The place of a DAG's row, or where it would stand. The last row is tried first, since permissions are added in their order.
+fn place_from_end(rows: &[DagActions], dag: &str) -> Result<usize, usize>
+    requires { AreInOrder id_of rows.now }
+    ensures { MatchResult result (StandsAt id_of rows.now dag.now) (FitsAt id_of rows.now dag.now) }
+{
+    let Some(last) = rows.len().checked_sub(1) else {
+        return place_in(rows, dag);
+    };
+    match rows[last].key().cmp(dag) {
+        Ordering::Less => Err(rows.len()),
+        Ordering::Equal => Ok(last),
+        Ordering::Greater => place_in(rows, dag),
     }
 }
