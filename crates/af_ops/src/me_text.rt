@@ -51,14 +51,14 @@ impl<'v, 'a> Row for MeRow<'v, 'a> {
 pub(crate) fn me_text(alloc: Global, me: &Me<'_>, version: u32) -> Result<Vec<u8>, AllocError>
     ensures { IfOk result (λ text. text.items ≡ compact_text (object_of (me_fields (record { me = me.now; version = version })))) }
 {
-    let room = ME_ROOM + PAIR_ROOM * me.permissions.len().min(MOST_PAIRS);
+    let room = ME_ROOM + PAIR_ROOM * me.permissions.as_permissions().len().min(MOST_PAIRS);
     row_text_within(alloc, &MeRow { me, version }, room)
 }
 
 fn put_me(alloc: Global, out: &mut Text, me: &Me<'_>, version: u32) -> Result<(), AllocError>
     ensures { OnOk result (Adds false out.old out.new (me_fields (record { me = me.now; version = version }))) }
 {
-    put_permissions(out, &me.permissions)?;
+    put_permissions(out, me.permissions.as_permissions())?;
     out.number(true, "policy_version", u64::from(version))?;
     out.names(alloc, true, "roles", me.user.roles())?;
     out.text(alloc, true, "username", me.user.name().as_str())?;

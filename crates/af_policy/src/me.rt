@@ -1,10 +1,9 @@
-use crate::UserShown;
-use af_role::Permissions;
+use crate::{Granted, UserShown};
 
 /// Who brings a token: the user, the roles in byte order, and the permissions of all of them, each once, in the order in
 /// which permissions are shown.
 #[derive(Drop)]
 pub struct Me<'a> {
     pub user: UserShown<'a>,
-    pub permissions: Permissions,
+    pub permissions: Granted<'a>,
 }

@@ -1,4 +1,4 @@
-ghost use Rattle.std.specs.Prelude.{◌≡◌, ◌||◌, List, ℕ, [], length, map, not, IfOk, OnOk, OnErr};
+ghost use Rattle.std.specs.Prelude.{◌≡◌, ◌||◌, List, ℕ, [], ◌∷◌, length, map, not, IfOk, OnOk, OnErr};
 ghost use Rattle.std.specs.List.{AllByRecursion, find};
 ghost use Rattle.std.specs.Option.{option_copied};
 ghost use Rattle.af_role.specs.Access.{synced_role};
@@ -21,7 +21,7 @@ use crate::role_rows::{RoleByName, in_order};
 use crate::role_shown::roles_shown;
 use crate::role_sync::synced;
 use crate::shared::Table;
-use crate::{Page, RoleShown, Span};
+use crate::{Granted, Page, RoleShown, Span};
 use af_base::Ordered;
 use af_names::{DagId, RoleName};
 use af_role::{AccessControl, AccessRow, Action, KindMask, Permissions, Role};
@@ -159,8 +159,39 @@ impl RoleTable {
         Ok(Page::new(rows, self.len()))
     }
 
-    /// The permissions of the roles of these names, each once, in the order in which permissions are shown.
+    /// The permissions of the roles of these names, each once, in the order in which permissions are shown. Those of one role
+    /// alone take no memory.
     pub(crate) fn permissions_of(
+        &self,
+        alloc: Global,
+        names: &[RoleName],
+    ) -> Result<Granted<'_>, AllocError>
+        ensures { IfOk result (λ permissions. permissions ≡ permissions_of self.now names.now) }
+    {
+        if let Some((name, others)) = names.split_first() {
+            if others.is_empty() {
+                return Ok(self.granted_by(alloc, name));
+            }
+        }
+        let joined = self.joined_permissions(alloc, names)?;
+        Ok(Granted::joined(joined))
+    }
+
+    /// The permissions of the role of a name, none where there is no such role.
+    fn granted_by(&self, alloc: Global, name: &RoleName) -> Granted<'_>
+        ensures { result ≡ permissions_of self.now (name.now ∷ []) }
+    {
+        match self.get(name) {
+            Some(permissions) => {
+                let _in_order = permissions.iter();
+                Granted::only(alloc, permissions)
+            }
+            None => Granted::joined(Permissions::new(alloc)),
+        }
+    }
+
+    /// The permissions of the roles of these names, put together.
+    fn joined_permissions(
         &self,
         alloc: Global,
         names: &[RoleName],

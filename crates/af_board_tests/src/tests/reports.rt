@@ -143,7 +143,7 @@ pub fn report_me(
         Ok(me) => {
             report_user(report, &me.user);
             report.add(" ");
-            report_permissions(rt, alloc, report, &me.permissions);
+            report_permissions(rt, alloc, report, me.permissions.as_permissions());
         }
         Err(MeFault::Unauthenticated) => report.add("unauthenticated"),
         Err(_) => report.add("no such report"),

@@ -167,7 +167,7 @@ pub fn tell_self(
         Ok(me) => {
             tell_user(telling, &me.user);
             telling.tell(BLANK);
-            telling.tell_permissions(rt, alloc, &me.permissions);
+            telling.tell_permissions(rt, alloc, me.permissions.as_permissions());
         }
         Err(MeFault::Unauthenticated) => telling.tell(UNAUTHENTICATED),
         Err(_) => telling.tell(NO_SUCH_ANSWER),

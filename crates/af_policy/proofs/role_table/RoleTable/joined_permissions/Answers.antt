@@ -3,7 +3,7 @@ use Rattle.std.proofs.lemmas.List.Concat.{flat_map-append}
 use Rattle.std.proofs.Common.{[]}
 use Rattle.af_policy.specs.Tables.{listed_of}
 use Rattle.af_role.proofs.AccessLemmas.{put_next, flat_map-one}
-use Rattle.af_policy.proofs.role_table.RoleTable.permissions_of.Goals as goal
+use Rattle.af_policy.proofs.role_table.RoleTable.joined_permissions.Goals as goal
 
 pub loop-name-preserved : goal.loop-name-preserved
 loop-name-preserved c =
