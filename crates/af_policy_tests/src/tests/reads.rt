@@ -8,10 +8,10 @@ use crate::tests::stories::{Story, play};
 use crate::tests::telling::Telling;
 use crate::tests::told::{tell_answer, tell_self};
 use crate::tests::words::{
-    ABSENT, ADAMS, BAD, BOB, BOB_CHANGED, BOB_SELF, BOBS, DENIED, EDNA, EDNA_SELF, EDNA_SHOWN,
-    EDNAS, FIRST_USER, LAST_ROLE, NO_SUCH_ROLE, NO_SUCH_USER, NO_USER, NOBODY, ONLY_B,
-    ONLY_B_SHOWN, PAT_SELF, PATS, PUBLIC, PUBLIC_SHOWN, STRANGERS, THIRD_TO_FIFTH, TWO_ROLES,
-    UNAUTHENTICATED, VERAS, VERSION_1,
+    ABSENT, ADAMS, BAD, BOB, BOB_CHANGED, BOB_SELF, BOB_WITHOUT_ROLE, BOBS, DENIED, EDNA,
+    EDNA_SELF, EDNA_SHOWN, EDNAS, FIRST_USER, LAST_ROLE, NO_SUCH_ROLE, NO_SUCH_USER, NO_USER,
+    NOBODY, ONLY_B, ONLY_B_SHOWN, PAT_SELF, PATS, PUBLIC, PUBLIC_SHOWN, STRANGERS, THIRD_TO_FIFTH,
+    TWO_ROLES, UNAUTHENTICATED, VERAS, VERSION_1,
 };
 use af_names::{RoleName, UserName};
 use af_policy::{BadInput, MeFault, Parameter, PolicyRead, ReadFault, ReadKind, Span};
@@ -74,17 +74,30 @@ fn reads_are_told_or_refused_in_order(rt: HostRuntime) {
 /// The further role that bob gets, and one twice.
 const MORE_ROLES: &[&str] = &[PUBLIC, ONLY_B, ONLY_B];
 
-const CHANGED: &[Story] = &[Story {
-    members: THE_FIVE,
-    left: 2,
-    parts: &[
-        (
-            "an Admin may change a user",
-            &[Asks(ADAMS, Step::SetRoles(BOB, MORE_ROLES), VERSION_1)],
-        ),
-        (BOB, &[IsSelf(BOBS, 1, BOB_CHANGED)]),
-    ],
-}];
+const CHANGED: &[Story] = &[
+    Story {
+        members: THE_FIVE,
+        left: 2,
+        parts: &[
+            (
+                "an Admin may change a user",
+                &[Asks(ADAMS, Step::SetRoles(BOB, MORE_ROLES), VERSION_1)],
+            ),
+            (BOB, &[IsSelf(BOBS, 1, BOB_CHANGED)]),
+        ],
+    },
+    Story {
+        members: THE_FIVE,
+        left: 2,
+        parts: &[
+            (
+                "an Admin may take a user's only role",
+                &[Asks(ADAMS, Step::SetRoles(BOB, &[]), VERSION_1)],
+            ),
+            (BOB, &[IsSelf(BOBS, 1, BOB_WITHOUT_ROLE)]),
+        ],
+    },
+];
 
 #[test]
 fn a_changed_user_is_told_under_the_next_version(rt: HostRuntime) {

@@ -38,6 +38,8 @@ pub const BOB_CHANGED: &str = "bob(OnlyB,OnlyB,Public,) DAG:b.can_read,";
 
 pub const BOB_SELF: &str = "bob(OnlyB,) DAG:b.can_read,";
 
+pub const BOB_WITHOUT_ROLE: &str = "bob() ";
+
 pub const CAN_CREATE: &str = "can_create";
 
 pub const CAN_DELETE: &str = "can_delete";
