@@ -27,18 +27,21 @@ use af_policy::{Ask, ChangeKind, PolicyRead};
 use af_sched::{Claim, Outcome};
 use std::alloc::Global;
 use std::hint::spin_loop;
+use std::sync::atomic::AtomicU64;
 use std::sync::{RwLock, RwLockReadGuard, RwLockWriteGuard, Wait};
-use std::thread;
+use std::time::Duration;
 
-/// How often a thread tries to take the lock before it sleeps.
+/// How often a thread tries to take the lock before it waits in line for it.
 const TRIES: u32 = 1_000;
 
-/// How many of these tries come one after another. After each of the others the thread lets others run: who has the lock may be waiting for a
-/// processor.
-const AT_ONCE: u32 = 100;
+/// How many of these tries it makes awake.
+const AWAKE: u32 = 300;
 
-/// For how many pauses of the processor it waits between tries that come one after another.
+/// For how many pauses of the processor it waits between tries that it makes awake.
 const PAUSES: u32 = 8;
+
+/// For how many nanoseconds it sleeps between the others. The system makes some fifty microseconds of it.
+const NAP: u64 = 1_000;
 
 /// A board, and a plane behind a lock, which threads share, each with a session of its own. Calls that only read (`Request::only_reads`) may
 /// have the lock together. All else that takes it has it alone.
@@ -46,6 +49,7 @@ const PAUSES: u32 = 8;
 pub struct Control<N: Named> {
     board: Board,
     locked: RwLock<Locked<N>>,
+    naps: AtomicU64,
     ghost board_is: { board ≡ N.name.site },
 }
 
@@ -59,18 +63,18 @@ impl<N: Named> Control<N> {
         let control = Control {
             board,
             locked: RwLock::new(Locked::of(plane)),
+            naps: AtomicU64::new(0),
         };
         (control, door)
     }
 
-    /// The plane alone, when no other thread has it. A turn takes less time than the system takes to wake a thread, so a thread first tries for
-    /// about as long as some turns take, and only then sleeps.
+    /// The plane alone, when no other thread has it.
     fn plane(&self, rt: &impl Wait) -> RwLockWriteGuard<'_, Locked<N>> {
         for tries in 0..TRIES {
             if let Some(plane) = self.locked.try_write() {
                 return plane;
             }
-            wait_a_little(tries);
+            self.wait_a_little(rt, tries);
         }
         self.locked.write(rt)
     }
@@ -81,9 +85,22 @@ impl<N: Named> Control<N> {
             if let Some(plane) = self.locked.try_read() {
                 return plane;
             }
-            wait_a_little(tries);
+            self.wait_a_little(rt, tries);
         }
         self.locked.read(rt)
+    }
+
+    /// What a thread does after so many tries for the lock. A turn takes less time than the system takes to wake a thread, so at first it stays
+    /// awake for about as long as some turns take. Then it sleeps for a moment: who has the lock may be waiting for a processor. It does not
+    /// yield, since a system may let a thread that yields wait for some milliseconds. Nobody wakes it.
+    fn wait_a_little(&self, rt: &impl Wait, tries: u32) {
+        if tries < AWAKE {
+            for _ in 0..PAUSES {
+                spin_loop();
+            }
+        } else {
+            self.naps.park_timeout(rt, 0, Duration::from_nanos(NAP));
+        }
     }
 
     /// The versions of the policy. They are read and made without the plane's lock.
@@ -255,16 +272,5 @@ impl<N: Named> Control<N> {
     {
         self.plane(rt)
             .report(alloc, &self.board, session, claim, outcome, at)
-    }
-}
-
-/// What a thread does after so many tries for the lock.
-fn wait_a_little(tries: u32) {
-    if tries < AT_ONCE {
-        for _ in 0..PAUSES {
-            spin_loop();
-        }
-    } else {
-        thread::yield_now();
     }
 }
