@@ -6,7 +6,10 @@ use crate::presented::Presented;
 use std::alloc::{AllocError, Global};
 
 /// How many tokens are kept at most.
-const PLACES: usize = 1024;
+const PLACES: usize = 4096;
+
+/// 2^32 divided by the golden ratio, as an odd number.
+const GOLDEN: u32 = 0x9E37_79B1;
 
 /// Tokens that came lately, each beside its SHA-256, so that one that comes again is not hashed again: connections of a proxy carry tokens of
 /// many users. A token has one place, and another one that has the same place takes it over. It changes no answer. Without memory for the
@@ -67,11 +70,12 @@ fn present_by<'a>(kept: &mut Option<LastToken>, token: Option<&'a [u8]>) -> Opti
     presented
 }
 
-/// The place of a token, by its last bytes.
+/// The place of a token, by its last bytes. Tokens that are alike, as numbered ones are, are spread over the places: the upper bits of the
+/// product depend on all bits of the sum.
 fn place_of(token: &[u8]) -> usize {
     let mut sum: u32 = 0;
     for byte in token.iter().rev().take(8) {
         sum = sum.wrapping_mul(31).wrapping_add(u32::from(*byte));
     }
-    sum as usize % PLACES
+    (sum.wrapping_mul(GOLDEN) >> 20) as usize % PLACES
 }
