@@ -34,13 +34,13 @@ use std::time::Duration;
 /// How often a thread tries to take the lock before it waits in line for it.
 const TRIES: u32 = 1_000;
 
-/// How many of these tries it makes awake.
+/// After how many of these tries it stays awake.
 const AWAKE: u32 = 300;
 
-/// For how many pauses of the processor it waits between tries that it makes awake.
+/// For how many pauses of the processor it then waits.
 const PAUSES: u32 = 8;
 
-/// For how many nanoseconds it sleeps between the others. The system makes some fifty microseconds of it.
+/// For how many nanoseconds it sleeps after each of the others. The system makes some fifty microseconds of it.
 const NAP: u64 = 1_000;
 
 /// A board, and a plane behind a lock, which threads share, each with a session of its own. Calls that only read (`Request::only_reads`) may

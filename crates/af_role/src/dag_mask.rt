@@ -64,7 +64,7 @@ impl DagMask {
         self.rows.as_slice()
     }
 
-    /// Whether some action on a DAG is there. The DAG is found by binary search.
+    /// Whether there is a row of a DAG. It is found by binary search.
     pub fn has_any_on(&self, dag: &DagId) -> bool
         ensures { result ≡ is_there id_of self.now dag.now }
     {
