@@ -13,7 +13,7 @@ use Rattle.af_policy.specs.SharedRows.{found, same_key, with_row}
 use Rattle.af_policy.specs.Rows.{UserRow, has_digest, has_user, same_digest, same_name, with_user}
 use Rattle.af_policy.specs.Tables.{IsUserDraft}
 use Rattle.af_policy.proofs.NameLemmas.{is_some-find}
-use Rattle.af_policy.proofs.UserLemmas.{IsUserTable-insert, is_some-digest_user}
+use Rattle.af_policy.proofs.UserLemmas.{IsUserTable-insert}
 
 at_itself : (k : List ℕ) → is_eq (slice_cmp nat_cmp k k) ≡ true
 at_itself k = sym (texts_ties k k) ∙ (bytes_decides k k).1 refl
@@ -68,17 +68,12 @@ remove_entry-insert_entry {T} k x (e ∷ es) none = step (slice_cmp nat_cmp k e.
         ap (λ o. cond (is_eq o) (insert_entry (slice_cmp nat_cmp) es k x) (e ∷ remove_entry test (insert_entry (slice_cmp nat_cmp) es k x))) at
         ∙ ap (λ rest. e ∷ rest) (later none)
 
-is_some-option_map : {X Y : Type 0} (f : X → Y) (o : Option X) → is_some o ≡ is_some (option_map f o)
-is_some-option_map f None = refl
-is_some-option_map f (Some x) = refl
-
 -- a digest is found exactly where a user has it
 pub is_some-digest_entry : (names digests : List (List ℕ × UserRow)) (digest : List ℕ) → IsUserDraft names digests → is_some (lookup (is_at (slice_cmp nat_cmp digest)) digests) ≡ has_digest (values_of names) digest
 is_some-digest_entry names digests digest draft =
     ap is_some (lookup-keyed (λ (user : UserRow). user.digest) digest digests draft.digested)
-    ∙ is_some-option_map (λ (user : UserRow). user.name) (find (λ (user : UserRow). same_digest digest user.digest) (values_of digests))
     ∙ ap is_some (draft.table.indexed digest)
-    ∙ is_some-digest_user (values_of names) digest
+    ∙ is_some-find (λ (user : UserRow). same_digest digest user.digest) (values_of names)
 
 -- a name is found exactly where a user has it
 pub is_some-name_entry : (names : List (List ℕ × UserRow)) (name : List ℕ) → AllByRecursion (λ e. e.0 ≡ e.1.name) names → is_some (lookup (is_at (slice_cmp nat_cmp name)) names) ≡ has_user (values_of names) name

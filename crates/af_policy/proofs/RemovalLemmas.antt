@@ -8,9 +8,9 @@ use Rattle.std.proofs.lemmas.Map.Keys.{sorted_tail}
 use Rattle.af_role.specs.Roles.{RoleRow}
 use Rattle.af_policy.specs.Rows.{NamesAscend, UserRow, digests_differ, found_user, has_digest, has_role, has_roles, has_user, role_in_use, roles_exist, same_digest, same_name, user_names, without_role, without_user}
 use Rattle.af_policy.specs.Identity.{digest_user}
-use Rattle.af_policy.specs.Tables.{IsUserTable}
+use Rattle.af_policy.specs.Tables.{IsUserTable, digest_row}
 use Rattle.af_policy.specs.SharedRows.{found, without}
-use Rattle.af_policy.proofs.NameLemmas.{fresh}
+use Rattle.af_policy.proofs.NameLemmas.{fresh, is_some-find}
 use Rattle.af_policy.proofs.FoundLemmas.{found_without}
 use Rattle.af_policy.proofs.UserLemmas.{and-true_left, and-true_right, is_some-digest_user, not-true, or-false_left, or-false_right}
 
@@ -123,39 +123,64 @@ one_digest name row (x ∷ xs) differ found =
       later e,
     )
 
+never_true : (b : Bool) → (b ≡ true → true ≡ false) → b ≡ false
+never_true true e = let f : true ≡ false = e refl in cc
+never_true false e = refl
+
+-- where names ascend, who has a digest is also the one who is found by name
+pub digest_named : (digest : List ℕ) (users : List UserRow) (row : UserRow) → NamesAscend (user_names users) → digest_row users digest ≡ Some row → found_user users row.name ≡ Some row
+digest_named digest [] row ascend has = cc
+digest_named digest (x ∷ xs) row ascend has =
+    step (same_digest digest x.digest) has (digest_named digest xs row (sorted_tail (slice_cmp nat_cmp) x.name (user_names xs) ascend))
+  where
+    apart : found_user xs row.name ≡ Some row → same_name row.name x.name ≡ false
+    apart found = never_true (same_name row.name x.name) (λ yes.
+        sym (ap is_some found)
+        ∙ is_some-find (λ user. same_name row.name user.name) xs
+        ∙ ap (has_user xs) ((bytes_decides row.name x.name).0 yes)
+        ∙ fresh (λ user. user.name) x xs ascend)
+
+    step : (b : Bool) → cond b (Some x) (digest_row xs digest) ≡ Some row → (digest_row xs digest ≡ Some row → found_user xs row.name ≡ Some row) → cond (same_name row.name x.name) (Some x) (found_user xs row.name) ≡ Some row
+    step true e later =
+        let same : x ≡ row = cc
+        in ap (λ b. cond b (Some x) (found_user xs row.name)) ((bytes_decides row.name x.name).1 (ap (λ (user : UserRow). user.name) (sym same)))
+        ∙ ap Some same
+    step false e later = ap (λ b. cond b (Some x) (found_user xs row.name)) (apart (later e)) ∙ later e
+
 not-false : (b : Bool) → not b ≡ false → b ≡ true
 not-false true e = refl
 not-false false e = cc
 
--- whose digest it is, after a user is taken out
-pub digest_user-without_user : (name : List ℕ) (row : UserRow) (digest : List ℕ) (users : List UserRow) → NamesAscend (user_names users) → digests_differ users ≡ true → found_user users name ≡ Some row → digest_user (without_user users name) digest ≡ cond (same_digest row.digest digest) None (digest_user users digest)
-digest_user-without_user name row digest users ascend differ found = step (same_digest row.digest digest) refl
+-- who has a digest, after a user is taken out
+digest_row-without_user : (name : List ℕ) (row : UserRow) (digest : List ℕ) (users : List UserRow) → NamesAscend (user_names users) → digests_differ users ≡ true → found_user users name ≡ Some row → digest_row (without_user users name) digest ≡ cond (same_digest row.digest digest) None (digest_row users digest)
+digest_row-without_user name row digest users ascend differ found = step (same_digest row.digest digest) refl
   where
-    p : UserRow → Bool
-    p user = same_digest digest user.digest
-
     named : same_name name row.name ≡ true
     named = find-passes (λ user. same_name name user.name) users row found
 
-    bool : (b : Bool) → (b ≡ true → true ≡ false) → b ≡ false
-    bool true e = let f : true ≡ false = e refl in cc
-    bool false e = refl
-
-    step : (b : Bool) → same_digest row.digest digest ≡ b → option_map (λ (user : UserRow). user.name) (find (λ user. same_digest digest user.digest) (without_user users name)) ≡ cond b None (digest_user users digest)
+    step : (b : Bool) → same_digest row.digest digest ≡ b → digest_row (without_user users name) digest ≡ cond b None (digest_row users digest)
     step true is =
-        ap (option_map (λ (user : UserRow). user.name))
-        (find-gone (λ user. same_digest digest user.digest) (λ user. not (same_name name user.name)) users
+        find-gone (λ user. same_digest digest user.digest) (λ user. not (same_name name user.name)) users
         (each (λ user. same_digest row.digest user.digest ≡ true → user ≡ row) (λ user. not (same_name name user.name) ≡ true → same_digest digest user.digest ≡ false)
-        (λ user one kept. bool (same_digest digest user.digest) (λ yes.
+        (λ user one kept. never_true (same_digest digest user.digest) (λ yes.
         let same : user ≡ row = one (ap (λ d. same_digest d user.digest) ((bytes_decides row.digest digest).0 is) ∙ yes)
         in sym named ∙ ap (λ (u : UserRow). same_name name u.name) (sym same) ∙ not-true (same_name name user.name) kept))
-        users (one_digest name row users differ found)))
+        users (one_digest name row users differ found))
     step false is =
-        ap (option_map (λ (user : UserRow). user.name))
-        (find-kept (λ user. same_digest digest user.digest) (λ user. not (same_name name user.name)) users
+        find-kept (λ user. same_digest digest user.digest) (λ user. not (same_name name user.name)) users
         (each (λ user. same_name name user.name ≡ true → user ≡ row) (λ user. not (same_name name user.name) ≡ false → same_digest digest user.digest ≡ false)
         (λ user one out. ap (λ (u : UserRow). same_digest digest u.digest) (one (not-false (same_name name user.name) out)) ∙ nat_list_eq_equiv.symm digest row.digest ∙ is)
-        users (one_named name row users ascend found)))
+        users (one_named name row users ascend found))
+
+option_map-none : {X Y : Type 0} (f : X → Y) (b : Bool) (o : Option X) → option_map f (cond b None o) ≡ cond b None (option_map f o)
+option_map-none f true o = refl
+option_map-none f false o = refl
+
+-- whose digest it is, after a user is taken out
+pub digest_user-without_user : (name : List ℕ) (row : UserRow) (digest : List ℕ) (users : List UserRow) → NamesAscend (user_names users) → digests_differ users ≡ true → found_user users name ≡ Some row → digest_user (without_user users name) digest ≡ cond (same_digest row.digest digest) None (digest_user users digest)
+digest_user-without_user name row digest users ascend differ found =
+    ap (option_map (λ (user : UserRow). user.name)) (digest_row-without_user name row digest users ascend differ found)
+    ∙ option_map-none (λ (user : UserRow). user.name) (same_digest row.digest digest) (digest_row users digest)
 
 digests_differ-filter : (q : UserRow → Bool) (users : List UserRow) → digests_differ users ≡ true → digests_differ (filter q users) ≡ true
 digests_differ-filter q [] differ = refl
@@ -168,18 +193,13 @@ digests_differ-filter q (x ∷ xs) differ = step (q x) (digests_differ-filter q 
     step true later = (λ i. not (apart i) && later i)
     step false later = later
 
-option_map-none : {X Y : Type 0} (f : X → Y) (b : Bool) (o : Option X) → option_map f (cond b None o) ≡ cond b None (option_map f o)
-option_map-none f true o = refl
-option_map-none f false o = refl
-
 -- the table with one user less
 pub IsUserTable-without : (users index : List UserRow) (name : List ℕ) (row : UserRow) → IsUserTable users index → NamesAscend (user_names users) → found_user users name ≡ Some row → IsUserTable (without_user users name) (without (λ user. user.digest) index row.digest)
 IsUserTable-without users index name row table ascend named = record {
   indexed =
-      λ digest. ap (option_map (λ (user : UserRow). user.name)) (found_without (λ user. user.digest) row.digest index digest)
-      ∙ option_map-none (λ (user : UserRow). user.name) (same_digest row.digest digest) (find (λ user. same_digest digest user.digest) index)
+      λ digest. found_without (λ user. user.digest) row.digest index digest
       ∙ ap (cond (same_digest row.digest digest) None) (table.indexed digest)
-      ∙ sym (digest_user-without_user name row digest users ascend table.differ named);
+      ∙ sym (digest_row-without_user name row digest users ascend table.differ named);
   differ = digests_differ-filter (λ user. not (same_name name user.name)) users table.differ;
 }
 

@@ -8,7 +8,7 @@ use Rattle.std.specs.declared.cmp.Ordering.TheVariants.{Less, Equal, Greater}
 use Rattle.std.specs.Cmp.Lexicographic.{slice_cmp, texts_ties, nat_list_eq_equiv, bytes_decides}
 use Rattle.af_policy.specs.Rows.{UserRow, digests_differ, has_digest, has_user, same_digest, same_name, with_user}
 use Rattle.af_policy.specs.Identity.{digest_user}
-use Rattle.af_policy.specs.Tables.{IsUserTable}
+use Rattle.af_policy.specs.Tables.{IsUserTable, digest_row}
 use Rattle.af_policy.proofs.NameLemmas.{is_some-find}
 use Rattle.af_policy.specs.SharedRows.{with_row}
 use Rattle.af_policy.proofs.FoundLemmas.{found_with}
@@ -62,26 +62,29 @@ not_both d a b apart = step (same_digest d b) (same_digest d a) refl refl
 pub not_tied : (name other : List ℕ) → same_name name other ≡ false → slice_cmp nat_cmp name other ≡ Equal → true ≡ false
 not_tied name other apart is = sym (ap is_eq is) ∙ sym (texts_ties name other) ∙ apart
 
--- whose digest it is, after a user is added
-pub digest_user-with_user : (row : UserRow) (digest : List ℕ) (rows : List UserRow) → has_user rows row.name ≡ false → has_digest rows row.digest ≡ false → digest_user (with_user rows row) digest ≡ cond (same_digest digest row.digest) (Some row.name) (digest_user rows digest)
-digest_user-with_user row digest [] new_name new_digest = option_map-cond (λ user. user.name) (same_digest digest row.digest) row None
-digest_user-with_user row digest (x ∷ xs) new_name new_digest =
+-- who has a digest, after a user is added
+digest_row-with_user : (row : UserRow) (digest : List ℕ) (rows : List UserRow) → has_user rows row.name ≡ false → has_digest rows row.digest ≡ false → digest_row (with_user rows row) digest ≡ cond (same_digest digest row.digest) (Some row) (digest_row rows digest)
+digest_row-with_user row digest [] new_name new_digest = refl
+digest_row-with_user row digest (x ∷ xs) new_name new_digest =
     step (slice_cmp nat_cmp row.name x.name) refl
-    (digest_user-with_user row digest xs (or-false_right (same_name row.name x.name) (has_user xs row.name) new_name)
+    (digest_row-with_user row digest xs (or-false_right (same_name row.name x.name) (has_user xs row.name) new_name)
     (or-false_right (same_digest row.digest x.digest) (has_digest xs row.digest) new_digest))
   where
-    step : (o : Ordering) → slice_cmp nat_cmp row.name x.name ≡ o → digest_user (with_user xs row) digest ≡ cond (same_digest digest row.digest) (Some row.name) (digest_user xs digest) → digest_user (match_ordering o (row ∷ x ∷ xs) (row ∷ xs) (x ∷ with_user xs row)) digest ≡ cond (same_digest digest row.digest) (Some row.name) (digest_user (x ∷ xs) digest)
-    step Less is later = option_map-cond (λ user. user.name) (same_digest digest row.digest) row (find (λ user. same_digest digest user.digest) (x ∷ xs))
+    step : (o : Ordering) → slice_cmp nat_cmp row.name x.name ≡ o → digest_row (with_user xs row) digest ≡ cond (same_digest digest row.digest) (Some row) (digest_row xs digest) → digest_row (match_ordering o (row ∷ x ∷ xs) (row ∷ xs) (x ∷ with_user xs row)) digest ≡ cond (same_digest digest row.digest) (Some row) (digest_row (x ∷ xs) digest)
+    step Less is later = refl
     step Equal is later =
         let e : true ≡ false = not_tied row.name x.name (or-false_left (same_name row.name x.name) (has_user xs row.name) new_name) is
         in cc
     step Greater is later =
-        option_map-cond (λ user. user.name) (same_digest digest x.digest) x (find (λ user. same_digest digest user.digest) (with_user xs row))
-        ∙ ap (λ o. cond (same_digest digest x.digest) (Some x.name) o) later
-        ∙ cond-swap (same_digest digest x.digest) (same_digest digest row.digest) (Some x.name) (Some row.name) (digest_user xs digest)
+        ap (λ o. cond (same_digest digest x.digest) (Some x) o) later
+        ∙ cond-swap (same_digest digest x.digest) (same_digest digest row.digest) (Some x) (Some row) (digest_row xs digest)
         (not_both digest row.digest x.digest (or-false_left (same_digest row.digest x.digest) (has_digest xs row.digest) new_digest))
-        ∙ ap (λ o. cond (same_digest digest row.digest) (Some row.name) o)
-        (sym (option_map-cond (λ user. user.name) (same_digest digest x.digest) x (find (λ user. same_digest digest user.digest) xs)))
+
+-- whose digest it is, after a user is added
+pub digest_user-with_user : (row : UserRow) (digest : List ℕ) (rows : List UserRow) → has_user rows row.name ≡ false → has_digest rows row.digest ≡ false → digest_user (with_user rows row) digest ≡ cond (same_digest digest row.digest) (Some row.name) (digest_user rows digest)
+digest_user-with_user row digest rows new_name new_digest =
+    ap (option_map (λ (user : UserRow). user.name)) (digest_row-with_user row digest rows new_name new_digest)
+    ∙ option_map-cond (λ user. user.name) (same_digest digest row.digest) row (digest_row rows digest)
 
 pub is_some-option_copied : {X : Type 0} (o : Option (Bor X)) → is_some o ≡ is_some (option_copied o)
 is_some-option_copied None = refl
@@ -128,10 +131,9 @@ digests_differ-with_user row (x ∷ xs) new_name new_digest differ =
 pub IsUserTable-insert : (users index : List UserRow) (row : UserRow) → IsUserTable users index → has_user users row.name ≡ false → has_digest users row.digest ≡ false → IsUserTable (with_user users row) (with_row (λ user. user.digest) index row)
 IsUserTable-insert users index row table new_name new_digest = record {
   indexed =
-      λ digest. ap (option_map (λ user. user.name)) (found_with (λ user. user.digest) row index digest)
-      ∙ option_map-cond (λ user. user.name) (same_digest digest row.digest) row (find (λ user. same_digest digest user.digest) index)
-      ∙ ap (cond (same_digest digest row.digest) (Some row.name)) (table.indexed digest)
-      ∙ sym (digest_user-with_user row digest users new_name new_digest);
+      λ digest. found_with (λ user. user.digest) row index digest
+      ∙ ap (cond (same_digest digest row.digest) (Some row)) (table.indexed digest)
+      ∙ sym (digest_row-with_user row digest users new_name new_digest);
   differ = digests_differ-with_user row users new_name new_digest table.differ;
 }
 

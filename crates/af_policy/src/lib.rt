@@ -3,6 +3,7 @@
 
 mod ask;
 mod bad_input;
+mod bearer;
 mod change;
 mod change_fault;
 mod change_kind;
@@ -51,6 +52,7 @@ pub mod worked;
 
 pub use ask::Ask;
 pub use bad_input::{BadInput, Member, Parameter};
+pub use bearer::Bearer;
 pub use change::{Change, DagAccess, RoleInput, RoleNames, UserPatch};
 pub use change_fault::ChangeFault;
 pub use change_kind::ChangeKind;

@@ -1,9 +1,11 @@
-ghost use Rattle.std.specs.Prelude.{◌≡◌, ◌⊎◌, ◌<◌, length, List, ℕ, [], true, false, not, Some, map, IfOk, OnOk, OnErr};
+ghost use Rattle.std.specs.Prelude.{◌≡◌, ◌⊎◌, ◌<◌, length, List, ℕ, [], true, false, not, Some, map, IfOk, IfSome, OnOk, OnErr};
 ghost use Rattle.std.specs.List.{AllByRecursion};
+ghost use Rattle.std.specs.Option.{option_map};
 ghost use Rattle.af_role.specs.Access.{synced_role};
 ghost use Rattle.af_role.specs.Pairs.{PairRow};
 ghost use Rattle.af_policy.specs.Changes.{replaced};
 ghost use Rattle.af_policy.specs.Grants.{grants, reads, reads_dag};
+ghost use Rattle.af_policy.specs.Identity.{user_of};
 ghost use Rattle.af_policy.specs.Uses.{IsTables, count_at, mentions};
 ghost use Rattle.af_policy.specs.Views.{held};
 ghost use Rattle.af_policy.specs.Rows.{IsWithinLimits, NamesAscend, PermissionsAscend, digests_differ, found_user, has_admin, has_digest, has_role, has_roles, has_user, most_roles, most_users, role_in_use, role_names, roles_exist, same_digest, user_names, with_role, with_user, without_role, without_user};
@@ -11,7 +13,7 @@ ghost use Rattle.af_policy.specs.Rows.{IsWithinLimits, NamesAscend, PermissionsA
 use crate::role_table::RoleTable;
 use crate::user_table::UserTable;
 use crate::uses::Uses;
-use crate::{User, View};
+use crate::{Bearer, User, View};
 use af_names::{DagId, RoleName, UserName};
 use af_role::{AccessControl, Role};
 use std::alloc::{AllocError, Global};
@@ -188,6 +190,22 @@ impl Tables {
         ensures reads { (dag : List ℕ) → reads_dag (held result) dag ≡ reads self.now user.now dag }
     {
         View::new(&self.roles, self.users.roles_of(user))
+    }
+
+    /// The user who has a digest, and what the policy of these tables grants that user, whose row is looked up once.
+    pub(crate) fn bearer(&self, digest: &[u8; 32]) -> Option<Bearer<'_>>
+        ensures user { option_map (λ bearer. bearer.user.now) result ≡ user_of self.now digest.now }
+        ensures held { IfSome result (λ bearer. (pair : PairRow) → held bearer.view pair ≡ grants self.now bearer.user.now pair) }
+        ensures reads { IfSome result (λ bearer. (dag : List ℕ) → reads_dag (held bearer.view) dag ≡ reads self.now bearer.user.now dag) }
+    {
+        match self.users.with_digest(digest) {
+            Some(found) => {
+                let view = View::new(&self.roles, Some(found.roles()));
+                let user = found.name();
+                Some(Bearer { user, view })
+            }
+            None => None,
+        }
     }
 
     /// What holds of each policy's tables but that some user is Admin.

@@ -1,11 +1,11 @@
-ghost use Rattle.std.specs.Prelude.{◌≡◌, Some, [], true, false, length, map, IfOk, OnOk, OnErr};
+ghost use Rattle.std.specs.Prelude.{◌≡◌, Some, [], true, false, length, map, IfOk, IfSome, OnOk, OnErr};
 ghost use Rattle.std.specs.Option.{option_copied};
 ghost use Rattle.af_policy.specs.Rows.{NamesAscend, digests_differ, found_user, has_digest, has_user, same_digest, user_names, with_user, without_user};
 ghost use Rattle.af_policy.specs.Changes.{replaced};
 ghost use Rattle.af_policy.specs.Identity.{digest_user};
 ghost use Rattle.af_policy.specs.SharedRows.{Ascend, seen, with_row, without};
 ghost use Rattle.af_policy.specs.Shown.{page_rows, shown_user};
-ghost use Rattle.af_policy.specs.Tables.{IsUserTable, roles_of};
+ghost use Rattle.af_policy.specs.Tables.{IsUserTable, digest_row, roles_of};
 
 use crate::shared::Table;
 use crate::user_rows::{ByDigest, ByName};
@@ -125,8 +125,21 @@ impl UserTable {
     pub(crate) fn name_of(&self, digest: &[u8; 32]) -> Option<&UserName>
         ensures { option_copied result ≡ digest_user self.now digest.now }
     {
+        match self.with_digest(digest) {
+            Some(user) => Some(user.name()),
+            None => None,
+        }
+    }
+
+    /// The user who has a digest, who is also the user of that name.
+    pub(crate) fn with_digest(&self, digest: &[u8; 32]) -> Option<&User>
+        ensures value { option_copied result ≡ digest_row self.now digest.now }
+        ensures named { IfSome result (λ user. found_user self.now user.now.name ≡ Some user.now) }
+        ensures ascend { NamesAscend (user_names self.now) }
+    {
+        self.by_name.facts();
         match self.by_digest.get(digest.as_slice()) {
-            Some(row) => Some(row.user().name()),
+            Some(row) => Some(row.user()),
             None => None,
         }
     }
