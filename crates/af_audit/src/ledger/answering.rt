@@ -58,10 +58,7 @@ impl Ledger {
         ensures entry { MayEnter (bearer_of policy.now (option_copied token.entry)) op.now now self.old self.new }
     {
         match bearer(policy, token) {
-            Some(user) => {
-                let view = policy.view(user);
-                self.judged(alloc, &view, user, op, now)
-            }
+            Some(bearer) => self.judged(alloc, &bearer.view, bearer.user, op, now),
             None => Err(CallFault::Unauthenticated),
         }
     }

@@ -45,10 +45,7 @@ impl Ledger {
         ensures { IsPerformed nameless (entries_verdict policy.now self.now (option_copied token.entry) asked.now) (standing_of self.now) result (standing_of self.now) }
     {
         match bearer(policy, token) {
-            Some(user) => {
-                let view = policy.view(user);
-                self.entries_for(alloc, &view, asked)
-            }
+            Some(bearer) => self.entries_for(alloc, &bearer.view, asked),
             None => Err(CallFault::Unauthenticated),
         }
     }

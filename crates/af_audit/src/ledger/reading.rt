@@ -56,10 +56,7 @@ impl Ledger {
         ensures { (limit : ℕ) (under : Under) → IsDecided op.now self.now.state (judged limit policy.now (record { under = under; state = self.now.state }) op.now now (bearer_of policy.now (option_copied token.entry))) (seen told_alone result) }
     {
         match bearer(policy, token) {
-            Some(user) => {
-                let view = policy.view(user);
-                read_for(alloc, &view, &self.state, op, now)
-            }
+            Some(bearer) => read_for(alloc, &bearer.view, &self.state, op, now),
             None => Err(CallFault::Unauthenticated),
         }
     }
