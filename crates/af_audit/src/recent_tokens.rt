@@ -64,10 +64,15 @@ impl RecentTokens {
 fn present_by<'a>(kept: &mut Option<LastToken>, token: Option<&'a [u8]>) -> Option<Presented<'a>>
     ensures { result ≡ option_copied token.entry }
 {
-    let mut last = kept.take().unwrap_or_else(LastToken::new);
-    let presented = last.present(token);
-    *kept = Some(last);
-    presented
+    match kept {
+        Some(last) => last.present(token),
+        None => {
+            let mut last = LastToken::new();
+            let presented = last.present(token);
+            *kept = Some(last);
+            presented
+        }
+    }
 }
 
 /// The place of a token, by its last bytes. Tokens that are alike, as numbered ones are, are spread over the places: the upper bits of the
