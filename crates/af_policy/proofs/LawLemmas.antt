@@ -46,7 +46,7 @@ or-some : (b : Bool) → (b || true) ≡ true
 or-some true = refl
 or-some false = refl
 
-tied : (k x : PairRow) → pair_cmp k x ≡ Equal → k ≡ x
+pub tied : (k x : PairRow) → pair_cmp k x ≡ Equal → k ≡ x
 tied k x is = (same_pair-decides k x).0 (same_pair-ties k x ∙ ap is_eq is)
 
 contains-with_pair : (k pair : PairRow) (pairs : List PairRow) → contains_pair (with_pair pairs k) pair ≡ (same_pair k pair || contains_pair pairs pair)
@@ -68,7 +68,7 @@ contains-with_pairs pair pairs (k ∷ ks) =
     ∙ or-regroup (contains_pair ks pair) (same_pair k pair) (contains_pair pairs pair)
 
 -- what is about that DAG alone is not among the others
-contains-others : (dag : List ℕ) (pair : PairRow) → is_about dag pair ≡ true → (pairs : List PairRow) → contains_pair (filter (λ p. not (is_about dag p)) pairs) pair ≡ false
+pub contains-others : (dag : List ℕ) (pair : PairRow) → is_about dag pair ≡ true → (pairs : List PairRow) → contains_pair (filter (λ p. not (is_about dag p)) pairs) pair ≡ false
 contains-others dag pair about [] = refl
 contains-others dag pair about (x ∷ xs) = step (is_about dag x) (same_pair x pair) refl refl (contains-others dag pair about xs)
   where
@@ -79,18 +79,24 @@ contains-others dag pair about (x ∷ xs) = step (is_about dag x) (same_pair x p
         let e : true ≡ false = sym about ∙ ap (is_about dag) (sym ((same_pair-decides x pair).0 same)) ∙ is
         in cc
 
--- what is not about it stays among them
-contains-kept : (dag : List ℕ) (pair : PairRow) → is_about dag pair ≡ false → (pairs : List PairRow) → contains_pair pairs pair ≡ true → contains_pair (filter (λ p. not (is_about dag p)) pairs) pair ≡ true
-contains-kept dag pair other [] has = cc
-contains-kept dag pair other (x ∷ xs) has = step (is_about dag x) (same_pair x pair) refl refl has (contains-kept dag pair other xs)
+-- no permission about that DAG is one that is not
+pub about_alone : (dag : List ℕ) (pair : PairRow) → is_about dag pair ≡ false → (own : PairRow) → is_about dag own ≡ true → same_pair own pair ≡ false
+about_alone dag pair other own about = step (same_pair own pair) refl
   where
-    step : (b s : Bool) → is_about dag x ≡ b → same_pair x pair ≡ s → (s || contains_pair xs pair) ≡ true → (contains_pair xs pair ≡ true → contains_pair (filter (λ p. not (is_about dag p)) xs) pair ≡ true) → contains_pair (cond (not b) (x ∷ filter (λ p. not (is_about dag p)) xs) (filter (λ p. not (is_about dag p)) xs)) pair ≡ true
-    step true true is same e later =
-        let f : true ≡ false = sym is ∙ ap (is_about dag) ((same_pair-decides x pair).0 same) ∙ other
+    step : (b : Bool) → same_pair own pair ≡ b → same_pair own pair ≡ false
+    step false is = is
+    step true is =
+        let e : true ≡ false = sym about ∙ ap (is_about dag) ((same_pair-decides own pair).0 is) ∙ other
         in cc
-    step true false is same e later = later e
-    step false true is same e later = ap (λ b. b || contains_pair (filter (λ p. not (is_about dag p)) xs) pair) same
-    step false false is same e later = ap (λ b. b || contains_pair (filter (λ p. not (is_about dag p)) xs) pair) same ∙ later e
+
+-- what is not about it is among the others where it is among all
+pub contains-rest : (dag : List ℕ) (pair : PairRow) → is_about dag pair ≡ false → (pairs : List PairRow) → contains_pair (filter (λ p. not (is_about dag p)) pairs) pair ≡ contains_pair pairs pair
+contains-rest dag pair other [] = refl
+contains-rest dag pair other (x ∷ xs) = step (is_about dag x) refl (contains-rest dag pair other xs)
+  where
+    step : (b : Bool) → is_about dag x ≡ b → contains_pair (filter (λ p. not (is_about dag p)) xs) pair ≡ contains_pair xs pair → contains_pair (cond (not b) (x ∷ filter (λ p. not (is_about dag p)) xs) (filter (λ p. not (is_about dag p)) xs)) pair ≡ (same_pair x pair || contains_pair xs pair)
+    step true is later = later ∙ sym (ap (λ b. b || contains_pair xs pair) (about_alone dag pair other x is))
+    step false is later = ap (λ b. same_pair x pair || b) later
 
 pub sync-lists_exactly : SyncListsExactly
 sync-lists_exactly dag access role pair no_admin about =
@@ -108,7 +114,7 @@ sync-keeps_the_rest dag access role pair other has =
     kept : (admin about : Bool) → is_about dag pair ≡ about → (admin || not about) ≡ true → contains_pair (cond admin role.pairs (filter (λ p. not (is_about dag p)) role.pairs)) pair ≡ true
     kept true about is e = has
     kept false true is e = cc
-    kept false false is e = contains-kept dag pair is role.pairs has
+    kept false false is e = contains-rest dag pair is role.pairs ∙ has
 
 -- ---- changes
 

@@ -11,6 +11,7 @@ pub mod DraftLemmas
 pub mod RemovalLemmas
 pub mod ChangeLemmas
 pub mod SyncLemmas
+pub mod SyncedRoleLemmas
 pub mod RoleLemmas
 pub mod PlaceLemmas
 pub mod GrantLemmas

@@ -25,7 +25,7 @@ all-insert P k (x ∷ xs) one all = step (pair_cmp k x) (all-insert P k xs one a
     step Equal later = all
     step Greater later = (all.0, later)
 
-all-above : (k x : PairRow) → pair_cmp k x ≡ Less → (xs : List PairRow) → AllByRecursion (λ y. pair_cmp x y ≡ Less) xs → AllByRecursion (λ y. pair_cmp k y ≡ Less) xs
+pub all-above : (k x : PairRow) → pair_cmp k x ≡ Less → (xs : List PairRow) → AllByRecursion (λ y. pair_cmp x y ≡ Less) xs → AllByRecursion (λ y. pair_cmp k y ≡ Less) xs
 all-above k x below [] all = tt
 all-above k x below (y ∷ ys) all = (pair_total.trans k x y below all.0, all-above k x below ys all.1)
 
@@ -63,7 +63,7 @@ ordered-without_role name (x ∷ xs) all = step (same_name name x.name) (ordered
     step false later = (all.0, later)
 
 -- a role after a sync: of what it keeps, and what comes
-ordered-synced_role : (dag : List ℕ) (access : List AccessRow) (role : RoleRow) → PermissionsAscend role → PermissionsAscend (synced_role dag access role)
+pub ordered-synced_role : (dag : List ℕ) (access : List AccessRow) (role : RoleRow) → PermissionsAscend role → PermissionsAscend (synced_role dag access role)
 ordered-synced_role dag access role ascend = sorted-with_pairs (kept_pairs dag role) (listed_pairs dag access role.name) (kept (is_admin_name role.name))
   where
     kept : (admin : Bool) → IsStrictlySortedBy pair_cmp (cond admin role.pairs (filter (λ pair. not (is_about dag pair)) role.pairs))

@@ -7,6 +7,7 @@ ghost use Rattle.af_role.specs.KindMasks.{kind_has};
 ghost use Rattle.af_role.specs.Pairs.{on_dag, on_kind};
 ghost use Rattle.af_role.specs.Roles.{lists};
 
+use crate::role_rows::in_order;
 use af_names::DagId;
 use af_role::{AccessControl, Action, DagMask, KindMask, Mask, Permissions, Role};
 use std::alloc::{AllocError, Global};
@@ -76,11 +77,17 @@ impl MaskedRole {
         self.mask.has_on_dag(action, dag)
     }
 
-    /// Whether a sync of a DAG's access control may change the role; where not, it stays as it is.
-    /// The DAG is looked up in the mask, by binary search.
+    /// Whether a sync of a DAG's access control changes the role. The DAG is looked up in the mask, by binary search.
     pub(crate) fn is_touched(&self, dag: &DagId, access: &AccessControl) -> bool
         ensures stays { result ≡ false → synced_role dag.now access.now self.now ≡ self.now }
     {
-        (!self.role.is_admin() && self.dags().has_any_on(dag)) || access.names(self.role.name())
+        in_order(&self.role);
+        let has = self.dags().on(dag);
+        let listed = access.actions_of(self.role.name());
+        if self.role.is_admin() {
+            has.with_all(listed) != has
+        } else {
+            listed != has
+        }
     }
 }

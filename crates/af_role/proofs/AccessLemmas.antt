@@ -1,10 +1,7 @@
 -- Permissions put one by one into an empty set, and what a DAG's access control lists.
-use Rattle.std.proofs.Common.{◌≡◌, ℕ, ◌+◌, ◌<◌, length, take, get_or, add-one, List, [], ◌∷◌, ◌++◌, Bool, true, false, not, ◌||◌, ◌&&◌, nat_eq, cond, refl, sym, ap, subst, ◌∙◌, fold, append_assoc}
-use Rattle.std.specs.List.{AllByRecursion, filter, flat_map, list_any}
-use Rattle.std.specs.Cmp.Lexicographic.{pointwise}
-use Rattle.af_role.specs.declared.access.AccessRow.{AccessRow}
-use Rattle.af_role.specs.Access.{is_about, is_admin_name, listed_pairs, names_role, pairs_at, row_pairs, synced_role}
-use Rattle.af_role.specs.Roles.{RoleRow, contains_pair, lists}
+use Rattle.std.proofs.Common.{◌≡◌, ℕ, ◌+◌, ◌<◌, length, take, get_or, add-one, List, [], ◌∷◌, ◌++◌, Bool, true, false, ◌||◌, refl, sym, ap, subst, ◌∙◌, fold, append_assoc}
+use Rattle.std.specs.List.{AllByRecursion, filter, flat_map}
+use Rattle.af_role.specs.Roles.{contains_pair, lists}
 use Rattle.std.specs.List.Sorted.{IsStrictlySortedBy}
 use Rattle.std.specs.Cmp.{IsTotalOrder}
 use Rattle.std.specs.Cmp.Rules.{comparing}
@@ -16,15 +13,9 @@ use Rattle.std.proofs.Common.{rules}
 use Rattle.std.proofs.Math.Seq.{take-suc}
 use Rattle.std.proofs.lemmas.List.Sums.{fold-append}
 use Rattle.std.proofs.lemmas.List.Concat.{flat_map-cons}
+use Rattle.std.proofs.lemmas.List.Folds.{list_any-append}
 use Rattle.std.proofs.lemmas.List.Kept.{IsStrictlySortedBy-filter}
-use Rattle.af_role.specs.Pairs.{PairRow, on_dag, pair_cmp, same_pair, with_pair, with_pairs}
-use Rattle.af_base.specs.Ordered.{is_there}
-use Rattle.af_role.specs.declared.action.Action.{Action}
-use Rattle.af_role.specs.declared.action.Action.TheVariants.{Create, Read, Edit, Delete}
-use Rattle.af_role.specs.declared.dag_mask.DagActions.{DagActions}
-use Rattle.af_role.specs.Resources.{same_action}
-use Rattle.af_role.specs.DagMasks.{dag_has, id_of}
-use Rattle.af_role.proofs.DagMaskLemmas.{none_has}
+use Rattle.af_role.specs.Pairs.{PairRow, pair_cmp, same_pair, with_pair, with_pairs}
 
 pub pair_total : IsTotalOrder pair_cmp
 pair_total = search (comparing, rules) depth 9
@@ -80,60 +71,22 @@ append-nil (z ∷ zs) = ap (λ rest. z ∷ rest) (append-nil zs)
 pub flat_map-one : {X Y : Type 0} (f : X → List Y) (x : X) → flat_map f (x ∷ []) ≡ f x
 flat_map-one f x = flat_map-cons f x [] ∙ append-nil (f x)
 
--- ---- a role that a sync does not touch
+-- ---- the actions that access control lists
 
-or-false : (a b : Bool) → (a || b) ≡ false → (a ≡ false) × (b ≡ false)
-or-false true b e = cc
-or-false false b e = (refl, e)
+pub contains-append : (pair : PairRow) (xs ys : List PairRow) → contains_pair (xs ++ ys) pair ≡ (contains_pair xs pair || contains_pair ys pair)
+contains-append pair xs ys = list_any-append (λ own. same_pair own pair) xs ys
 
-filter-none : {X : Type 0} (p : X → Bool) (xs : List X) → list_any p xs ≡ false → filter (λ x. not (p x)) xs ≡ xs
-filter-none p [] none = refl
-filter-none p (x ∷ xs) none =
-    let parts = or-false (p x) (list_any p xs) none
-    in (λ i. cond (not (parts.0 i)) (x ∷ filter (λ y. not (p y)) xs) (filter (λ y. not (p y)) xs))
-    ∙ ap (λ rest. x ∷ rest) (filter-none p xs parts.1)
+or_turned : (a b c : Bool) → (b || (a || c)) ≡ ((a || b) || c)
+or_turned true true c = refl
+or_turned true false c = refl
+or_turned false b c = refl
 
-listed-none : (dag name : List ℕ) (access : List AccessRow) → names_role access name ≡ false → listed_pairs dag access name ≡ []
-listed-none dag name [] none = refl
-listed-none dag name (row ∷ rows) none =
-    let parts = or-false (pointwise nat_eq row.role name) (names_role rows name) none
-    in flat_map-cons (row_pairs dag name) row rows
-    ∙ (λ i. cond (parts.0 i) (pairs_at dag row.actions) [] ++ listed-none dag name rows parts.1 i)
-
-pub untouched : (dag : List ℕ) (access : List AccessRow) (role : RoleRow) → ((not (is_admin_name role.name) && list_any (is_about dag) role.pairs) || names_role access role.name) ≡ false → synced_role dag access role ≡ role
-untouched dag access role none =
-    let parts = or-false (not (is_admin_name role.name) && list_any (is_about dag) role.pairs) (names_role access role.name) none
-    in (λ i. record { name = role.name; pairs = with_pairs (kept (is_admin_name role.name) parts.0 i) (listed-none dag role.name access parts.1 i) })
-  where
-    kept : (admin : Bool) → (not admin && list_any (is_about dag) role.pairs) ≡ false → cond admin role.pairs (filter (λ pair. not (is_about dag pair)) role.pairs) ≡ role.pairs
-    kept true out = refl
-    kept false out = filter-none (is_about dag) role.pairs out
-
--- a permission on a DAG is that of its own action there
-same_action-self : (action : Action) → same_action action action ≡ true
-same_action-self Create = refl
-same_action-self Read = refl
-same_action-self Edit = refl
-same_action-self Delete = refl
-
-and-true : (a b : Bool) → b ≡ true → (a && b) ≡ false → a ≡ false
-and-true true b is e = sym is ∙ e
-and-true false b is e = refl
-
--- where no action on a DAG is listed, no permission is about it
-unlisted : (dag : List ℕ) (pairs : List PairRow) → ((action : Action) → contains_pair pairs (on_dag action dag) ≡ false) → list_any (is_about dag) pairs ≡ false
-unlisted dag [] none = refl
-unlisted dag (p ∷ ps) none =
-    let here = or-false (same_pair p (on_dag p.action dag)) (contains_pair ps (on_dag p.action dag)) (none p.action)
-    in (λ i. and-true (is_about dag p) (same_action p.action p.action) (same_action-self p.action) here.0 i || list_any (is_about dag) ps)
-    ∙ unlisted dag ps (λ action. (or-false (same_pair p (on_dag action dag)) (contains_pair ps (on_dag action dag)) (none action)).1)
-
--- a sync does not touch a role that it does not name, and in whose mask the DAG has no row
-pub untouched_by_mask : (dag : List ℕ) (access : List AccessRow) (role : RoleRow) (rows : List DagActions) → ((id : List ℕ) (action : Action) → dag_has rows id action ≡ lists role (on_dag action id)) → ((not (is_admin_name role.name) && is_there id_of rows dag) || names_role access role.name) ≡ false → synced_role dag access role ≡ role
-untouched_by_mask dag access role rows masks none =
-    let parts = or-false (not (is_admin_name role.name) && is_there id_of rows dag) (names_role access role.name) none
-    in untouched dag access role (λ i. absent (not (is_admin_name role.name)) parts.0 i || parts.1 i)
-  where
-    absent : (other : Bool) → (other && is_there id_of rows dag) ≡ false → (other && list_any (is_about dag) role.pairs) ≡ false
-    absent true out = unlisted dag role.pairs (λ action. sym (masks dag action) ∙ none_has rows dag action out)
-    absent false out = refl
+-- an action that was listed so far, and what one further element lists
+pub listed_next : {X : Type 0} (f : List X → List PairRow) → ((xs ys : List X) → f (xs ++ ys) ≡ f xs ++ f ys) → (pair : PairRow) (start now after : Bool) (xs : List X) (i : ℕ) (x : X) → x ≡ get_or xs i x → i < length xs → now ≡ (contains_pair (f (take i xs)) pair || start) → after ≡ (contains_pair (f (x ∷ [])) pair || now) → after ≡ (contains_pair (f (take (i + 1) xs)) pair || start)
+listed_next f splits pair start now after xs i x is below so more =
+    more
+    ∙ ap (λ b. contains_pair (f (x ∷ [])) pair || b) so
+    ∙ or_turned (contains_pair (f (take i xs)) pair) (contains_pair (f (x ∷ [])) pair) start
+    ∙ ap (λ b. b || start)
+    (sym (contains-append pair (f (take i xs)) (f (x ∷ [])))
+    ∙ ap (λ pairs. contains_pair pairs pair) (sym (splits (take i xs) (x ∷ [])) ∙ ap f (sym (take_more xs i x is below))))

@@ -36,10 +36,6 @@ pair_at dag text = on_that_dag dag (action_of text)
 abbrev pub pairs_at : List ℕ → List (List ℕ) → List PairRow
 pairs_at dag texts = filter_map (pair_at dag) texts
 
--- some row is about the role
-abbrev pub names_role : List AccessRow → List ℕ → Bool
-names_role access name = list_any (λ row. pointwise nat_eq row.role name) access
-
 -- the permissions on the DAG that a row lists for a role
 abbrev pub row_pairs : List ℕ → List ℕ → AccessRow → List PairRow
 row_pairs dag name row = if pointwise nat_eq row.role name then pairs_at dag row.actions else []

@@ -1,9 +1,12 @@
-ghost use Rattle.std.specs.Prelude.{◌≡◌, [], ◌∷◌, IfOk, OnOk};
+ghost use Rattle.std.specs.Prelude.{◌≡◌, ◌||◌, List, ℕ, [], ◌∷◌, IfOk, OnOk};
 ghost use Rattle.std.specs.Option.{option_copied};
-ghost use Rattle.af_role.specs.Pairs.{with_pairs};
-ghost use Rattle.af_role.specs.Access.{bad_action, is_dag_action, listed_pairs, names_role, pair_at, pairs_at, row_pairs};
+ghost use Rattle.af_role.specs.declared.action.Action.{Action};
+ghost use Rattle.af_role.specs.ActionSets.{has};
+ghost use Rattle.af_role.specs.Pairs.{on_dag, with_pairs};
+ghost use Rattle.af_role.specs.Roles.{contains_pair};
+ghost use Rattle.af_role.specs.Access.{bad_action, is_dag_action, listed_pairs, pair_at, pairs_at, row_pairs};
 
-use crate::{Action, Pair, Permissions, Resource, Text, Texts};
+use crate::{Action, Actions, Pair, Permissions, Resource, Text, Texts};
 use af_base::{Again, Items};
 use af_names::{DagId, RoleName};
 use std::alloc::{AllocError, Global};
@@ -58,11 +61,15 @@ impl AccessControl {
             .find(|text| !is_dag_action(text))
     }
 
-    /// Whether some row is about a role.
-    pub fn names(&self, role: &RoleName) -> bool
-        ensures { result ≡ names_role self.now role.now }
+    /// The actions on the DAG that the rows of a role list.
+    pub fn actions_of(&self, role: &RoleName) -> Actions
+        ensures { (dag : List ℕ) (action : Action) → has result action ≡ contains_pair (listed_pairs dag self.now role.now) (on_dag action dag) }
     {
-        self.as_slice().iter().any(|row| row.role == *role)
+        let mut actions = Actions::none();
+        for row in self.as_slice() {
+            row.add_actions_to(&mut actions, role);
+        }
+        actions
     }
 
     /// The same rows again. `AllocError` only where a growth was refused.
@@ -96,6 +103,15 @@ impl Again for AccessRow {
 }
 
 impl AccessRow {
+    /// Adds the actions on the DAG that the row lists for a role.
+    fn add_actions_to(&self, actions: &mut Actions, role: &RoleName)
+        ensures { (dag : List ℕ) (action : Action) → has actions.new action ≡ (contains_pair (row_pairs dag role.now self.now) (on_dag action dag) || has actions.old action) }
+    {
+        if self.role == *role {
+            add_texts(actions, self.actions.as_slice());
+        }
+    }
+
     /// Adds the permissions on a DAG that the row lists for a role.
     fn add_to(
         &self,
@@ -110,6 +126,25 @@ impl AccessRow {
             add_actions(alloc, permissions, dag, self.actions.as_slice())?;
         }
         Ok(())
+    }
+}
+
+/// Adds the actions on one DAG among these texts.
+fn add_texts(actions: &mut Actions, texts: &[Text])
+    ensures { (dag : List ℕ) (action : Action) → has actions.new action ≡ (contains_pair (pairs_at dag texts.now) (on_dag action dag) || has actions.old action) }
+{
+    for text in texts {
+        add_text(actions, text);
+    }
+}
+
+/// Adds the action on one DAG whose text this is, if it is one.
+fn add_text(actions: &mut Actions, text: &Text)
+    ensures { (dag : List ℕ) (action : Action) → has actions.new action ≡ (contains_pair (pairs_at dag (text.now ∷ [])) (on_dag action dag) || has actions.old action) }
+{
+    match Action::read(text.as_str()) {
+        Some(Action::Create) | None => {}
+        Some(action) => *actions = actions.with(action),
     }
 }
 

@@ -1,13 +1,14 @@
 ghost use Rattle.std.specs.Prelude.{◌≡◌, ◌||◌, ◌&&◌, [], List, ℕ, nat_eq, OnOk, MatchResult};
 ghost use Rattle.std.specs.Cmp.Lexicographic.{pointwise};
-ghost use Rattle.af_base.specs.Ordered.{AreInOrder, is_there};
+ghost use Rattle.af_base.specs.Ordered.{AreInOrder};
 ghost use Rattle.af_base.specs.Places.{FitsAt, StandsAt};
 ghost use Rattle.af_role.specs.declared.action.Action.{Action};
+ghost use Rattle.af_role.specs.ActionSets.{has};
 ghost use Rattle.af_role.specs.Resources.{same_action};
 ghost use Rattle.af_role.specs.DagMasks.{dag_has, id_of};
 
 use crate::{Action, Actions};
-use af_base::{Keyed, is_there, place_in};
+use af_base::{Keyed, place_in};
 use af_names::DagId;
 use std::alloc::{AllocError, Global};
 use std::cmp::Ordering;
@@ -64,21 +65,21 @@ impl DagMask {
         self.rows.as_slice()
     }
 
-    /// Whether there is a row of a DAG. It is found by binary search.
-    pub fn has_any_on(&self, dag: &DagId) -> bool
-        ensures { result ≡ is_there id_of self.now dag.now }
+    /// The actions on a DAG. It is found by binary search.
+    pub fn on(&self, dag: &DagId) -> Actions
+        ensures { (action : Action) → has result action ≡ dag_has self.now dag.now action }
     {
-        is_there(self.rows.as_slice(), dag.as_str())
+        match place_in(self.rows.as_slice(), dag.as_str()) {
+            Ok(place) => self.rows[place].actions,
+            Err(_) => Actions::none(),
+        }
     }
 
     /// Whether an action on a DAG is there. The DAG is found by binary search.
     pub fn has(&self, action: Action, dag: &DagId) -> bool
         ensures { result ≡ dag_has self.now dag.now action }
     {
-        match place_in(self.rows.as_slice(), dag.as_str()) {
-            Ok(place) => self.rows[place].actions.has(action),
-            Err(_) => false,
-        }
+        self.on(dag).has(action)
     }
 
     /// Adds an action on a DAG. `AllocError` only where a growth was refused.

@@ -2,16 +2,16 @@ use Rattle.std.proofs.Common.{sym, ap, ◌∙◌}
 use Rattle.af_role.specs.ActionSets.{has}
 use Rattle.af_role.specs.declared.dag_mask.DagActions.{DagActions}
 use Rattle.af_role.proofs.DagMaskLemmas.{fits_has, stands_has}
-use Rattle.af_role.proofs.dag_mask.DagMask.has.Goals as goal
+use Rattle.af_role.proofs.dag_mask.DagMask.on.Goals as goal
 
 pub returns-in-Ok : goal.returns-in-Ok
-returns-in-Ok c =
+returns-in-Ok c action =
     let stands = rw (c.as_slice.ensures.value, c.as_str.ensures.text) at c.in-Ok.ensures in
-    c.has.ensures
-    ∙ ap (λ (row : DagActions). has row.actions c.args.action) c.index.ensures
-    ∙ sym (rw (← c.self.view_is) (stands_has c.self.inside.rows.items c.args.dag.now c.in-Ok.place c.index.result.now c.args.action stands))
+    ap (λ (row : DagActions). has row.actions action) c.index.ensures
+    ∙ sym (rw (← c.self.view_is) (stands_has c.self.inside.rows.items c.args.dag.now c.in-Ok.place c.index.result.now action stands))
 
 pub returns-in-Err : goal.returns-in-Err
-returns-in-Err c =
+returns-in-Err c action =
     let fits = rw (c.as_slice.ensures.value, c.as_str.ensures.text) at c.in-Err.ensures in
-    rw (← c.self.view_is) (sym (fits_has c.self.inside.rows.items c.args.dag.now c.in-Err.field-0 c.args.action fits))
+    c.none.ensures action
+    ∙ rw (← c.self.view_is) (sym (fits_has c.self.inside.rows.items c.args.dag.now c.in-Err.field-0 action fits))
