@@ -1,7 +1,7 @@
 -- Permissions put one by one into an empty set, and what a DAG's access control lists.
 use Rattle.std.proofs.Common.{◌≡◌, ℕ, ◌+◌, ◌<◌, length, take, get_or, add-one, List, [], ◌∷◌, ◌++◌, Bool, true, false, ◌||◌, refl, sym, ap, subst, ◌∙◌, fold, append_assoc}
 use Rattle.std.specs.List.{AllByRecursion, filter, flat_map}
-use Rattle.af_role.specs.Roles.{contains_pair, lists}
+use Rattle.af_role.specs.Roles.{contains_pair}
 use Rattle.std.specs.List.Sorted.{IsStrictlySortedBy}
 use Rattle.std.specs.Cmp.{IsTotalOrder}
 use Rattle.std.specs.Cmp.Rules.{comparing}
