@@ -27,7 +27,7 @@ impl LastToken {
         }
     }
 
-    /// The token that came, if one came. It is kept from now on.
+    /// The token that came, if one came. It is kept from now on, unless it is too long.
     pub fn present<'a>(&mut self, token: Option<&'a [u8]>) -> Option<Presented<'a>>
         ensures { result ≡ option_copied token.entry }
     {

@@ -11,7 +11,7 @@ const PLACES: usize = 4096;
 /// 2^32 divided by the golden ratio, as an odd number.
 const GOLDEN: u32 = 0x9E37_79B1;
 
-/// Tokens that came lately, each beside its SHA-256, so that one that comes again is not hashed again: connections of a proxy carry tokens of
+/// Tokens that came lately, each beside its SHA-256, so that one that comes again is not hashed again. Connections of a proxy carry tokens of
 /// many users. A token has one place, and another one that has the same place takes it over. It changes no answer. Without memory for the
 /// places, each token is hashed.
 #[derive(Drop)]
@@ -27,7 +27,7 @@ impl RecentTokens {
         }
     }
 
-    /// The token that came, if one came. It is kept from now on.
+    /// The token that came, if one came. It is kept from now on, unless it is too long.
     pub fn present<'a>(&mut self, token: Option<&'a [u8]>) -> Option<Presented<'a>>
         ensures { result ≡ option_copied token.entry }
     {

@@ -77,7 +77,7 @@ impl MaskedRole {
         self.mask.has_on_dag(action, dag)
     }
 
-    /// Whether a sync of a DAG's access control changes the role. The DAG is looked up in the mask, by binary search.
+    /// False only if a sync of a DAG's access control leaves the role as it is. The DAG's row in the mask is found by binary search.
     pub(crate) fn is_touched(&self, dag: &DagId, access: &AccessControl) -> bool
         ensures stays { result ≡ false → synced_role dag.now access.now self.now ≡ self.now }
     {

@@ -1,5 +1,5 @@
 -- Access control of one DAG: which roles list which actions on it after a sync (Airflow 2, "Access Control", DAG-level
--- permissions: a DAG's `access_control` maps roles to actions; that Admin is left as it is, is this product's own rule).
+-- permissions: a DAG's `access_control` maps roles to actions; that a sync takes nothing from Admin is this product's own rule).
 use Rattle.std.specs.Prelude.{ℕ, List, [], Bool, false, not, nat_eq, codes, Option, Some, None, option_map, Result, Ok, Err, map, if◌then◌else◌}
 use Rattle.std.specs.List.{filter, filter_map, find, flat_map, list_any}
 use Rattle.std.specs.Cmp.Lexicographic.{pointwise}
@@ -25,7 +25,7 @@ is_dag_action text = carried_by_dag (action_of text)
 abbrev pub bad_action : List AccessRow → Option (List ℕ)
 bad_action access = find (λ text. not (is_dag_action text)) (flat_map (λ row. row.actions) access)
 
--- the permission of an action on a DAG
+-- the permission of an action on a DAG, by the action and by its text; none if there is no such action, or if it is `can_create`
 abbrev pub on_that_dag : List ℕ → Option Action → Option PairRow
 on_that_dag dag None = None
 on_that_dag dag (Some action) = pair_of action (Dag dag)
@@ -33,6 +33,7 @@ on_that_dag dag (Some action) = pair_of action (Dag dag)
 abbrev pub pair_at : List ℕ → List ℕ → Option PairRow
 pair_at dag text = on_that_dag dag (action_of text)
 
+-- those of the texts that name such an action
 abbrev pub pairs_at : List ℕ → List (List ℕ) → List PairRow
 pairs_at dag texts = filter_map (pair_at dag) texts
 
@@ -40,7 +41,7 @@ pairs_at dag texts = filter_map (pair_at dag) texts
 abbrev pub row_pairs : List ℕ → List ℕ → AccessRow → List PairRow
 row_pairs dag name row = if pointwise nat_eq row.role name then pairs_at dag row.actions else []
 
--- those that all rows list for it
+-- those that any of the rows lists for it
 abbrev pub listed_pairs : List ℕ → List AccessRow → List ℕ → List PairRow
 listed_pairs dag access name = flat_map (row_pairs dag name) access
 
@@ -56,6 +57,7 @@ abbrev pub kept_pairs : List ℕ → RoleRow → List PairRow
 kept_pairs dag role =
     if is_admin_name role.name then role.pairs else filter (λ pair. not (is_about dag pair)) role.pairs
 
+-- the role after the sync: what it keeps, and what is listed for it, each at its place
 abbrev pub synced_role : List ℕ → List AccessRow → RoleRow → RoleRow
 synced_role dag access role = record { name = role.name; pairs = with_pairs (kept_pairs dag role) (listed_pairs dag access role.name) }
 

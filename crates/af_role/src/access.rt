@@ -61,7 +61,7 @@ impl AccessControl {
             .find(|text| !is_dag_action(text))
     }
 
-    /// The actions on the DAG that the rows of a role list.
+    /// The actions on one DAG that the rows for this role list, whichever DAG that is.
     pub fn actions_of(&self, role: &RoleName) -> Actions
         ensures { (dag : List ℕ) (action : Action) → has result action ≡ contains_pair (listed_pairs dag self.now role.now) (on_dag action dag) }
     {
@@ -103,7 +103,7 @@ impl Again for AccessRow {
 }
 
 impl AccessRow {
-    /// Adds the actions on the DAG that the row lists for a role.
+    /// Adds the actions that the row lists, if it is for this role.
     fn add_actions_to(&self, actions: &mut Actions, role: &RoleName)
         ensures { (dag : List ℕ) (action : Action) → has actions.new action ≡ (contains_pair (row_pairs dag role.now self.now) (on_dag action dag) || has actions.old action) }
     {
@@ -129,7 +129,7 @@ impl AccessRow {
     }
 }
 
-/// Adds the actions on one DAG among these texts.
+/// Adds the actions that these texts name, but for `can_create`.
 fn add_texts(actions: &mut Actions, texts: &[Text])
     ensures { (dag : List ℕ) (action : Action) → has actions.new action ≡ (contains_pair (pairs_at dag texts.now) (on_dag action dag) || has actions.old action) }
 {
@@ -138,7 +138,7 @@ fn add_texts(actions: &mut Actions, texts: &[Text])
     }
 }
 
-/// Adds the action on one DAG whose text this is, if it is one.
+/// Adds the action that the text names, unless it names none or `can_create`.
 fn add_text(actions: &mut Actions, text: &Text)
     ensures { (dag : List ℕ) (action : Action) → has actions.new action ≡ (contains_pair (pairs_at dag (text.now ∷ [])) (on_dag action dag) || has actions.old action) }
 {

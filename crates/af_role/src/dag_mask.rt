@@ -65,7 +65,7 @@ impl DagMask {
         self.rows.as_slice()
     }
 
-    /// The actions on a DAG. It is found by binary search.
+    /// The actions on a DAG, whose row is found by binary search.
     pub fn on(&self, dag: &DagId) -> Actions
         ensures { (action : Action) → has result action ≡ dag_has self.now dag.now action }
     {

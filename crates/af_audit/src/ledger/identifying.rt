@@ -9,7 +9,7 @@ use crate::ledger::Ledger;
 use crate::presented::Presented;
 use af_policy::{Bearer, Policy};
 
-/// Who brings a token, under a policy, and what it grants that user.
+/// Who brings a token, and what the policy grants that user.
 pub(super) fn bearer<'p>(policy: &'p Policy, token: Option<&Presented<'_>>) -> Option<Bearer<'p>>
     ensures user { option_map (λ bearer. bearer.user.now) result ≡ bearer_of policy.now (option_copied token.entry) }
     ensures held { IfSome result (λ bearer. (pair : PairRow) → held bearer.view pair ≡ grants policy.now bearer.user.now pair) }
