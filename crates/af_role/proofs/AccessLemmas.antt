@@ -1,5 +1,5 @@
 -- Permissions put one by one into an empty set, and what a DAG's access control lists.
-use Rattle.std.proofs.Common.{◌≡◌, ℕ, ◌+◌, ◌<◌, length, take, get_or, add-one, List, [], ◌∷◌, ◌++◌, Bool, true, false, ◌||◌, refl, sym, ap, subst, ◌∙◌, fold, append_assoc}
+use Rattle.std.proofs.Common.{◌≡◌, ℕ, ◌+◌, ◌<◌, length, take, get_or, add-one, List, [], ◌∷◌, ◌++◌, Bool, ◌||◌, refl, sym, ap, subst, ◌∙◌, fold, append_assoc}
 use Rattle.std.specs.List.{AllByRecursion, filter, flat_map}
 use Rattle.af_role.specs.Roles.{contains_pair}
 use Rattle.std.specs.List.Sorted.{IsStrictlySortedBy}
@@ -16,6 +16,7 @@ use Rattle.std.proofs.lemmas.List.Concat.{flat_map-cons}
 use Rattle.std.proofs.lemmas.List.Folds.{list_any-append}
 use Rattle.std.proofs.lemmas.List.Kept.{IsStrictlySortedBy-filter}
 use Rattle.af_role.specs.Pairs.{PairRow, pair_cmp, same_pair, with_pair, with_pairs}
+use Rattle.af_role.proofs.DagMaskLemmas.{or_group, or_turn}
 
 pub pair_total : IsTotalOrder pair_cmp
 pair_total = search (comparing, rules) depth 9
@@ -76,17 +77,13 @@ flat_map-one f x = flat_map-cons f x [] ∙ append-nil (f x)
 pub contains-append : (pair : PairRow) (xs ys : List PairRow) → contains_pair (xs ++ ys) pair ≡ (contains_pair xs pair || contains_pair ys pair)
 contains-append pair xs ys = list_any-append (λ own. same_pair own pair) xs ys
 
-or_turned : (a b c : Bool) → (b || (a || c)) ≡ ((a || b) || c)
-or_turned true true c = refl
-or_turned true false c = refl
-or_turned false b c = refl
-
 -- an action that was listed so far, and what one further element lists
 pub listed_next : {X : Type 0} (f : List X → List PairRow) → ((xs ys : List X) → f (xs ++ ys) ≡ f xs ++ f ys) → (pair : PairRow) (start now after : Bool) (xs : List X) (i : ℕ) (x : X) → x ≡ get_or xs i x → i < length xs → now ≡ (contains_pair (f (take i xs)) pair || start) → after ≡ (contains_pair (f (x ∷ [])) pair || now) → after ≡ (contains_pair (f (take (i + 1) xs)) pair || start)
 listed_next f splits pair start now after xs i x is below so more =
     more
     ∙ ap (λ b. contains_pair (f (x ∷ [])) pair || b) so
-    ∙ or_turned (contains_pair (f (take i xs)) pair) (contains_pair (f (x ∷ [])) pair) start
+    ∙ or_turn (contains_pair (f (x ∷ [])) pair) (contains_pair (f (take i xs)) pair) start
+    ∙ sym (or_group (contains_pair (f (take i xs)) pair) (contains_pair (f (x ∷ [])) pair) start)
     ∙ ap (λ b. b || start)
     (sym (contains-append pair (f (take i xs)) (f (x ∷ [])))
     ∙ ap (λ pairs. contains_pair pairs pair) (sym (splits (take i xs) (x ∷ [])) ∙ ap f (sym (take_more xs i x is below))))

@@ -19,7 +19,7 @@ use Rattle.af_role.specs.declared.dag_mask.DagActions.{DagActions}
 use Rattle.af_role.specs.ActionSets.{has}
 use Rattle.af_role.specs.DagMasks.{dag_has, id_of, row_has}
 
-or_turn : (a b c : Bool) → (a || (b || c)) ≡ (b || (a || c))
+pub or_turn : (a b c : Bool) → (a || (b || c)) ≡ (b || (a || c))
 or_turn true true c = refl
 or_turn true false c = refl
 or_turn false b c = refl
@@ -28,7 +28,7 @@ pub or_nil : (a : Bool) → (a || false) ≡ a
 or_nil true = refl
 or_nil false = refl
 
-or_group : (a b c : Bool) → ((a || b) || c) ≡ (a || (b || c))
+pub or_group : (a b c : Bool) → ((a || b) || c) ≡ (a || (b || c))
 or_group true b c = refl
 or_group false b c = refl
 
@@ -64,7 +64,7 @@ stands_has rows dag place d action stands =
     ∙ ap (λ b. b && has ((get_or rows place d).actions) action) (stands.here d)
 
 -- a DAG that no row is about has no action
-pub none_has : (rows : List DagActions) (dag : List ℕ) (action : Action) → list_any (has_key id_of dag) rows ≡ false → dag_has rows dag action ≡ false
+none_has : (rows : List DagActions) (dag : List ℕ) (action : Action) → list_any (has_key id_of dag) rows ≡ false → dag_has rows dag action ≡ false
 none_has [] dag action none = refl
 none_has (x ∷ xs) dag action none = step (has_key id_of dag x) (none_has xs dag action) none
   where
