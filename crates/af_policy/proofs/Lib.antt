@@ -23,3 +23,4 @@ pub mod PermissionLemmas
 pub mod TouchLemmas
 pub mod StandLemmas
 pub mod NamedLemmas
+pub mod NamedTableLemmas

@@ -261,6 +261,38 @@ module _ {T : Type 0} (key : T → List ℕ) where
         ap (λ ys. l ++ ys) (sym (ap (λ o. match_ordering o (row ∷ x ∷ r) (row ∷ r) (x ∷ with_row key r row)) e))
         ∙ with_past row l (x ∷ r) (all_imp (λ y f. nat_list_cmp_total.trans (key y) (key x) (key row) f (less_from_greater (key row) (key x) e)) l s.below)
 
+  -- one more row, where rows are cut at one of them
+  module _ (rows low high : List T) (x : T) (above : List T) (is : rows ≡ low ++ high) (has : high ≡ x ∷ above) (s : Ascend key rows) (row : T) where
+    with_whole : with_row key (low ++ x ∷ above) row ≡ with_row key rows row
+    with_whole = ap (λ rs. with_row key rs row) (sym (whole rows low high x above is has s))
+
+    pub with_low : slice_cmp nat_cmp (key row) (key x) ≡ Less → with_row key low row ++ high ≡ with_row key rows row
+    with_low e = ap (λ rs. with_row key low row ++ rs) has ∙ with_left row low x above e ∙ with_whole
+
+    pub with_at_cut : slice_cmp nat_cmp (key row) (key x) ≡ Equal → low ++ row ∷ above ≡ with_row key rows row
+    with_at_cut e = with_here row low x above (cut rows low high x above is has s) e ∙ with_whole
+
+    pub with_above : slice_cmp nat_cmp (key row) (key x) ≡ Greater → low ++ x ∷ with_row key above row ≡ with_row key rows row
+    with_above e = with_right row low x above (cut rows low high x above is has s) e ∙ with_whole
+
+  -- a row that is there already changes nothing
+  pub with_itself : (row : T) (rows : List T) → Ascend key rows → found key rows (key row) ≡ Some row → with_row key rows row ≡ rows
+  with_itself row [] s is = cc
+  with_itself row (x ∷ xs) s is = step (slice_cmp nat_cmp (key row) (key x)) refl (with_itself row xs at.right)
+    where
+      at : Stands [] x xs
+      at = stands [] x xs s
+
+      step : (o : Ordering) → slice_cmp nat_cmp (key row) (key x) ≡ o → (found key xs (key row) ≡ Some row → with_row key xs row ≡ xs) → match_ordering o (row ∷ x ∷ xs) (row ∷ xs) (x ∷ with_row key xs row) ≡ x ∷ xs
+      step Less e later =
+          let none : None ≡ Some row = sym (find_none (key row) (x ∷ xs) (none_on_right [] x xs at (key row) e)) ∙ is
+          in cc
+      step Equal e later =
+          let same : Some x ≡ Some row = ap (λ b. cond b (Some x) (found key xs (key row))) (sym (is_same [] x xs at (key row) e)) ∙ is
+          in let one : row ≡ x = cc
+          in ap (λ y. y ∷ xs) one
+      step Greater e later = ap (λ ys. x ∷ ys) (later (ap (λ b. cond b (Some x) (found key xs (key row))) (sym (is_other [] x xs at (key row) e)) ∙ is))
+
   -- ---- the order stays
 
   all_with : (P : List ℕ → Type 0) (row : T) (rows : List T) → P (key row) → AllByRecursion P (map key rows) → AllByRecursion P (map key (with_row key rows row))

@@ -1,5 +1,5 @@
 -- How often a role is counted after a change, and how often users name it.
-use Rattle.std.proofs.Common.{◌≡◌, ℕ, ◌+◌, ◌-◌, ◌<◌, length, take, get_or, List, [], ◌∷◌, Bool, true, false, not, ◌&&◌, ◌||◌, cond, Some, None, refl, sym, ap, ◌∙◌, eqb, map, unwrap_or, arith}
+use Rattle.std.proofs.Common.{◌≡◌, ℕ, is_some, ◌+◌, ◌-◌, ◌<◌, length, take, get_or, List, [], ◌∷◌, Bool, true, false, not, ◌&&◌, ◌||◌, cond, Option, Some, None, refl, sym, ap, ◌∙◌, eqb, map, unwrap_or, arith}
 use Rattle.std.specs.List.{find, list_all, list_any}
 use Rattle.std.specs.Option.{option_map_or}
 use Rattle.std.specs.Ordering.{nat_cmp, match_ordering}
@@ -19,8 +19,10 @@ use Rattle.af_policy.specs.Uses.{UseRow, count_at, count_in, mentions, use_rows,
 use Rattle.af_policy.proofs.NameLemmas.{fresh, is_some-find}
 use Rattle.af_policy.proofs.FoundLemmas.{found_with, found_without}
 use Rattle.af_policy.proofs.OrderLemmas.{none_from, none_without}
+use Rattle.af_policy.proofs.RemovalLemmas.{find-passes}
+use Rattle.af_policy.proofs.RemovalLemmas.{find-passes}
 use Rattle.af_policy.proofs.UserLemmas.{not_tied, or-false_left, or-false_right}
-use Rattle.af_policy.specs.SharedRows.{with_row, without}
+use Rattle.af_policy.specs.SharedRows.{found, with_row, without}
 
 -- a count put at a name
 pub count_at-put : (row : UseRow) (uses : List UseRow) (name : List ℕ) → count_at (with_row (λ entry. entry.name) uses row) name ≡ cond (same_name name row.name) row.count (count_at uses name)
@@ -205,3 +207,32 @@ others_count all own others is =
     ap not (both_ways (eqb all own) (eqb others 0)
     (λ e. let same : all ≡ own = (Decides-eqb all own).0 e in (Decides-eqb others 0).1 (omega (arith, same, is)))
     (λ e. let none : others ≡ 0 = (Decides-eqb others 0).0 e in (Decides-eqb all own).1 (omega (arith, none, is))))
+
+-- ---- the row of a role that is counted
+
+module _ (uses : List UseRow) (name bytes : List ℕ) (same : bytes ≡ name) where
+  at_bytes : found (λ (row : UseRow). row.name) uses bytes ≡ found (λ (row : UseRow). row.name) uses name
+  at_bytes = ap (found (λ (row : UseRow). row.name) uses) same
+
+  module _ (row : UseRow) (is : Some row ≡ found (λ (row : UseRow). row.name) uses bytes) where
+    pub use_named : row.name ≡ name
+    use_named = sym ((bytes_decides name row.name).0 (find-passes (λ row. same_name name row.name) uses row (sym (is ∙ at_bytes))))
+
+    pub use_found : is_some (found (λ (row : UseRow). row.name) uses row.name) ≡ true
+    use_found = ap (λ n. is_some (found (λ (row : UseRow). row.name) uses n)) use_named ∙ ap is_some (sym (is ∙ at_bytes))
+
+    pub use_counted : count_at uses name ≡ row.count
+    use_counted = ap (λ (o : Option UseRow). option_map_or (λ (row : UseRow). row.count) o 0) (sym (is ∙ at_bytes))
+
+  module _ (is : None ≡ found (λ (row : UseRow). row.name) uses bytes) where
+    pub not_counted : count_at uses name ≡ 0
+    not_counted = ap (λ (o : Option UseRow). option_map_or (λ (row : UseRow). row.count) o 0) (sym (is ∙ at_bytes))
+
+    pub none_taken : (other : List ℕ) → count_at uses other ≡ cond (same_name other name) (count_at uses other - 1) (count_at uses other)
+    none_taken other = step (same_name other name) refl
+      where
+        step : (b : Bool) → same_name other name ≡ b → count_at uses other ≡ cond b (count_at uses other - 1) (count_at uses other)
+        step false e = refl
+        step true e =
+            let none : count_at uses other ≡ 0 = ap (count_at uses) ((bytes_decides other name).0 e) ∙ not_counted
+            in none ∙ ap (λ n. n - 1) (sym none)

@@ -3,7 +3,7 @@ ghost use Rattle.std.specs.Prelude.{◌≡◌, ◌+◌, List, ℕ, [], cond, IfO
 ghost use Rattle.af_policy.specs.Rows.{same_name};
 ghost use Rattle.af_policy.specs.Uses.{count_in, mentions, uses_in};
 
-use crate::user_rows::ByName;
+use crate::user_rows::ByDigest;
 use af_names::RoleName;
 use std::alloc::{AllocError, Global};
 use std::collections::BTreeMap;
@@ -11,7 +11,7 @@ use std::collections::BTreeMap;
 /// How often these users name each role.
 pub(crate) fn mentions_of(
     alloc: Global,
-    users: &[ByName],
+    users: &[ByDigest],
 ) -> Result<BTreeMap<RoleName, usize>, AllocError>
     ensures { IfOk result (λ counts. (role : List ℕ) → count_in counts role ≡ mentions users.now role) }
 {

@@ -10,7 +10,7 @@ use crate::User;
 use crate::fronted::Fronted;
 use crate::mentions::mentions_of;
 use crate::shared::Row;
-use crate::user_rows::{ByDigest, ByName};
+use crate::user_rows::ByDigest;
 use crate::user_table::UserTable;
 use crate::uses::Uses;
 use std::alloc::{AllocError, Global};
@@ -23,7 +23,7 @@ use std::sync::Arc;
 /// become a table, which looks at each once. Contracts see it as the users' rows, in byte order of their names.
 #[derive(Drop)]
 pub(crate) struct UserDraft {
-    by_name: BTreeMap<Fronted<Arc<User>>, ByName>,
+    by_name: BTreeMap<Fronted<Arc<User>>, ByDigest>,
     by_digest: BTreeMap<Fronted<[u8; 32]>, ByDigest>,
 }
 
@@ -68,7 +68,7 @@ impl UserDraft {
         )? {
             return Ok(false);
         }
-        match put_name(&mut self.by_name, key, ByName::new(named)) {
+        match put_name(&mut self.by_name, key, ByDigest::new(named)) {
             Ok(true) => Ok(true),
             Ok(false) => {
                 self.by_digest.remove(&user.digest_key());
@@ -117,20 +117,20 @@ impl UserDraft {
         ensures uses { IfOk result (λ made. (role : List ℕ) → count_at made.1 role ≡ mentions self role) }
     {
         let UserDraft { by_name, by_digest } = self;
-        let names = in_order(alloc, by_name)?;
+        let users = in_order(alloc, by_name)?;
         let digests = in_order(alloc, by_digest)?;
-        let counts = mentions_of(alloc, names.as_slice())?;
+        let counts = mentions_of(alloc, users.as_slice())?;
         let uses = Uses::of_counts(alloc, counts)?;
-        let table = UserTable::of_rows(alloc, names, digests)?;
+        let table = UserTable::of_rows(alloc, users.as_slice(), digests)?;
         Ok((table, uses))
     }
 }
 
 /// Puts a user at a name where it is new, and tells whether it was.
 fn put_name(
-    map: &mut BTreeMap<Fronted<Arc<User>>, ByName>,
+    map: &mut BTreeMap<Fronted<Arc<User>>, ByDigest>,
     key: Fronted<Arc<User>>,
-    user: ByName,
+    user: ByDigest,
 ) -> Result<bool, AllocError>
     ensures is_new { IfOk result (λ is_new. is_new ≡ not (is_some (get (slice_cmp nat_cmp) map.old key))) }
     ensures put { IfOk result (λ is_new. is_new ≡ true → map.new.entries ≡ insert_entry (slice_cmp nat_cmp) map.old.entries key user) }

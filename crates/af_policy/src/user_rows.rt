@@ -1,5 +1,6 @@
-ghost use Rattle.std.specs.Prelude.{◌≡◌};
+ghost use Rattle.std.specs.Prelude.{◌≡◌, IfOk};
 ghost use Rattle.std.specs.Arc.{arc_value};
+ghost use Rattle.af_policy.specs.Tables.{identity};
 
 use crate::User;
 use crate::shared::Row;
@@ -7,7 +8,8 @@ use std::alloc::AllocError;
 use std::marker::Model;
 use std::sync::Arc;
 
-/// A user, found by name, whose front stands beside it. Contracts see it as the user.
+/// A user's name and digest, found by name, whose front stands beside it. Of the user that it shares the roles may be older than the
+/// table's, so contracts see the name and the digest alone.
 #[derive(Drop)]
 pub(crate) struct ByName {
     front: u64,
@@ -18,18 +20,18 @@ impl Model for ByName {
     ghost use Rattle.std.specs.Prelude.{◌≡◌};
     ghost use Rattle.std.specs.Arc.{arc_value};
     ghost use Rattle.af_policy.specs.Fronts.{front_of};
-    ghost use Rattle.af_policy.specs.Rows.{UserRow};
+    ghost use Rattle.af_policy.specs.Tables.{IdentityRow, identity};
 
-    ghost Value = { UserRow };
+    ghost Value = { IdentityRow };
 
-    ghost view = { λ row. arc_value row.user };
+    ghost view = { λ row. identity (arc_value row.user) };
 
     ghost invariant = { λ row. row.front ≡ front_of (arc_value row.user).name };
 }
 
 impl ByName {
     pub(crate) fn new(user: Arc<User>) -> ByName
-        ensures { result ≡ arc_value user }
+        ensures { result ≡ identity (arc_value user) }
     {
         ByName {
             front: user.fronted_name().front(),
@@ -37,11 +39,11 @@ impl ByName {
         }
     }
 
-    /// The user.
-    pub(crate) fn user(&self) -> &User
-        ensures { result.now ≡ self.now }
+    /// The SHA-256 of the user's token.
+    pub(crate) fn digest(&self) -> [u8; 32]
+        ensures { result ≡ self.now.digest }
     {
-        &self.user
+        self.user.digest()
     }
 }
 
@@ -103,6 +105,14 @@ impl ByDigest {
         ensures { result.now ≡ self.now }
     {
         &self.user
+    }
+
+    /// The user's name and digest, found by name.
+    pub(crate) fn by_name(&self) -> Result<ByName, AllocError>
+        ensures { IfOk result (λ row. row ≡ identity self.now) }
+    {
+        let user = Arc::try_clone(&self.user)?;
+        Ok(ByName::new(user))
     }
 }
 

@@ -1,11 +1,13 @@
-ghost use Rattle.std.specs.Prelude.{◌≡◌, Some, [], true, false, length, map, IfOk, IfSome, OnOk, OnErr};
+ghost use Rattle.std.specs.Prelude.{◌≡◌, ◌++◌, Some, [], true, false, length, map, is_some, IfOk, IfSome, OnOk, OnErr};
+ghost use Rattle.std.specs.Arc.{arc_value};
+ghost use Rattle.std.specs.List.{AllByRecursion};
 ghost use Rattle.std.specs.Option.{option_copied};
 ghost use Rattle.af_policy.specs.Rows.{NamesAscend, digests_differ, found_user, has_digest, has_user, same_digest, user_names, with_user, without_user};
 ghost use Rattle.af_policy.specs.Changes.{replaced};
 ghost use Rattle.af_policy.specs.Identity.{digest_user};
-ghost use Rattle.af_policy.specs.SharedRows.{Ascend, seen, with_row, without};
+ghost use Rattle.af_policy.specs.SharedRows.{Ascend, found, seen, with_row, without};
 ghost use Rattle.af_policy.specs.Shown.{page_rows, shown_user};
-ghost use Rattle.af_policy.specs.Tables.{IsUserTable, digest_row, roles_of};
+ghost use Rattle.af_policy.specs.Tables.{IsUserTable, digest_row, identity, roles_of, user_at, users_at};
 
 use crate::shared::Table;
 use crate::user_rows::{ByDigest, ByName};
@@ -16,8 +18,8 @@ use std::marker::Model;
 use std::sync::Arc;
 
 /// The users of a policy, found by name and by the digest of their token in steps that grow with the logarithm of their
-/// number. Tables of different versions share the users that they have in common. Contracts see it as the users' rows, in
-/// byte order of their names.
+/// number. A name leads to the digest, and the digest to the user, so that the names stay shared where only roles change. Tables of
+/// different versions share the users that they have in common. Contracts see it as the users' rows, in byte order of their names.
 #[derive(Drop)]
 pub(crate) struct UserTable {
     by_name: Table<ByName>,
@@ -27,27 +29,28 @@ pub(crate) struct UserTable {
 impl Model for UserTable {
     ghost use Rattle.std.specs.Prelude.{List};
     ghost use Rattle.af_policy.specs.Rows.{UserRow};
-    ghost use Rattle.af_policy.specs.Tables.{IsUserTable};
+    ghost use Rattle.af_policy.specs.Tables.{IsNamedTable, users_at};
 
     ghost Value = { List UserRow };
 
-    ghost view = { λ table. table.by_name };
+    ghost view = { λ table. users_at table.by_digest table.by_name };
 
-    ghost invariant = { λ table. IsUserTable table.by_name table.by_digest };
+    ghost invariant = { λ table. IsNamedTable table.by_name table.by_digest };
 }
 
 impl UserTable {
-    /// The users of these rows, by name and by digest.
+    /// The table of these users, whose names ascend, where these are the same users in the order of their digests.
     pub(crate) fn of_rows(
         alloc: Global,
-        names: Vec<ByName>,
+        users: &[ByDigest],
         digests: Vec<ByDigest>,
     ) -> Result<UserTable, AllocError>
-        requires names { Ascend (λ user. user.name) names.items }
+        requires users { Ascend (λ user. user.name) users.now }
         requires digests { Ascend (λ user. user.digest) digests.items }
-        requires table { IsUserTable names.items digests.items }
-        ensures { IfOk result (λ table. table ≡ names.items) }
+        requires table { IsUserTable users.now digests.items }
+        ensures { IfOk result (λ table. table ≡ users.now) }
     {
+        let names = each_named(alloc, users)?;
         let by_name = Table::of_rows(alloc, names)?;
         let by_digest = Table::of_rows(alloc, digests)?;
         Ok(UserTable { by_name, by_digest })
@@ -92,10 +95,9 @@ impl UserTable {
     {
         self.by_name.facts();
         let user = Arc::new(alloc, user)?;
-        let other = Arc::try_clone(&user)?;
-        let by_name = names_with(alloc, &self.by_name, ByName::new(user))?;
         let digest = before.digest();
-        let by_digest = digests_with(alloc, &self.by_digest, &digest, ByDigest::new(other))?;
+        let by_name = names_with(alloc, &self.by_name, &digest, &user)?;
+        let by_digest = digests_with(alloc, &self.by_digest, &digest, ByDigest::new(user))?;
         *self = UserTable { by_name, by_digest };
         Ok(())
     }
@@ -137,7 +139,7 @@ impl UserTable {
         ensures named { IfSome result (λ user. found_user self.now user.now.name ≡ Some user.now) }
         ensures ascend { NamesAscend (user_names self.now) }
     {
-        self.by_name.facts();
+        self.facts();
         match self.by_digest.get(digest.as_slice()) {
             Some(row) => Some(row.user()),
             None => None,
@@ -149,18 +151,17 @@ impl UserTable {
         ensures { option_copied result ≡ found_user self.now name.now }
     {
         match self.by_name.get(name.as_str().as_bytes()) {
-            Some(row) => Some(row.user()),
+            Some(own) => self.with_digest(&own.digest()),
             None => None,
         }
     }
 
     /// The users of a span.
-    #[tactic(auto, using(crate::proofs::ShownLemmas::page_of_front))]
     pub(crate) fn page(&self, alloc: Global, span: Span) -> Result<Page<UserShown<'_>>, AllocError>
         ensures { IfOk result (λ page. page ≡ record { rows = map shown_user (page_rows span self.now); total = length self.now }) }
     {
         let front = self.by_name.front(alloc, span.end())?;
-        let rows = each_shown(alloc, span.past(front.as_slice()))?;
+        let rows = each_shown(alloc, &self.by_digest, span.past(front.as_slice()))?;
         Ok(Page::new(rows, self.len()))
     }
 
@@ -170,8 +171,8 @@ impl UserTable {
     {
         self.by_name.facts();
         match self.by_name.get(name.as_str().as_bytes()) {
-            Some(row) => {
-                let digest = row.user().digest();
+            Some(own) => {
+                let digest = own.digest();
                 let by_name = self.by_name.without(alloc, name.as_str().as_bytes())?;
                 let by_digest = self.by_digest.without(alloc, digest.as_slice())?;
                 Ok(UserTable { by_name, by_digest })
@@ -188,9 +189,9 @@ impl UserTable {
         ensures value { option_copied result ≡ roles_of self.now name.now }
         ensures ascend { NamesAscend (user_names self.now) }
     {
-        self.by_name.facts();
-        match self.by_name.get(name.as_str().as_bytes()) {
-            Some(row) => Some(row.user().roles()),
+        self.facts();
+        match self.get(name) {
+            Some(user) => Some(user.roles()),
             None => None,
         }
     }
@@ -204,16 +205,23 @@ impl UserTable {
     }
 }
 
-/// The users by name, with another in the place of the one of that name.
+/// The names, after the user of a name, who had this digest, became another. Where the digest stays, so do the names.
 fn names_with(
     alloc: Global,
     names: &Table<ByName>,
-    row: ByName,
+    before: &[u8; 32],
+    user: &Arc<User>,
 ) -> Result<Table<ByName>, AllocError>
-    ensures { IfOk result (λ made. made ≡ replaced names.now row) }
+    requires { found (λ own. own.name) names.now (arc_value user.now).name ≡ Some (record { name = (arc_value user.now).name; digest = before.now }) }
+    ensures { IfOk result (λ made. made ≡ with_row (λ own. own.name) names.now (identity (arc_value user.now))) }
 {
     names.facts();
-    let made = names.with(alloc, row)?;
+    if is_same(before, &user.digest()) {
+        let same = names.copied()?;
+        return Ok(same);
+    }
+    let other = Arc::try_clone(user)?;
+    let made = names.with(alloc, ByName::new(other))?;
     Ok(made)
 }
 
@@ -224,11 +232,12 @@ fn digests_with(
     before: &[u8; 32],
     row: ByDigest,
 ) -> Result<Table<ByDigest>, AllocError>
+    requires { is_some (found (λ user. user.digest) digests.now before.now) ≡ true }
     ensures { IfOk result (λ made. made ≡ with_row (λ user. user.digest) (without (λ user. user.digest) digests.now before.now) row) }
 {
     digests.facts();
     if is_same(before, &row.user().digest()) {
-        let made = digests.with(alloc, row)?;
+        let made = digests.replacing(alloc, row)?;
         return Ok(made);
     }
     let others = digests.without(alloc, before.as_slice())?;
@@ -243,13 +252,64 @@ fn is_same(one: &[u8; 32], other: &[u8; 32]) -> bool
     *one == *other
 }
 
-/// Users as they are shown.
-fn each_shown<'a>(alloc: Global, rows: &[&'a ByName]) -> Result<Vec<UserShown<'a>>, AllocError>
-    ensures { IfOk result (λ shown. shown.items ≡ map shown_user (seen rows.now)) }
+/// The names and digests of these users.
+fn each_named(alloc: Global, users: &[ByDigest]) -> Result<Vec<ByName>, AllocError>
+    ensures { IfOk result (λ names. names.items ≡ map identity users.now) }
 {
-    let mut shown = Vec::with_capacity(alloc, rows.len())?;
-    for row in rows {
-        shown.push(UserShown::new(alloc, row.user())?)?;
+    let mut names = Vec::with_capacity(alloc, users.len())?;
+    for user in users {
+        names.push(user.by_name()?)?;
     }
+    Ok(names)
+}
+
+/// The users of these identities as they are shown.
+fn each_shown<'a>(
+    alloc: Global,
+    index: &'a Table<ByDigest>,
+    names: &[&ByName],
+) -> Result<Vec<UserShown<'a>>, AllocError>
+    requires { AllByRecursion (λ own. is_some (digest_row index.now own.digest) ≡ true) (seen names.now) }
+    ensures { IfOk result (λ shown. shown.items ≡ map shown_user (users_at index.now (seen names.now))) }
+{
+    let mut shown = Vec::with_capacity(alloc, names.len())?;
+    show_each(alloc, index, names, &mut shown)?;
     Ok(shown)
+}
+
+/// Shows the users of these identities behind others.
+fn show_each<'a>(
+    alloc: Global,
+    index: &'a Table<ByDigest>,
+    names: &[&ByName],
+    shown: &mut Vec<UserShown<'a>>,
+) -> Result<(), AllocError>
+    requires { AllByRecursion (λ own. is_some (digest_row index.now own.digest) ≡ true) (seen names.now) }
+    ensures { OnOk result (shown.new.items ≡ shown.old.items ++ map shown_user (users_at index.now (seen names.now))) }
+{
+    match names.split_first() {
+        Some((own, others)) => {
+            shown.push(shown_at(alloc, index, own)?)?;
+            show_each(alloc, index, others, shown)
+        }
+        None => Ok(()),
+    }
+}
+
+/// The user of an identity as it is shown.
+fn shown_at<'a>(
+    alloc: Global,
+    index: &'a Table<ByDigest>,
+    own: &ByName,
+) -> Result<UserShown<'a>, AllocError>
+    requires { is_some (digest_row index.now own.now.digest) ≡ true }
+    ensures { IfOk result (λ shown. shown ≡ shown_user (user_at index.now own.now)) }
+{
+    match index.get(own.digest().as_slice()) {
+        Some(row) => {
+            let shown = UserShown::new(alloc, row.user())?;
+            Ok(shown)
+        }
+        None => unreachable!(),
+    }
 }

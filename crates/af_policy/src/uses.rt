@@ -42,12 +42,16 @@ impl RoleUse {
         Ok(RoleUse { front, name, count })
     }
 
-    /// The role's name, which is shared.
-    fn name(&self) -> Result<Arc<RoleName>, AllocError>
-        ensures { IfOk result (λ name. name.value ≡ self.now.name) }
+    /// The same role, named so often. Both share the name.
+    fn counted(&self, count: usize) -> Result<RoleUse, AllocError>
+        ensures { IfOk result (λ row. row ≡ record { name = self.now.name; count = count }) }
     {
         let name = Arc::try_clone(&self.name)?;
-        Ok(name)
+        Ok(RoleUse {
+            front: self.front,
+            name,
+            count,
+        })
     }
 
     /// How often the role is named.
@@ -126,22 +130,23 @@ impl Uses {
         }
     }
 
-    /// The row of a role, with another count.
-    fn row(&self, alloc: Global, name: &RoleName, count: usize) -> Result<RoleUse, AllocError>
-        ensures { IfOk result (λ row. row ≡ record { name = name.now; count = count }) }
-    {
-        RoleUse::new(alloc, name.copied(alloc)?, count)
-    }
-
     /// Counts a role once more.
     fn add(&mut self, alloc: Global, name: &RoleName) -> Result<(), AllocError>
         ensures { OnOk result ((other : List ℕ) → count_at self.new other ≡ cond (same_name other name.now) (count_at self.old other + 1) (count_at self.old other)) }
     {
-        let Some(count) = self.count(name.as_str()).checked_add(1) else {
-            return Err(AllocError);
-        };
-        let row = self.row(alloc, name, count)?;
-        self.counts.put(alloc, row)?;
+        match self.counts.get(name.as_str().as_bytes()) {
+            Some(row) => {
+                let Some(count) = row.count().checked_add(1) else {
+                    return Err(AllocError);
+                };
+                let more = row.counted(count)?;
+                self.counts.replace(alloc, more)?;
+            }
+            None => {
+                let first = RoleUse::new(alloc, name.copied(alloc)?, 1)?;
+                self.counts.put(alloc, first)?;
+            }
+        }
         Ok(())
     }
 
@@ -149,12 +154,17 @@ impl Uses {
     fn take(&mut self, alloc: Global, name: &RoleName) -> Result<(), AllocError>
         ensures { OnOk result ((other : List ℕ) → count_at self.new other ≡ cond (same_name other name.now) (count_at self.old other - 1) (count_at self.old other)) }
     {
-        let count = self.count(name.as_str());
-        if count < 2 {
-            self.counts.remove(alloc, name.as_str().as_bytes())?;
-        } else {
-            let row = self.row(alloc, name, count - 1)?;
-            self.counts.put(alloc, row)?;
+        match self.counts.get(name.as_str().as_bytes()) {
+            Some(row) => {
+                let count = row.count();
+                if count < 2 {
+                    self.counts.remove(alloc, name.as_str().as_bytes())?;
+                } else {
+                    let less = row.counted(count - 1)?;
+                    self.counts.replace(alloc, less)?;
+                }
+            }
+            None => {}
         }
         Ok(())
     }

@@ -41,9 +41,9 @@ pub(crate) fn is_past<T: Row>(rows: &[T], key: &Sought<'_>) -> bool
     }
 }
 
-/// The rows with one more at its place, or in the place of the row of its key.
+/// The rows with one more at its place, or in the place of the row of its key. The place is found by binary search.
 pub(crate) fn rows_with<T: Row>(alloc: Global, rows: &[T], row: T) -> Result<Vec<T>, AllocError>
-    ensures { IfOk result (λ made. made.items ≡ with_row T.key rows.now row) }
+    ensures { IfOk result (λ made. Ascend T.key rows.now → made.items ≡ with_row T.key rows.now row) }
 {
     let mut made = Vec::with_capacity(alloc, rows.len().saturating_add(1))?;
     put_all(rows, row, &mut made)?;
@@ -52,28 +52,29 @@ pub(crate) fn rows_with<T: Row>(alloc: Global, rows: &[T], row: T) -> Result<Vec
 
 /// Puts rows behind others, with one more at its place, or in the place of the row of its key.
 fn put_all<T: Row>(rows: &[T], row: T, into: &mut Vec<T>) -> Result<(), AllocError>
-    ensures { OnOk result (into.new.items ≡ into.old.items ++ with_row T.key rows.now row) }
+    ensures { OnOk result (Ascend T.key rows.now → into.new.items ≡ into.old.items ++ with_row T.key rows.now row) }
 {
-    match rows.split_first() {
-        Some((first, others)) => match row_order(&row, first) {
+    let (low, high) = rows.split_at(rows.len() / 2);
+    match high.split_first() {
+        Some((first, above)) => match row_order(&row, first) {
             Ordering::Less => {
-                into.push(row)?;
-                copy_all(rows, into)
+                put_all(low, row, into)?;
+                copy_all(high, into)?;
             }
             Ordering::Equal => {
+                copy_all(low, into)?;
                 into.push(row)?;
-                copy_all(others, into)
+                copy_all(above, into)?;
             }
             Ordering::Greater => {
+                copy_all(low, into)?;
                 into.push(first.copied()?)?;
-                put_all(others, row, into)
+                put_all(above, row, into)?;
             }
         },
-        None => {
-            into.push(row)?;
-            Ok(())
-        }
+        None => into.push(row)?,
     }
+    Ok(())
 }
 
 /// A row with others behind it, which are copied.

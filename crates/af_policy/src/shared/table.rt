@@ -1,4 +1,4 @@
-ghost use Rattle.std.specs.Prelude.{◌≡◌, ◌+◌, [], length, cond, take, IfOk, OnOk, OnErr};
+ghost use Rattle.std.specs.Prelude.{◌≡◌, ◌+◌, [], true, length, cond, take, IfOk, OnOk, OnErr};
 ghost use Rattle.std.specs.Option.{option_copied, is_some};
 ghost use Rattle.af_policy.specs.SharedRows.{Ascend, found, seen, with_row, without};
 
@@ -90,6 +90,16 @@ impl<T: Row> Table<T> {
         Ok(Table { root, len })
     }
 
+    /// The table with another row in the place of the row of its key, which is there.
+    pub fn replacing(&self, alloc: Global, row: T) -> Result<Table<T>, AllocError>
+        requires { is_some (found T.key self.now (T.key row)) ≡ true }
+        ensures { IfOk result (λ table. table ≡ with_row T.key self.now row) }
+    {
+        let len = self.len;
+        let root = change::with_link(alloc, &self.root, row)?;
+        Ok(Table { root, len })
+    }
+
     /// How many rows there are with one of this key. More than a `usize` counts find no memory.
     fn len_with(&self, key: &[u8]) -> Result<usize, AllocError>
         ensures { IfOk result (λ len. len ≡ cond (is_some (found T.key self.now key.now)) (length self.now) (length self.now + 1)) }
@@ -123,6 +133,16 @@ impl<T: Row> Table<T> {
         ensures err { OnErr result (self.new ≡ self.old) }
     {
         *self = self.with(alloc, row)?;
+        Ok(())
+    }
+
+    /// Puts a row in the place of the row of its key, which is there.
+    pub fn replace(&mut self, alloc: Global, row: T) -> Result<(), AllocError>
+        requires { is_some (found T.key self.old (T.key row)) ≡ true }
+        ensures ok { OnOk result (self.new ≡ with_row T.key self.old row) }
+        ensures err { OnErr result (self.new ≡ self.old) }
+    {
+        *self = self.replacing(alloc, row)?;
         Ok(())
     }
 

@@ -1,6 +1,6 @@
 use Rattle.std.proofs.Common.{refl, sym}
 use Rattle.af_policy.specs.SharedTrees.{rows}
-use Rattle.af_policy.proofs.ShapeLemmas.{below_none, below_rest, past_rest, with_at_left, with_at_no_left, with_in_middle, with_at_right, with_in_rest}
+use Rattle.af_policy.proofs.ShapeLemmas.{ascend_rest, below_none, below_rest, past_rest, with_at_left, with_at_no_left, with_in_middle, with_at_right, with_in_rest}
 use Rattle.af_policy.proofs.shared.change.+with.Goals as goal
 
 pub returns-in_ok-made-in-Some : goal.returns-in_ok-made-in-Some
@@ -29,10 +29,10 @@ pub returns-in_ok-made-in-Some-right-2 : goal.returns-in_ok-made-in-Some-right-2
 returns-in_ok-made-in-Some-right-2 g t c = λ s.
     with_in_rest g.T.Row.key c.args.node.now s c.args.row (rows c.in_ok-made-in-Some-right-2.made.value) (sym c.in-Greater.ensures)
     (below_rest g.T.Row.key c.args.node.now s (g.T.Row.key c.args.row) _ _ c.as_slice.ensures c.of_row.ensures (c.if-is_past.ensures.within refl))
-    c.in_ok-made-in-Some-right-2.ensures
+    (c.in_ok-made-in-Some-right-2.ensures (ascend_rest g.T.Row.key c.args.node.now s))
 
 pub returns-in_ok-made-in-None-right : goal.returns-in_ok-made-in-None-right
 returns-in_ok-made-in-None-right g t c = λ s.
     with_in_rest g.T.Row.key c.args.node.now s c.args.row (rows c.in_ok-made-in-None-right.made.value) (sym c.in-Greater.ensures)
     (below_none g.T.Row.key c.args.node.now s (g.T.Row.key c.args.row) c.in-None-right.is)
-    c.in_ok-made-in-None-right.ensures
+    (c.in_ok-made-in-None-right.ensures (ascend_rest g.T.Row.key c.args.node.now s))

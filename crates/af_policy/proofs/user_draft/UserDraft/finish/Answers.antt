@@ -6,11 +6,11 @@ use Rattle.af_policy.specs.Rows.{UserRow}
 use Rattle.af_policy.proofs.EntryLemmas.{keys_of-keyed}
 use Rattle.af_policy.proofs.user_draft.UserDraft.finish.Goals as goal
 
-pub of_rows-requires-clause-names : goal.of_rows-requires-clause-names
-of_rows-requires-clause-names c =
+pub of_rows-requires-clause-users : goal.of_rows-requires-clause-users
+of_rows-requires-clause-users c =
     subst (IsStrictlySortedBy (slice_cmp nat_cmp))
-    (keys_of-keyed (λ (user : UserRow). user.name) c.self.inside.by_name.entries c.self.invariant.named ∙ ap (map (λ (user : UserRow). user.name)) (sym c.in_ok-names.ensures.rows))
-    c.in_ok-names.ensures.ascend
+    (keys_of-keyed (λ (user : UserRow). user.name) c.self.inside.by_name.entries c.self.invariant.named ∙ ap (map (λ (user : UserRow). user.name)) (sym c.in_ok-users.ensures.rows) ∙ ap (map (λ (user : UserRow). user.name)) (sym c.as_slice-2.ensures.value))
+    c.in_ok-users.ensures.ascend
 
 pub of_rows-requires-clause-digests : goal.of_rows-requires-clause-digests
 of_rows-requires-clause-digests c =

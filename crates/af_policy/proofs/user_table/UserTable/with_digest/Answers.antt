@@ -1,5 +1,4 @@
 use Rattle.std.proofs.Common.{◌≡◌, ◌∙◌, ap, sym, Some}
-use Rattle.af_policy.specs.Rows.{found_user}
 use Rattle.af_policy.specs.SharedRows.{found}
 use Rattle.af_policy.specs.Tables.{digest_row}
 use Rattle.af_policy.proofs.RemovalLemmas.{digest_named}
@@ -10,15 +9,15 @@ returns-in-Some-clause-value c =
     ap Some c.user.ensures
     ∙ c.in-Some.ensures
     ∙ ap (found (λ user. user.digest) c.self.inside.by_digest) c.as_slice.ensures
-    ∙ c.self.invariant.indexed c.args.digest.now
+    ∙ c.self.invariant.table.indexed c.args.digest.now
     ∙ ap (λ users. digest_row users c.args.digest.now) c.self.view_is
 
 pub returns-in-Some-clause-named : goal.returns-in-Some-clause-named
 returns-in-Some-clause-named c =
-    let has : Some c.user.result.now ≡ digest_row c.self.inside.by_name c.args.digest.now =
+    let has : Some c.user.result.now ≡ digest_row c.args.self.now c.args.digest.now =
     ap Some c.user.ensures
     ∙ c.in-Some.ensures
     ∙ ap (found (λ user. user.digest) c.self.inside.by_digest) c.as_slice.ensures
-    ∙ c.self.invariant.indexed c.args.digest.now
-    in ap (λ users. found_user users c.user.result.now.name) (sym c.self.view_is)
-    ∙ digest_named c.args.digest.now c.self.inside.by_name c.user.result.now c.facts.ensures (sym has)
+    ∙ c.self.invariant.table.indexed c.args.digest.now
+    ∙ ap (λ users. digest_row users c.args.digest.now) c.self.view_is
+    in digest_named c.args.digest.now c.args.self.now c.user.result.now c.facts.ensures.ascend (sym has)
