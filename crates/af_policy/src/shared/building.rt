@@ -7,7 +7,7 @@ use crate::shared::rest::Rest;
 use std::alloc::{AllocError, Global};
 
 /// How many rows a node is given at first, so that some more find room.
-const FILL: usize = 36;
+const FILL: usize = 18;
 
 /// A part of the last rows of a list, so many, which are taken off it, with as many on each side as on the other, or one
 /// less.

@@ -15,7 +15,7 @@ use std::cmp::Ordering;
 use std::sync::Arc;
 
 /// How many rows stand behind the first of a node, at most.
-const MOST: usize = 48;
+const MOST: usize = 24;
 
 /// The rows with one more at its place, or in the place of the row of its key. Only the nodes on the way to it are made
 /// anew.
