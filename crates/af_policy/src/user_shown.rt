@@ -1,10 +1,14 @@
-ghost use Rattle.std.specs.Prelude.{◌≡◌, ◌≤◌, count_by, length, IfOk, OnOk};
+ghost use Rattle.std.specs.Prelude.{◌≡◌, ◌≤◌, ◌++◌, true, count_by, is_some, length, map, IfOk, OnOk};
+ghost use Rattle.std.specs.List.{AllByRecursion};
 ghost use Rattle.std.specs.Cmp.Lexicographic.{slice_cmp};
 ghost use Rattle.std.specs.Ordering.{is_lt, nat_cmp};
 ghost use Rattle.af_policy.specs.SharedRows.{seen};
 ghost use Rattle.af_policy.specs.Shown.{in_order, shown_user, with_name};
+ghost use Rattle.af_policy.specs.Tables.{digest_row, user_at, users_at};
 
 use crate::User;
+use crate::shared::Table;
+use crate::user_rows::{ByDigest, ByName};
 use af_names::{RoleName, UserName};
 use std::alloc::{AllocError, Global};
 use std::marker::Model;
@@ -85,4 +89,55 @@ fn is_below(own: &RoleName, name: &RoleName) -> bool
     ensures { result ≡ is_lt (slice_cmp nat_cmp own.now name.now) }
 {
     own.cmp(name).is_lt()
+}
+
+/// The users of these identities as they are shown.
+pub(crate) fn each_shown<'a>(
+    alloc: Global,
+    index: &'a Table<ByDigest>,
+    names: &[&ByName],
+) -> Result<Vec<UserShown<'a>>, AllocError>
+    requires { AllByRecursion (λ own. is_some (digest_row index.now own.digest) ≡ true) (seen names.now) }
+    ensures { IfOk result (λ shown. shown.items ≡ map shown_user (users_at index.now (seen names.now))) }
+{
+    let mut shown = Vec::with_capacity(alloc, names.len())?;
+    show_each(alloc, index, names, &mut shown)?;
+    Ok(shown)
+}
+
+/// Shows the users of these identities behind others.
+fn show_each<'a>(
+    alloc: Global,
+    index: &'a Table<ByDigest>,
+    names: &[&ByName],
+    shown: &mut Vec<UserShown<'a>>,
+) -> Result<(), AllocError>
+    requires { AllByRecursion (λ own. is_some (digest_row index.now own.digest) ≡ true) (seen names.now) }
+    ensures { OnOk result (shown.new.items ≡ shown.old.items ++ map shown_user (users_at index.now (seen names.now))) }
+{
+    match names.split_first() {
+        Some((own, others)) => {
+            shown.push(shown_at(alloc, index, own)?)?;
+            show_each(alloc, index, others, shown)
+        }
+        None => Ok(()),
+    }
+}
+
+/// The user of an identity as it is shown.
+fn shown_at<'a>(
+    alloc: Global,
+    index: &'a Table<ByDigest>,
+    own: &ByName,
+) -> Result<UserShown<'a>, AllocError>
+    requires { is_some (digest_row index.now own.now.digest) ≡ true }
+    ensures { IfOk result (λ shown. shown ≡ shown_user (user_at index.now own.now)) }
+{
+    match index.get(own.digest().as_slice()) {
+        Some(row) => {
+            let shown = UserShown::new(alloc, row.user())?;
+            Ok(shown)
+        }
+        None => unreachable!(),
+    }
 }

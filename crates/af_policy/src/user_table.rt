@@ -1,16 +1,16 @@
-ghost use Rattle.std.specs.Prelude.{◌≡◌, ◌++◌, Some, [], true, false, length, map, is_some, IfOk, IfSome, OnOk, OnErr};
+ghost use Rattle.std.specs.Prelude.{◌≡◌, Some, [], true, false, length, map, is_some, IfOk, IfSome, OnOk, OnErr};
 ghost use Rattle.std.specs.Arc.{arc_value};
-ghost use Rattle.std.specs.List.{AllByRecursion};
 ghost use Rattle.std.specs.Option.{option_copied};
 ghost use Rattle.af_policy.specs.Rows.{NamesAscend, digests_differ, found_user, has_digest, has_user, same_digest, user_names, with_user, without_user};
 ghost use Rattle.af_policy.specs.Changes.{replaced};
 ghost use Rattle.af_policy.specs.Identity.{digest_user};
-ghost use Rattle.af_policy.specs.SharedRows.{Ascend, found, seen, with_row, without};
+ghost use Rattle.af_policy.specs.SharedRows.{Ascend, found, with_row, without};
 ghost use Rattle.af_policy.specs.Shown.{page_rows, shown_user};
-ghost use Rattle.af_policy.specs.Tables.{IsUserTable, digest_row, identity, roles_of, user_at, users_at};
+ghost use Rattle.af_policy.specs.Tables.{IsUserTable, digest_row, identity, roles_of};
 
 use crate::shared::Table;
 use crate::user_rows::{ByDigest, ByName};
+use crate::user_shown::each_shown;
 use crate::{Page, Span, User, UserShown};
 use af_names::{RoleName, UserName};
 use std::alloc::{AllocError, Global};
@@ -261,55 +261,4 @@ fn each_named(alloc: Global, users: &[ByDigest]) -> Result<Vec<ByName>, AllocErr
         names.push(user.by_name()?)?;
     }
     Ok(names)
-}
-
-/// The users of these identities as they are shown.
-fn each_shown<'a>(
-    alloc: Global,
-    index: &'a Table<ByDigest>,
-    names: &[&ByName],
-) -> Result<Vec<UserShown<'a>>, AllocError>
-    requires { AllByRecursion (λ own. is_some (digest_row index.now own.digest) ≡ true) (seen names.now) }
-    ensures { IfOk result (λ shown. shown.items ≡ map shown_user (users_at index.now (seen names.now))) }
-{
-    let mut shown = Vec::with_capacity(alloc, names.len())?;
-    show_each(alloc, index, names, &mut shown)?;
-    Ok(shown)
-}
-
-/// Shows the users of these identities behind others.
-fn show_each<'a>(
-    alloc: Global,
-    index: &'a Table<ByDigest>,
-    names: &[&ByName],
-    shown: &mut Vec<UserShown<'a>>,
-) -> Result<(), AllocError>
-    requires { AllByRecursion (λ own. is_some (digest_row index.now own.digest) ≡ true) (seen names.now) }
-    ensures { OnOk result (shown.new.items ≡ shown.old.items ++ map shown_user (users_at index.now (seen names.now))) }
-{
-    match names.split_first() {
-        Some((own, others)) => {
-            shown.push(shown_at(alloc, index, own)?)?;
-            show_each(alloc, index, others, shown)
-        }
-        None => Ok(()),
-    }
-}
-
-/// The user of an identity as it is shown.
-fn shown_at<'a>(
-    alloc: Global,
-    index: &'a Table<ByDigest>,
-    own: &ByName,
-) -> Result<UserShown<'a>, AllocError>
-    requires { is_some (digest_row index.now own.now.digest) ≡ true }
-    ensures { IfOk result (λ shown. shown ≡ shown_user (user_at index.now own.now)) }
-{
-    match index.get(own.digest().as_slice()) {
-        Some(row) => {
-            let shown = UserShown::new(alloc, row.user())?;
-            Ok(shown)
-        }
-        None => unreachable!(),
-    }
 }
