@@ -51,7 +51,7 @@ impl UserDraft {
         }
     }
 
-    /// Adds a user whose name and digest are nobody's, and tells whether they were.
+    /// Adds a user unless the name or the digest is taken, and tells whether it did.
     pub(crate) fn insert(&mut self, user: &Arc<User>) -> Result<bool, AllocError>
         ensures is_new { IfOk result (λ is_new. is_new ≡ not (has_user self.old (arc_value user.now).name || has_digest self.old (arc_value user.now).digest)) }
         ensures added { IfOk result (λ is_new. is_new ≡ true → self.new ≡ with_user self.old (arc_value user.now)) }

@@ -1,6 +1,6 @@
 ghost use Rattle.std.specs.Prelude.{◌≡◌, IfOk};
 ghost use Rattle.std.specs.Arc.{arc_value};
-ghost use Rattle.af_policy.specs.Tables.{identity};
+ghost use Rattle.af_policy.specs.Tables.{name_row};
 
 use crate::User;
 use crate::shared::Row;
@@ -8,8 +8,8 @@ use std::alloc::AllocError;
 use std::marker::Model;
 use std::sync::Arc;
 
-/// A user's name and digest, found by name, whose front stands beside it. Of the user that it shares the roles may be older than the
-/// table's, so contracts see the name and the digest alone.
+/// A user's name and digest, found by name, whose front stands beside it. The roles of the user that it shares may be out of date.
+/// Contracts therefore see the name and the digest alone.
 #[derive(Drop)]
 pub(crate) struct ByName {
     front: u64,
@@ -20,18 +20,18 @@ impl Model for ByName {
     ghost use Rattle.std.specs.Prelude.{◌≡◌};
     ghost use Rattle.std.specs.Arc.{arc_value};
     ghost use Rattle.af_policy.specs.Fronts.{front_of};
-    ghost use Rattle.af_policy.specs.Tables.{IdentityRow, identity};
+    ghost use Rattle.af_policy.specs.Tables.{NameRow, name_row};
 
-    ghost Value = { IdentityRow };
+    ghost Value = { NameRow };
 
-    ghost view = { λ row. identity (arc_value row.user) };
+    ghost view = { λ row. name_row (arc_value row.user) };
 
     ghost invariant = { λ row. row.front ≡ front_of (arc_value row.user).name };
 }
 
 impl ByName {
     pub(crate) fn new(user: Arc<User>) -> ByName
-        ensures { result ≡ identity (arc_value user) }
+        ensures { result ≡ name_row (arc_value user) }
     {
         ByName {
             front: user.fronted_name().front(),
@@ -109,7 +109,7 @@ impl ByDigest {
 
     /// The user's name and digest, found by name.
     pub(crate) fn by_name(&self) -> Result<ByName, AllocError>
-        ensures { IfOk result (λ row. row ≡ identity self.now) }
+        ensures { IfOk result (λ row. row ≡ name_row self.now) }
     {
         let user = Arc::try_clone(&self.user)?;
         Ok(ByName::new(user))

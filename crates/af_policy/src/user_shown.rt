@@ -91,7 +91,7 @@ fn is_below(own: &RoleName, name: &RoleName) -> bool
     own.cmp(name).is_lt()
 }
 
-/// The users of these identities as they are shown.
+/// The users to whom these names lead, as they are shown.
 pub(crate) fn each_shown<'a>(
     alloc: Global,
     index: &'a Table<ByDigest>,
@@ -105,7 +105,7 @@ pub(crate) fn each_shown<'a>(
     Ok(shown)
 }
 
-/// Shows the users of these identities behind others.
+/// Shows the users to whom these names lead behind others.
 fn show_each<'a>(
     alloc: Global,
     index: &'a Table<ByDigest>,
@@ -124,7 +124,7 @@ fn show_each<'a>(
     }
 }
 
-/// The user of an identity as it is shown.
+/// The user to whom a name leads, as it is shown.
 fn shown_at<'a>(
     alloc: Global,
     index: &'a Table<ByDigest>,

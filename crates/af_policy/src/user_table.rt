@@ -6,7 +6,7 @@ ghost use Rattle.af_policy.specs.Changes.{replaced};
 ghost use Rattle.af_policy.specs.Identity.{digest_user};
 ghost use Rattle.af_policy.specs.SharedRows.{Ascend, found, with_row, without};
 ghost use Rattle.af_policy.specs.Shown.{page_rows, shown_user};
-ghost use Rattle.af_policy.specs.Tables.{IsUserTable, digest_row, identity, roles_of};
+ghost use Rattle.af_policy.specs.Tables.{IsUserTable, digest_row, name_row, roles_of};
 
 use crate::shared::Table;
 use crate::user_rows::{ByDigest, ByName};
@@ -18,8 +18,9 @@ use std::marker::Model;
 use std::sync::Arc;
 
 /// The users of a policy, found by name and by the digest of their token in steps that grow with the logarithm of their
-/// number. A name leads to the digest, and the digest to the user, so that the names stay shared where only roles change. Tables of
-/// different versions share the users that they have in common. Contracts see it as the users' rows, in byte order of their names.
+/// number. A name leads to the digest, and the digest to the user. So the table of names stays shared where only roles change, which no
+/// clause says. Tables of different versions share the users that they have in common. Contracts see it as the users' rows, in byte
+/// order of their names.
 #[derive(Drop)]
 pub(crate) struct UserTable {
     by_name: Table<ByName>,
@@ -39,7 +40,7 @@ impl Model for UserTable {
 }
 
 impl UserTable {
-    /// The table of these users, whose names ascend, where these are the same users in the order of their digests.
+    /// The table of these users, whose names ascend. `digests` has the same users in the order of their digests.
     pub(crate) fn of_rows(
         alloc: Global,
         users: &[ByDigest],
@@ -133,7 +134,7 @@ impl UserTable {
         }
     }
 
-    /// The user who has a digest, who is also the user of that name.
+    /// The user who has a digest. That user's name finds the same user.
     pub(crate) fn with_digest(&self, digest: &[u8; 32]) -> Option<&User>
         ensures value { option_copied result ≡ digest_row self.now digest.now }
         ensures named { IfSome result (λ user. found_user self.now user.now.name ≡ Some user.now) }
@@ -205,7 +206,7 @@ impl UserTable {
     }
 }
 
-/// The names, after the user of a name, who had this digest, became another. Where the digest stays, so do the names.
+/// The names, where a user who had this digest is replaced. Where the digest stays, the table is shared.
 fn names_with(
     alloc: Global,
     names: &Table<ByName>,
@@ -213,7 +214,7 @@ fn names_with(
     user: &Arc<User>,
 ) -> Result<Table<ByName>, AllocError>
     requires { found (λ own. own.name) names.now (arc_value user.now).name ≡ Some (record { name = (arc_value user.now).name; digest = before.now }) }
-    ensures { IfOk result (λ made. made ≡ with_row (λ own. own.name) names.now (identity (arc_value user.now))) }
+    ensures { IfOk result (λ made. made ≡ with_row (λ own. own.name) names.now (name_row (arc_value user.now))) }
 {
     names.facts();
     if is_same(before, &user.digest()) {
@@ -254,7 +255,7 @@ fn is_same(one: &[u8; 32], other: &[u8; 32]) -> bool
 
 /// The names and digests of these users.
 fn each_named(alloc: Global, users: &[ByDigest]) -> Result<Vec<ByName>, AllocError>
-    ensures { IfOk result (λ names. names.items ≡ map identity users.now) }
+    ensures { IfOk result (λ names. names.items ≡ map name_row users.now) }
 {
     let mut names = Vec::with_capacity(alloc, users.len())?;
     for user in users {

@@ -42,7 +42,7 @@ impl RoleUse {
         Ok(RoleUse { front, name, count })
     }
 
-    /// The same role, named so often. Both share the name.
+    /// The same role, named so often. It shares the name.
     fn counted(&self, count: usize) -> Result<RoleUse, AllocError>
         ensures { IfOk result (λ row. row ≡ record { name = self.now.name; count = count }) }
     {
@@ -130,7 +130,7 @@ impl Uses {
         }
     }
 
-    /// Counts a role once more.
+    /// Counts a role once more. After an error the counts are not to be used.
     fn add(&mut self, alloc: Global, name: &RoleName) -> Result<(), AllocError>
         ensures { OnOk result ((other : List ℕ) → count_at self.new other ≡ cond (same_name other name.now) (count_at self.old other + 1) (count_at self.old other)) }
     {
@@ -150,7 +150,7 @@ impl Uses {
         Ok(())
     }
 
-    /// Counts a role once less.
+    /// Counts a role once less. After an error the counts are not to be used.
     fn take(&mut self, alloc: Global, name: &RoleName) -> Result<(), AllocError>
         ensures { OnOk result ((other : List ℕ) → count_at self.new other ≡ cond (same_name other name.now) (count_at self.old other - 1) (count_at self.old other)) }
     {
@@ -169,7 +169,7 @@ impl Uses {
         Ok(())
     }
 
-    /// Counts each of these names once more.
+    /// Counts each of these names once more. After an error the counts are not to be used.
     pub(crate) fn add_all(&mut self, alloc: Global, names: &[RoleName]) -> Result<(), AllocError>
         ensures { OnOk result ((other : List ℕ) → count_at self.new other ≡ count_at self.old other + uses_in names.now other) }
     {
@@ -179,7 +179,7 @@ impl Uses {
         Ok(())
     }
 
-    /// Counts each of these names once less.
+    /// Counts each of these names once less. After an error the counts are not to be used.
     pub(crate) fn take_all(&mut self, alloc: Global, names: &[RoleName]) -> Result<(), AllocError>
         ensures { OnOk result ((other : List ℕ) → count_at self.new other ≡ count_at self.old other - uses_in names.now other) }
     {

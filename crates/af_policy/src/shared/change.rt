@@ -80,7 +80,7 @@ fn for_low<T: Row>(alloc: Global, node: &Node<T>, row: T) -> Result<Arc<Node<T>>
     Ok(made)
 }
 
-/// The node with one more row behind its first, or another one there.
+/// The node, whose rows are in order, with one more row behind its first, or another one there.
 fn into_rest<T: Row>(alloc: Global, node: &Node<T>, row: T) -> Result<Arc<Node<T>>, AllocError>
     ensures { IfOk result (λ made. Ascend T.key (out-Node _ node.now).rest → rows made.value ≡ link_rows (out-Node _ node.now).left ++ (out-Node _ node.now).low ∷ (with_row T.key (out-Node _ node.now).rest row ++ link_rows (out-Node _ node.now).right)) }
 {

@@ -5,7 +5,7 @@ use std::alloc::{AllocError, Global};
 use std::marker::Model;
 use std::sync::Arc;
 
-/// The rows of a node behind its first, some tens at most, which nodes of different versions share. Contracts see it as these
+/// The rows of a node behind its first, 24 at most, which nodes of different versions share. Contracts see it as these
 /// rows.
 #[derive(Drop)]
 pub(crate) struct Rest<T: Row> {

@@ -41,7 +41,7 @@ pub(crate) fn is_past<T: Row>(rows: &[T], key: &Sought<'_>) -> bool
     }
 }
 
-/// The rows with one more at its place, or in the place of the row of its key. The place is found by binary search.
+/// Rows in order with one more at its place, or in the place of the row of its key. It looks for the place by binary search.
 pub(crate) fn rows_with<T: Row>(alloc: Global, rows: &[T], row: T) -> Result<Vec<T>, AllocError>
     ensures { IfOk result (λ made. Ascend T.key rows.now → made.items ≡ with_row T.key rows.now row) }
 {
@@ -50,7 +50,7 @@ pub(crate) fn rows_with<T: Row>(alloc: Global, rows: &[T], row: T) -> Result<Vec
     Ok(made)
 }
 
-/// Puts rows behind others, with one more at its place, or in the place of the row of its key.
+/// Puts rows in order behind others, with one more at its place, or in the place of the row of its key.
 fn put_all<T: Row>(rows: &[T], row: T, into: &mut Vec<T>) -> Result<(), AllocError>
     ensures { OnOk result (Ascend T.key rows.now → into.new.items ≡ into.old.items ++ with_row T.key rows.now row) }
 {

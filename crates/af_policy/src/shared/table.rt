@@ -177,7 +177,7 @@ impl<T: Row> Table<T> {
         Ok(list)
     }
 
-    /// How many nodes a search looks at, at most. Each has some tens of rows.
+    /// How many nodes a search looks at, at most. Each has 25 rows at most. No clause says so.
     pub fn height(&self) -> usize {
         usize::from(node::height(&self.root))
     }

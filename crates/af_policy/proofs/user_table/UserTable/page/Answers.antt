@@ -2,7 +2,7 @@ use Rattle.std.proofs.Common.{◌≡◌, ◌∙◌, ap, sym, subst, is_some, tru
 use Rattle.std.specs.List.{AllByRecursion}
 use Rattle.af_policy.specs.SharedRows.{seen}
 use Rattle.af_policy.specs.Shown.{page_rows, shown_user}
-use Rattle.af_policy.specs.Tables.{IdentityRow, digest_row, users_at}
+use Rattle.af_policy.specs.Tables.{NameRow, digest_row, users_at}
 use Rattle.af_policy.proofs.NamedTableLemmas.{page_led, page_of_names}
 use Rattle.af_policy.proofs.ShownLemmas.{page_of_front}
 use Rattle.af_policy.proofs.user_table.UserTable.page.Goals as goal
@@ -12,7 +12,7 @@ each_shown-requires c =
     let shown : seen c.past.result.now ≡ page_rows c.args.span c.self.inside.by_name =
     ap seen (c.past.ensures ∙ ap (drop c.args.span.offset) c.as_slice.ensures.value)
     ∙ page_of_front c.in_ok-front.front.items c.self.inside.by_name c.args.span.offset c.args.span.limit (c.in_ok-front.ensures ∙ ap (λ n. take n c.self.inside.by_name) c.end.ensures)
-    in subst (AllByRecursion (λ (own : IdentityRow). is_some (digest_row c.self.inside.by_digest own.digest) ≡ true)) (sym shown)
+    in subst (AllByRecursion (λ (own : NameRow). is_some (digest_row c.self.inside.by_digest own.digest) ≡ true)) (sym shown)
     (page_led c.self.inside.by_name c.self.inside.by_digest c.self.invariant c.args.span)
 
 pub returns : goal.returns
