@@ -13,7 +13,7 @@ use Rattle.af_policy.specs.Tables.{NameRow, IsNamedTable, IsUserTable, digest_ro
 use Rattle.af_policy.specs.declared.span.Span.{Span}
 use Rattle.af_policy.specs.Changes.{replaced}
 use Rattle.af_policy.proofs.PlaceLemmas.{IsUserTable-replaced, with_in_place}
-use Rattle.af_policy.proofs.RemovalLemmas.{IsUserTable-without, find-passes}
+use Rattle.af_policy.proofs.RemovalLemmas.{IsUserTable-without, each, find-passes}
 use Rattle.af_policy.proofs.UserLemmas.{IsUserTable-insert, and-true_left, and-true_right, not-true, or-false_left, or-false_right}
 
 -- ---- each user is the one who has the user's digest
@@ -196,10 +196,6 @@ all_drop P (suc n) (x ∷ xs) all = all_drop P n xs all.1
 all_led : (index rows : List UserRow) → AllByRecursion (λ user. digest_row index user.digest ≡ Some user) rows → AllByRecursion (λ (own : NameRow). is_some (digest_row index own.digest) ≡ true) (map name_row rows)
 all_led index [] all = tt
 all_led index (x ∷ xs) all = (ap is_some all.0, all_led index xs all.1)
-
-each : {X : Type 0} (P Q : X → Type 0) → ((x : X) → P x → Q x) → (xs : List X) → AllByRecursion P xs → AllByRecursion Q xs
-each P Q f [] all = tt
-each P Q f (x ∷ xs) all = (f x all.0, each P Q f xs all.1)
 
 module _ (names : List NameRow) (index : List UserRow) (named : IsNamedTable names index) (span : Span) where
   -- each name of a page leads to a user
