@@ -2,7 +2,7 @@ ghost use Rattle.std.specs.Prelude.{◌≡◌, true};
 ghost use Rattle.std.specs.Option.{option_copied};
 ghost use Rattle.sha2.specs.Sha256.{sha256};
 
-use crate::presented::Presented;
+use af_policy::Presented;
 use arrayvec::ArrayVec;
 use sha2::{Digest, Sha256};
 

@@ -12,7 +12,7 @@ ghost use Rattle.af_board.specs.Pushes.{IsSpentBy};
 use crate::push_fault::PushFault;
 use crate::{Board, Draft, Spent, SubmitFault};
 use af_mask::Compiled;
-use af_policy::{Ask, Decision, Policy, Refusal};
+use af_policy::{Ask, Decision, Policy, Presented, Refusal};
 use af_word::Pass;
 use boxcar::Pushed;
 use std::alloc::Global;
@@ -28,7 +28,7 @@ impl Board {
         rt: &R,
         alloc: Global,
         pass: &mut Pass,
-        token: Option<&[u8]>,
+        token: Option<&Presented<'_>>,
         ask: &Ask,
     ) -> Result<Draft, SubmitFault>
         requires { pass.old.word ≡ self.now.word }

@@ -9,7 +9,7 @@ ghost use Rattle.af_board.specs.Drafts.{IsDraft, IsReceipt, Publishes};
 ghost use Rattle.af_board.specs.Faults.{MovedOr, MovedPast, steps_of};
 
 use crate::{Board, Draft, Mark, Receipt, SubmitFault};
-use af_policy::Ask;
+use af_policy::{Ask, Presented};
 use af_word::{Pass, PublishFault};
 use std::alloc::Global;
 use std::sync::Wait;
@@ -59,7 +59,7 @@ impl Board {
         rt: &R,
         alloc: Global,
         pass: &mut Pass,
-        token: Option<&[u8]>,
+        token: Option<&Presented<'_>>,
         ask: &Ask,
     ) -> Result<Receipt, SubmitFault>
         requires { pass.old.word ≡ self.now.word }

@@ -5,7 +5,7 @@ ghost use Rattle.af_word.specs.Calls.{Looked};
 ghost use Rattle.af_board.specs.Marks.{IsLast, policy_of};
 
 use crate::{Board, NotFound, Told};
-use af_policy::{Me, MeFault, PolicyRead, PolicyReply, ReadFault};
+use af_policy::{Me, MeFault, PolicyRead, PolicyReply, Presented, ReadFault};
 use af_word::Pass;
 use std::alloc::Global;
 
@@ -16,7 +16,7 @@ impl Board {
         &self,
         alloc: Global,
         pass: &mut Pass,
-        token: Option<&[u8]>,
+        token: Option<&Presented<'_>>,
     ) -> Result<Told<Result<Me<'_>, MeFault>>, NotFound>
         requires { pass.old.word ≡ self.now.word }
         ensures looked { Looked pass.old pass.new }
@@ -35,7 +35,7 @@ impl Board {
         &self,
         alloc: Global,
         pass: &mut Pass,
-        token: Option<&[u8]>,
+        token: Option<&Presented<'_>>,
         read: &PolicyRead,
     ) -> Result<Told<Result<PolicyReply<'_>, ReadFault>>, NotFound>
         requires { pass.old.word ≡ self.now.word }

@@ -9,7 +9,7 @@ use crate::me_text::me_text;
 use crate::policy_reply::shown_told;
 use crate::policy_text::reply_text;
 use crate::shown_answer::Shown;
-use af_policy::{Me, MeFault, Policy, PolicyRead, ReadFault};
+use af_policy::{Me, MeFault, Policy, PolicyRead, Presented, ReadFault};
 use std::alloc::{AllocError, Global};
 
 /// Who brings a token, under a policy, which is the version of this number.
@@ -17,7 +17,7 @@ pub(crate) fn me_told(
     alloc: Global,
     policy: &Policy,
     version: u32,
-    token: Option<&[u8]>,
+    token: Option<&Presented<'_>>,
 ) -> Result<Shown, MeFault>
     ensures told { IfOk result (λ shown. told_of version (me_verdict version (me_of policy.now (option_copied token.entry))) ≡ Some shown) }
     ensures refused { IfErr result (λ fault. MemoryLast MeFault.OutOfMemory (me_of policy.now (option_copied token.entry)) (Err fault)) }
@@ -43,7 +43,7 @@ pub(crate) fn read_told(
     alloc: Global,
     policy: &Policy,
     version: u32,
-    token: Option<&[u8]>,
+    token: Option<&Presented<'_>>,
     asked: &PolicyRead,
 ) -> Result<Shown, ReadFault>
     ensures told { IfOk result (λ shown. told_of version (read_verdict asked.now (read_of policy.now (option_copied token.entry) asked.now)) ≡ Some shown) }

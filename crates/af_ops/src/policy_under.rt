@@ -19,11 +19,11 @@ use crate::row::row_text;
 use crate::served::Served;
 use crate::shown_answer::Shown;
 use crate::status::Status;
-use af_policy::{Ask, BadInput, ChangeKind, Policy, PolicyRead, Refusal};
+use af_policy::{Ask, BadInput, ChangeKind, Policy, PolicyRead, Presented, Refusal};
 use std::alloc::{AllocError, Global};
 
 /// Reports who the token's owner is under a policy, which is the version of this number.
-pub fn serve_me(alloc: Global, policy: &Policy, version: u32, token: Option<&[u8]>) -> Served
+pub fn serve_me(alloc: Global, policy: &Policy, version: u32, token: Option<&Presented<'_>>) -> Served
     ensures { IsToldUnder version (me_verdict version (me_of policy.now (option_copied token.entry))) result }
 {
     match me_told(alloc, policy, version, token) {
@@ -40,7 +40,7 @@ pub fn serve_read(
     alloc: Global,
     policy: &Policy,
     version: u32,
-    token: Option<&[u8]>,
+    token: Option<&Presented<'_>>,
     asked: &PolicyRead,
 ) -> Served
     ensures { IsToldUnder version (read_verdict asked.now (read_of policy.now (option_copied token.entry) asked.now)) result }
@@ -60,7 +60,7 @@ pub fn serve_unread(
     alloc: Global,
     policy: &Policy,
     version: u32,
-    token: Option<&[u8]>,
+    token: Option<&Presented<'_>>,
     kind: ChangeKind,
 ) -> Served
     ensures { IsToldUnder version (unread_verdict (decided policy.now (option_copied token.entry) (Bad kind input.Body))) result }
@@ -74,7 +74,7 @@ pub fn serve_unread(
 }
 
 /// Why a change whose body was not read makes no version: whatever its body is, or that there was no memory to read it.
-fn unread_fault(alloc: Global, policy: &Policy, token: Option<&[u8]>, ask: &Ask) -> Refusal
+fn unread_fault(alloc: Global, policy: &Policy, token: Option<&Presented<'_>>, ask: &Ask) -> Refusal
     ensures { IsUnreadRefused policy.now (option_copied token.entry) ask.now result }
 {
     match policy.decide(alloc, token, ask) {

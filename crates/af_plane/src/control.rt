@@ -23,7 +23,7 @@ use af_audit::{AuditFault, ReportRefusal};
 use af_board::Board;
 use af_names::Instant;
 use af_ops::Served;
-use af_policy::{Ask, ChangeKind, PolicyRead};
+use af_policy::{Ask, ChangeKind, PolicyRead, Presented};
 use af_sched::{Claim, Outcome};
 use std::alloc::Global;
 use std::hint::spin_loop;
@@ -175,7 +175,7 @@ impl<N: Named> Control<N> {
     }
 
     /// Reports who the token's owner is, on the board. It waits for nobody, and is no turn.
-    pub fn me(&self, alloc: Global, session: &mut Visitor<N>, token: Option<&[u8]>) -> Served
+    pub fn me(&self, alloc: Global, session: &mut Visitor<N>, token: Option<&Presented<'_>>) -> Served
         ensures asked { HasAsked N.name.site (option_copied token.entry) asks.Me session.old.visit result session.new.visit }
         ensures once { HasAskedOnce session.old asks.Me result session.new }
     {
@@ -187,7 +187,7 @@ impl<N: Named> Control<N> {
         &self,
         alloc: Global,
         session: &mut Visitor<N>,
-        token: Option<&[u8]>,
+        token: Option<&Presented<'_>>,
         asked: &PolicyRead,
     ) -> Served
         ensures asked { HasAsked N.name.site (option_copied token.entry) (asks.Read asked.now) session.old.visit result session.new.visit }
@@ -201,7 +201,7 @@ impl<N: Named> Control<N> {
         &self,
         alloc: Global,
         session: &mut Visitor<N>,
-        token: Option<&[u8]>,
+        token: Option<&Presented<'_>>,
         kind: ChangeKind,
     ) -> Served
         ensures asked { HasAsked N.name.site (option_copied token.entry) (asks.Unread kind) session.old.visit result session.new.visit }
@@ -217,7 +217,7 @@ impl<N: Named> Control<N> {
         rt: &R,
         alloc: Global,
         session: &mut Visitor<N>,
-        token: Option<&[u8]>,
+        token: Option<&Presented<'_>>,
         ask: &Ask,
     ) -> Served
         ensures asked { HasAsked N.name.site (option_copied token.entry) (asks.Change ask.now) session.old.visit result session.new.visit }

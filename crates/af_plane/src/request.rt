@@ -2,7 +2,7 @@ ghost use Rattle.std.specs.Prelude.{◌≡◌};
 ghost use Rattle.std.specs.Option.{option_copied};
 ghost use Rattle.af_plane.specs.Requests.{only_reads};
 
-use af_audit::Presented;
+use af_policy::Presented;
 use af_names::Instant;
 use af_ops::{Call, route_of};
 use std::marker::Model;

@@ -12,7 +12,7 @@ use af_audit::{AuditFault, ReportRefusal};
 use af_board::Board;
 use af_names::Instant;
 use af_ops::{Call, Served};
-use af_policy::{Ask, ChangeKind, PolicyRead};
+use af_policy::{Ask, ChangeKind, PolicyRead, Presented};
 use af_sched::{Claim, Outcome};
 use http_server::Log;
 use std::alloc::Global;
@@ -85,7 +85,7 @@ impl<N: Named> Visitor<N> {
     }
 
     /// Reports who the token's owner is, on the board.
-    pub(crate) fn me(&mut self, alloc: Global, board: &Board, token: Option<&[u8]>) -> Served
+    pub(crate) fn me(&mut self, alloc: Global, board: &Board, token: Option<&Presented<'_>>) -> Served
         requires { board.now ≡ N.name.site }
         ensures asked { HasAsked N.name.site (option_copied token.entry) asks.Me self.old.visit result self.new.visit }
         ensures once { HasAskedOnce self.old asks.Me result self.new }
@@ -100,7 +100,7 @@ impl<N: Named> Visitor<N> {
         &mut self,
         alloc: Global,
         board: &Board,
-        token: Option<&[u8]>,
+        token: Option<&Presented<'_>>,
         asked: &PolicyRead,
     ) -> Served
         requires { board.now ≡ N.name.site }
@@ -117,7 +117,7 @@ impl<N: Named> Visitor<N> {
         &mut self,
         alloc: Global,
         board: &Board,
-        token: Option<&[u8]>,
+        token: Option<&Presented<'_>>,
         kind: ChangeKind,
     ) -> Served
         requires { board.now ≡ N.name.site }
@@ -135,7 +135,7 @@ impl<N: Named> Visitor<N> {
         rt: &R,
         alloc: Global,
         board: &Board,
-        token: Option<&[u8]>,
+        token: Option<&Presented<'_>>,
         ask: &Ask,
     ) -> Served
         requires { board.now ≡ N.name.site }

@@ -1,11 +1,13 @@
 ghost use Rattle.std.specs.Prelude.{◌≡◌, ◌⊎◌, [], true, None, Some, Ok, Err, IfOk, IfErr};
 ghost use Rattle.std.specs.Option.{option_copied};
-ghost use Rattle.af_policy.specs.Grants.{missing};
+ghost use Rattle.af_role.specs.Pairs.{PairRow};
+ghost use Rattle.af_policy.specs.Grants.{grants, missing};
+ghost use Rattle.af_policy.specs.Views.{held};
 ghost use Rattle.af_policy.specs.Versions.{Decides, IsDecided, asked_by, asked_wants, decided, decided_wants, permitted, permitted_wants};
 ghost use Rattle.af_policy.specs.Changes.{changed, kind_of, needs_of};
 ghost use Rattle.af_policy.specs.declared.ask.Ask.TheVariants.{Made};
 
-use crate::{Ask, Change, Decision, Policy, Refusal};
+use crate::{Ask, Bearer, Change, Decision, Policy, Presented, Refusal, View};
 use af_names::{DagId, UserName};
 use std::alloc::Global;
 
@@ -15,7 +17,7 @@ impl Policy {
     pub fn decide(
         &self,
         alloc: Global,
-        token: Option<&[u8]>,
+        token: Option<&Presented<'_>>,
         ask: &Ask,
     ) -> Result<Decision, Refusal>
         ensures ok { IfOk result (λ d. Decides self.now (option_copied token.entry) ask.now d) }
@@ -24,14 +26,24 @@ impl Policy {
         ensures kind { IfErr result (λ fault. IsDecided fault) }
         ensures memory { result ≡ Err Refusal.OutOfMemory → decided_wants self.now (option_copied token.entry) ask.now ≡ true }
     {
-        match self.bearer(token) {
-            Some(user) => self.decide_for(alloc, user, ask),
+        match token {
+            Some(token) => match self.bearer_view(token.digest()) {
+                Some(Bearer { user, view }) => self.decide_for(alloc, user, &view, ask),
+                None => Err(Refusal::Unauthenticated),
+            },
             None => Err(Refusal::Unauthenticated),
         }
     }
 
-    /// What a change that a user asks for comes to.
-    fn decide_for(&self, alloc: Global, user: &UserName, ask: &Ask) -> Result<Decision, Refusal>
+    /// What a change comes to that a user asks for whom the policy grants this.
+    fn decide_for(
+        &self,
+        alloc: Global,
+        user: &UserName,
+        view: &View<'_>,
+        ask: &Ask,
+    ) -> Result<Decision, Refusal>
+        requires { (pair : PairRow) → held view.now pair ≡ grants self.now user.now pair }
         ensures author { IfOk result (λ d. d.author ≡ user.now) }
         ensures asked { IfOk result (λ d. ask.now ≡ Made d.change) }
         ensures lacks_nothing { IfOk result (λ d. missing self.now user.now (needs_of (kind_of d.change)) None [] ≡ None) }
@@ -43,7 +55,7 @@ impl Policy {
         ensures memory { result ≡ Err Refusal.OutOfMemory → asked_wants self.now ask.now (Some user.now) ≡ true }
     {
         let dags: &[DagId] = &[];
-        match self.missing(user, ask.kind().needs(), None, dags) {
+        match view.missing(ask.kind().needs(), None, dags) {
             Some(need) => Err(Refusal::Denied(need)),
             None => {
                 let (change, policy) = self.permit(alloc, ask)?;

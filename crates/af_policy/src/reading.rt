@@ -3,7 +3,7 @@ ghost use Rattle.std.specs.Option.{option_copied};
 ghost use Rattle.af_policy.specs.Reads.{MemoryLast, me_by, me_of, me_shown, read_by, read_of, reading_wants, rows_told};
 
 use crate::{
-    Me, MeFault, Policy, PolicyRead, PolicyReply, ReadFault, RoleShown, Span, User, UserShown,
+    Me, MeFault, Policy, PolicyRead, PolicyReply, Presented, ReadFault, RoleShown, Span, User, UserShown,
 };
 use af_names::{DagId, RoleName, UserName};
 use std::alloc::Global;
@@ -11,7 +11,7 @@ use std::alloc::Global;
 impl Policy {
     /// Who brings a token, and what that user has. The faults are told in the order of `MeFault`, out of memory only where
     /// no other applies.
-    pub fn me(&self, alloc: Global, token: Option<&[u8]>) -> Result<Me<'_>, MeFault>
+    pub fn me(&self, alloc: Global, token: Option<&Presented<'_>>) -> Result<Me<'_>, MeFault>
         ensures { MemoryLast MeFault.OutOfMemory (me_of self.now (option_copied token.entry)) result }
     {
         match self.bearer(token) {
@@ -44,7 +44,7 @@ impl Policy {
     pub fn read(
         &self,
         alloc: Global,
-        token: Option<&[u8]>,
+        token: Option<&Presented<'_>>,
         read: &PolicyRead,
     ) -> Result<PolicyReply<'_>, ReadFault>
         ensures told { MemoryLast ReadFault.OutOfMemory (read_of self.now (option_copied token.entry) read.now) result }

@@ -84,6 +84,8 @@ impl<'a, N: Named, R: Wait + Machine, G: Gate> Worker<'a, N, R, G> {
     fn administer(&mut self, token: Option<&[u8]>, asked: &PolicyOp) -> Served
         ensures { Works R.behaviour.tells N.name self.old (option_copied token.entry) (calls.Policy asked.now) result self.new }
     {
+        let presented = self.tokens.present(token);
+        let token = presented.as_ref();
         match asked {
             PolicyOp::Me => self.control.me(self.alloc, &mut self.visitor, token),
             PolicyOp::Read(asked) => self

@@ -8,7 +8,7 @@ use crate::versions::Versions;
 use af_ops::{
     PolicyOp, Served, asked_text, serve_fault, serve_me, serve_read, serve_unread, shown_made,
 };
-use af_policy::{Ask, Decision, Policy, Refusal};
+use af_policy::{Ask, Decision, Policy, Presented, Refusal};
 use std::alloc::Global;
 
 /// Answers an operation on the policy for who holds the token, under the latest version, and makes the version that it asks for. The
@@ -21,6 +21,8 @@ pub fn answer_policy(
 ) -> Served
     ensures served { IsPolicyServed asked.now versions.old (option_copied token.entry) result versions.new }
 {
+    let presented = Presented::of(token);
+    let token = presented.as_ref();
     match asked {
         PolicyOp::Me => serve_me(alloc, versions.latest(), versions.current(), token),
         PolicyOp::Read(asked) => {
@@ -34,7 +36,12 @@ pub fn answer_policy(
 }
 
 /// Makes the version that is asked for, or reports why there is none.
-fn answer_change(alloc: Global, versions: &mut Versions, token: Option<&[u8]>, ask: &Ask) -> Served
+fn answer_change(
+    alloc: Global,
+    versions: &mut Versions,
+    token: Option<&Presented<'_>>,
+    ask: &Ask,
+) -> Served
     ensures served { IsPolicyServed (PolicyOp.Change ask.now) versions.old (option_copied token.entry) result versions.new }
 {
     match submitted(alloc, versions, token, ask) {
@@ -48,7 +55,7 @@ fn answer_change(alloc: Global, versions: &mut Versions, token: Option<&[u8]>, a
 fn submitted(
     alloc: Global,
     versions: &Versions,
-    token: Option<&[u8]>,
+    token: Option<&Presented<'_>>,
     ask: &Ask,
 ) -> Result<Policy, Refusal>
     ensures told { (result ≡ submitted versions.now (option_copied token.entry) ask.now) ⊎ (result ≡ Err Refusal.OutOfMemory) }

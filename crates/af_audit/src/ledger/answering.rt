@@ -9,13 +9,12 @@ ghost use Rattle.af_audit.specs.Answered.{IsPerformed, MayEnter, closed_verdict,
 use crate::ledger::Ledger;
 use crate::ledger::identifying::bearer;
 use crate::ledger::recording::record;
-use crate::presented::Presented;
 use crate::replaying::show_state;
 use af_names::{Instant, UserName};
 use af_ops::{
     CallFault, Op, Served, Shown, Under, commit, decide_for, openly, refused, route_of, shown_reply,
 };
-use af_policy::{Policy, View};
+use af_policy::{Policy, Presented, View};
 use std::alloc::Global;
 
 impl Ledger {

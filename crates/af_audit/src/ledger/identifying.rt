@@ -6,8 +6,7 @@ ghost use Rattle.af_policy.specs.Identity.{bearer_of};
 ghost use Rattle.af_policy.specs.Views.{held};
 
 use crate::ledger::Ledger;
-use crate::presented::Presented;
-use af_policy::{Bearer, Policy};
+use af_policy::{Bearer, Policy, Presented};
 
 /// Who brings a token, and what the policy grants that user.
 pub(super) fn bearer<'p>(policy: &'p Policy, token: Option<&Presented<'_>>) -> Option<Bearer<'p>>

@@ -8,10 +8,9 @@ ghost use Rattle.af_audit.specs.EventLogs.{entries_granted, entries_verdict, nam
 use crate::event_logs::entries_text;
 use crate::ledger::Ledger;
 use crate::ledger::identifying::bearer;
-use crate::presented::Presented;
 use af_listing::Window;
 use af_ops::{Body, CallFault, Endpoint, Op, OpFault, Served, Shown, needs, refused, shown_reply};
-use af_policy::{Parameter, Policy, View};
+use af_policy::{Parameter, Policy, Presented, View};
 use std::alloc::Global;
 
 impl Ledger {

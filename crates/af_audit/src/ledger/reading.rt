@@ -13,10 +13,9 @@ ghost use Rattle.af_audit.specs.Answered.{standing_of, verdict_on};
 
 use crate::ledger::Ledger;
 use crate::ledger::identifying::bearer;
-use crate::presented::Presented;
 use af_names::Instant;
 use af_ops::{Body, CallFault, Op, Served, read_for, refused, shown_reply};
-use af_policy::Policy;
+use af_policy::{Policy, Presented};
 use std::alloc::Global;
 
 impl Ledger {

@@ -15,11 +15,10 @@ use crate::grounds::Grounds;
 use crate::plane::Plane;
 use crate::request::Request;
 use crate::session::Session;
-use af_audit::Presented;
 use af_board::{Board, Mark, NotFound};
 use af_names::Instant;
 use af_ops::{Call, Op, Served, route_of, serve_no_policy};
-use af_policy::Policy;
+use af_policy::{Policy, Presented};
 use std::alloc::Global;
 use std::mem;
 

@@ -9,7 +9,7 @@ use crate::grounds::Grounds;
 use crate::session::Session;
 use af_board::{Board, NotFound};
 use af_ops::{PolicyOp, Served, serve_me, serve_no_policy, serve_read, serve_unread};
-use af_policy::{Ask, ChangeKind, PolicyRead};
+use af_policy::{Ask, ChangeKind, PolicyRead, Presented};
 use std::alloc::Global;
 use std::sync::Wait;
 
@@ -21,7 +21,7 @@ impl Session {
         rt: &R,
         alloc: Global,
         board: &Board,
-        token: Option<&[u8]>,
+        token: Option<&Presented<'_>>,
         asked: &PolicyOp,
     ) -> Served
         requires { IsOn board.now self.old }
@@ -36,7 +36,7 @@ impl Session {
     }
 
     /// Reports who the token's owner is.
-    pub fn me(&mut self, alloc: Global, board: &Board, token: Option<&[u8]>) -> Served
+    pub fn me(&mut self, alloc: Global, board: &Board, token: Option<&Presented<'_>>) -> Served
         requires { IsOn board.now self.old }
         ensures { HasAsked board.now (option_copied token.entry) asks.Me self.old result self.new }
     {
@@ -51,7 +51,7 @@ impl Session {
         &mut self,
         alloc: Global,
         board: &Board,
-        token: Option<&[u8]>,
+        token: Option<&Presented<'_>>,
         asked: &PolicyRead,
     ) -> Served
         requires { IsOn board.now self.old }
@@ -68,7 +68,7 @@ impl Session {
         &mut self,
         alloc: Global,
         board: &Board,
-        token: Option<&[u8]>,
+        token: Option<&Presented<'_>>,
         kind: ChangeKind,
     ) -> Served
         requires { IsOn board.now self.old }
@@ -87,7 +87,7 @@ impl Session {
         rt: &R,
         alloc: Global,
         board: &Board,
-        token: Option<&[u8]>,
+        token: Option<&Presented<'_>>,
         ask: &Ask,
     ) -> Served
         requires { IsOn board.now self.old }
@@ -104,7 +104,7 @@ impl Session {
         &mut self,
         alloc: Global,
         board: &Board,
-        token: Option<&[u8]>,
+        token: Option<&Presented<'_>>,
     ) -> Result<Served, NotFound>
         requires { IsOn board.now self.old }
         ensures on { IsOn board.now self.new }
@@ -124,7 +124,7 @@ impl Session {
         &mut self,
         alloc: Global,
         board: &Board,
-        token: Option<&[u8]>,
+        token: Option<&Presented<'_>>,
         asked: &PolicyRead,
     ) -> Result<Served, NotFound>
         requires { IsOn board.now self.old }
@@ -145,7 +145,7 @@ impl Session {
         &mut self,
         alloc: Global,
         board: &Board,
-        token: Option<&[u8]>,
+        token: Option<&Presented<'_>>,
         kind: ChangeKind,
     ) -> Result<Served, NotFound>
         requires { IsOn board.now self.old }

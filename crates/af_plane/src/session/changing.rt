@@ -19,7 +19,7 @@ use crate::grounds::Grounds;
 use crate::session::Session;
 use af_board::{Board, Draft, Mark, NotFound, Spent, SubmitFault};
 use af_ops::{Served, asked_text, serve_fault, shown_made};
-use af_policy::{Ask, Refusal};
+use af_policy::{Ask, Presented, Refusal};
 use std::alloc::Global;
 use std::sync::Wait;
 
@@ -31,7 +31,7 @@ impl Session {
         rt: &R,
         alloc: Global,
         board: &Board,
-        token: Option<&[u8]>,
+        token: Option<&Presented<'_>>,
         ask: &Ask,
     ) -> Result<Served, NotFound>
         requires { IsOn board.now self.old }

@@ -13,7 +13,7 @@ ghost use Rattle.af_world.specs.Worlds.{has_session, policy_at};
 use crate::asking::ask_policy;
 use crate::world::World;
 use af_ops::{PolicyOp, Shown, shown_submit_fault};
-use af_policy::{Ask, Policy, Refusal};
+use af_policy::{Ask, Policy, Presented, Refusal};
 use std::alloc::{AllocError, Global};
 
 impl World {
@@ -161,7 +161,8 @@ fn refusal(
     ensures refused { IfOk result (λ told. IfSome told (λ shown. (fault : Refusal) × (decided policy.now (option_copied token.entry) ask.now ≡ Err fault) × (told_of version (Refuses (submit_problem ask.now fault)) ≡ Some shown))) }
     ensures permitted { IfOk result (λ told. IsNone told → (later : PolicyRows) × (decided policy.now (option_copied token.entry) ask.now ≡ Ok later)) }
 {
-    match policy.decide(alloc, token, ask) {
+    let presented = Presented::of(token);
+    match policy.decide(alloc, presented.as_ref(), ask) {
         Ok(_) => Ok(None),
         Err(fault) => Ok(Some(shown_submit_fault(alloc, ask, &fault, version)?)),
     }

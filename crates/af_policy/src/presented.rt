@@ -5,8 +5,8 @@ ghost use Rattle.sha2.specs.Sha256.{sha256};
 use sha2::{Digest, Sha256};
 use std::marker::Model;
 
-/// A token that came with a request, beside its SHA-256. It is hashed before a lock is taken, so that who brings it is found under the lock
-/// without hashing. Contracts see its bytes.
+/// A token that came with a request, beside its SHA-256. It is hashed once, before a lock is taken. So who brings it is found without
+/// hashing. Contracts see its bytes.
 #[derive(Drop)]
 pub struct Presented<'a> {
     bytes: &'a [u8],
@@ -34,7 +34,7 @@ impl<'a> Presented<'a> {
     }
 
     /// A token of these bytes, whose SHA-256 is this.
-    pub(crate) fn hashed(bytes: &'a [u8], digest: [u8; 32]) -> Presented<'a>
+    pub fn hashed(bytes: &'a [u8], digest: [u8; 32]) -> Presented<'a>
         requires { digest ≡ sha256 bytes.now }
         ensures { result ≡ bytes.now }
     {
