@@ -21,6 +21,7 @@ mod run_name;
 
 pub use act::Act;
 pub use actor::Actor;
+pub use af_policy::Presented;
 pub use audit::Audit;
 pub use audit_fault::AuditFault;
 pub use entry::Entry;
@@ -28,7 +29,6 @@ pub use entry_row::entries_page;
 pub use event_logs::entries_text;
 pub use last_token::LastToken;
 pub use ledger::Ledger;
-pub use af_policy::Presented;
 pub use recent_tokens::RecentTokens;
 pub use replaying::replay;
 pub use report_refusal::ReportRefusal;

@@ -1,8 +1,8 @@
 ghost use Rattle.std.specs.Prelude.{◌≡◌};
 ghost use Rattle.std.specs.Option.{option_copied};
 
-use af_policy::Presented;
 use crate::last_token::LastToken;
+use af_policy::Presented;
 use std::alloc::{AllocError, Global};
 
 /// How many tokens are kept at most.

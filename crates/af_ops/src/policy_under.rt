@@ -23,7 +23,12 @@ use af_policy::{Ask, BadInput, ChangeKind, Policy, PolicyRead, Presented, Refusa
 use std::alloc::{AllocError, Global};
 
 /// Reports who the token's owner is under a policy, which is the version of this number.
-pub fn serve_me(alloc: Global, policy: &Policy, version: u32, token: Option<&Presented<'_>>) -> Served
+pub fn serve_me(
+    alloc: Global,
+    policy: &Policy,
+    version: u32,
+    token: Option<&Presented<'_>>,
+) -> Served
     ensures { IsToldUnder version (me_verdict version (me_of policy.now (option_copied token.entry))) result }
 {
     match me_told(alloc, policy, version, token) {

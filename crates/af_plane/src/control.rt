@@ -175,7 +175,12 @@ impl<N: Named> Control<N> {
     }
 
     /// Reports who the token's owner is, on the board. It waits for nobody, and is no turn.
-    pub fn me(&self, alloc: Global, session: &mut Visitor<N>, token: Option<&Presented<'_>>) -> Served
+    pub fn me(
+        &self,
+        alloc: Global,
+        session: &mut Visitor<N>,
+        token: Option<&Presented<'_>>,
+    ) -> Served
         ensures asked { HasAsked N.name.site (option_copied token.entry) asks.Me session.old.visit result session.new.visit }
         ensures once { HasAskedOnce session.old asks.Me result session.new }
     {

@@ -2,9 +2,9 @@ ghost use Rattle.std.specs.Prelude.{◌≡◌};
 ghost use Rattle.std.specs.Option.{option_copied};
 ghost use Rattle.af_plane.specs.Requests.{only_reads};
 
-use af_policy::Presented;
 use af_names::Instant;
 use af_ops::{Call, route_of};
+use af_policy::Presented;
 use std::marker::Model;
 
 /// What is asked: a call, the token that came with it, and the time at which it is decided.

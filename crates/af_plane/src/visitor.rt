@@ -85,7 +85,12 @@ impl<N: Named> Visitor<N> {
     }
 
     /// Reports who the token's owner is, on the board.
-    pub(crate) fn me(&mut self, alloc: Global, board: &Board, token: Option<&Presented<'_>>) -> Served
+    pub(crate) fn me(
+        &mut self,
+        alloc: Global,
+        board: &Board,
+        token: Option<&Presented<'_>>,
+    ) -> Served
         requires { board.now ≡ N.name.site }
         ensures asked { HasAsked N.name.site (option_copied token.entry) asks.Me self.old.visit result self.new.visit }
         ensures once { HasAskedOnce self.old asks.Me result self.new }

@@ -11,8 +11,8 @@ ghost use Rattle.af_audit.specs.EventLogs.{entries_verdict, nameless};
 
 use crate::policy_answering::answer_policy;
 use crate::versions::Versions;
-use af_audit::laws::verdicts_leave_one_ledger;
 use af_audit::Ledger;
+use af_audit::laws::verdicts_leave_one_ledger;
 use af_listing::Window;
 use af_names::Instant;
 use af_ops::{Op, PolicyOp, Served, Shown};

@@ -9,7 +9,7 @@ use crate::tests::playing::Call::{Role, Submit};
 use crate::tests::playing::{Row, opened, play_rows};
 use crate::tests::reports::{Report, report_fault, report_receipt};
 use af_board::{Board, Draft, SubmitFault};
-use af_policy::ChangeKind;
+use af_policy::{ChangeKind, Presented};
 use af_word::Pass;
 use std::alloc::Global;
 use std::process::Abort;
@@ -87,7 +87,8 @@ fn is_of(rt: &impl Abort, board: &Board, draft: &Draft, author: &str)
         "the change of a draft",
     );
     holds(rt, draft.base().version() == 4, "the base of a draft");
-    let bearer = draft.policy(board).bearer(Some(b"foo"));
+    let presented = Presented::of(Some(b"foo"));
+    let bearer = draft.policy(board).bearer(presented.as_ref());
     holds(rt, bearer.is_some(), "the policy of a draft");
 }
 

@@ -8,6 +8,7 @@ use crate::tests::playing::Call::Submit;
 use crate::tests::playing::{Row, opened, play_rows};
 use af_board::{Board, Mark};
 use af_names::{DagId, UserName};
+use af_policy::Presented;
 use af_role::{Action, Need, ResourceKind};
 use af_word::Pass;
 use std::alloc::Global;
@@ -27,7 +28,8 @@ fn last(rt: &impl Abort, board: &Board, pass: &mut Pass) -> Mark
 fn knows_adam(board: &Board, mark: &Mark) -> bool
     requires { IsOf board.now mark.now }
 {
-    board.policy(mark).bearer(Some(b"admin")).is_some()
+    let presented = Presented::of(Some(b"admin"));
+    board.policy(mark).bearer(presented.as_ref()).is_some()
 }
 
 /// To read all runs.

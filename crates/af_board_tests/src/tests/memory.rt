@@ -9,7 +9,7 @@ use crate::tests::playing::Call::{Role, Seen, Submit};
 use crate::tests::playing::{Row, opened, play_rows};
 use af_board::{Board, Draft, Receipt, SubmitFault};
 use af_names::RoleName;
-use af_policy::{Ask, ChangeFault, Policy, PolicyRead, PolicyReply, ReadFault};
+use af_policy::{Ask, ChangeFault, Policy, PolicyRead, PolicyReply, Presented, ReadFault};
 use af_word::Pass;
 use std::alloc::Global;
 use std::process::Abort;
@@ -134,7 +134,8 @@ fn is_last(board: &Board, pass: &mut Pass, version: u32) -> bool
 
 /// Whether the token is adam's.
 fn is_adam(policy: &Policy) -> bool {
-    match policy.bearer(Some(b"admin")) {
+    let presented = Presented::of(Some(b"admin"));
+    match policy.bearer(presented.as_ref()) {
         Some(name) => name.as_str() == "adam",
         None => false,
     }
@@ -152,7 +153,8 @@ fn reads(
     requires { pass.old.word ≡ board.now.word }
     ensures { pass.new.word ≡ board.now.word }
 {
-    match board.read(alloc, pass, Some(b"admin"), &added.read) {
+    let presented = Presented::of(Some(b"admin"));
+    match board.read(alloc, pass, presented.as_ref(), &added.read) {
         Ok(told) => {
             let reads = told.mark.version() == version && is_there(&told.answer) == Some(there);
             drop(told);

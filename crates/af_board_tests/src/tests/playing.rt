@@ -8,7 +8,7 @@ use crate::tests::reports::{Report, report_fault, report_me, report_receipt, rep
 use crate::tests::users::policy;
 use af_board::Board;
 use af_names::RoleName;
-use af_policy::{PolicyRead, Span};
+use af_policy::{PolicyRead, Presented, Span};
 use af_word::Pass;
 use std::alloc::{AllocGlobal, Global};
 use std::process::Abort;
@@ -134,7 +134,8 @@ fn is_current(
     match board.current(pass) {
         Ok(mark) => {
             report.add_version(rt, alloc, mark.version());
-            match board.policy(&mark).bearer(Some(token.as_bytes())) {
+            let presented = Presented::of(Some(token.as_bytes()));
+            match board.policy(&mark).bearer(presented.as_ref()) {
                 Some(name) => report.add(name.as_str()),
                 None => report.add("nobody"),
             }
@@ -157,7 +158,8 @@ fn is_me(
     ensures { pass.new.word ≡ board.now.word }
 {
     let mut report = Report::of(wanted);
-    match board.me(alloc, pass, Some(token.as_bytes())) {
+    let presented = Presented::of(Some(token.as_bytes()));
+    match board.me(alloc, pass, presented.as_ref()) {
         Ok(told) => {
             report.add_version(rt, alloc, told.mark.version());
             report_me(rt, alloc, &mut report, &told.answer);
@@ -182,7 +184,8 @@ fn is_read(
     ensures { pass.new.word ≡ board.now.word }
 {
     let mut report = Report::of(wanted);
-    match board.read(alloc, pass, Some(token.as_bytes()), &read) {
+    let presented = Presented::of(Some(token.as_bytes()));
+    match board.read(alloc, pass, presented.as_ref(), &read) {
         Ok(told) => {
             report.add_version(rt, alloc, told.mark.version());
             report_reply(rt, alloc, &mut report, &told.answer);
@@ -208,7 +211,8 @@ fn is_submitted(
     ensures { pass.new.word ≡ board.now.word }
 {
     let ask = ask_of(rt, alloc, step);
-    let made = board.submit(rt, alloc, pass, Some(token.as_bytes()), &ask);
+    let presented = Presented::of(Some(token.as_bytes()));
+    let made = board.submit(rt, alloc, pass, presented.as_ref(), &ask);
     drop(ask);
     let mut report = Report::of(wanted);
     match made {

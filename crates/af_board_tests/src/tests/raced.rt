@@ -7,7 +7,7 @@ use crate::tests::changes::empty_role;
 use crate::tests::playing::opened;
 use af_board::{Board, Receipt, SubmitFault};
 use af_names::RoleName;
-use af_policy::{Ask, Change, Policy, PolicyRead};
+use af_policy::{Ask, Change, Policy, PolicyRead, Presented};
 use af_word::Pass;
 use std::alloc::Global;
 use std::process::Abort;
@@ -129,7 +129,8 @@ fn submitted(
     ensures { pass.new.word ≡ board.now.word }
 {
     let ask = Ask::Made(Change::AddRole(empty_role(rt, alloc, role)));
-    let made = board.submit(rt, alloc, pass, Some(author.token.as_bytes()), &ask);
+    let presented = Presented::of(Some(author.token.as_bytes()));
+    let made = board.submit(rt, alloc, pass, presented.as_ref(), &ask);
     drop(ask);
     match made {
         Ok(receipt) => {
@@ -178,9 +179,8 @@ fn is_of(
 fn has_role(rt: &impl Abort, alloc: Global, policy: &Policy, author: Author, role: &str) -> bool {
     let name = RoleName::parse(alloc, role).expect(rt, "the name of a role");
     let read = PolicyRead::Role(name);
-    let is_there = policy
-        .read(alloc, Some(author.token.as_bytes()), &read)
-        .is_ok();
+    let presented = Presented::of(Some(author.token.as_bytes()));
+    let is_there = policy.read(alloc, presented.as_ref(), &read).is_ok();
     drop(read);
     is_there
 }

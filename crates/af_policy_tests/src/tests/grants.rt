@@ -9,7 +9,7 @@ use crate::tests::words::{
 };
 use Granted::{Has, Lacks, Reads, ReadsAll, ReadsPools};
 use af_names::{DagId, UserName};
-use af_policy::{Policy, Reader, RowFault, View};
+use af_policy::{Policy, Presented, Reader, RowFault, View};
 use af_role::{Action, Need, ResourceKind};
 use std::alloc::Global;
 use std::process::Abort;
@@ -102,11 +102,11 @@ const ASKED: &[Case] = &[
 
 /// Whether this is the name of who brings a token; the empty text is nobody's.
 pub fn is_bearer(policy: &Policy, token: Option<&str>, wanted: &str) -> bool {
-    let bearer = match token {
-        Some(token) => policy.bearer(Some(token.as_bytes())),
-        None => policy.bearer(None),
+    let presented = match token {
+        Some(token) => Presented::of(Some(token.as_bytes())),
+        None => None,
     };
-    match bearer {
+    match policy.bearer(presented.as_ref()) {
         Some(user) => user.as_str() == wanted,
         None => wanted.is_empty(),
     }

@@ -1,5 +1,5 @@
 //! The versions of a policy that a story makes, one after another.
-use af_policy::{Ask, Decision, Policy, Refusal};
+use af_policy::{Ask, Decision, Policy, Presented, Refusal};
 use std::alloc::Global;
 use std::process::Abort;
 
@@ -47,7 +47,8 @@ impl History {
         token: &str,
         ask: &Ask,
     ) -> Result<usize, Refusal> {
-        let Decision { policy, .. } = self.latest.decide(alloc, Some(token.as_bytes()), ask)?;
+        let presented = Presented::of(Some(token.as_bytes()));
+        let Decision { policy, .. } = self.latest.decide(alloc, presented.as_ref(), ask)?;
         if self.current() >= self.left as usize {
             return Err(Refusal::Full);
         }

@@ -14,7 +14,7 @@ use crate::tests::words::{
     TWO_ROLES, UNAUTHENTICATED, VERAS, VERSION_1,
 };
 use af_names::{RoleName, UserName};
-use af_policy::{BadInput, MeFault, Parameter, PolicyRead, ReadFault, ReadKind, Span};
+use af_policy::{BadInput, MeFault, Parameter, PolicyRead, Presented, ReadFault, ReadKind, Span};
 use std::alloc::Global;
 use std::process::Abort;
 
@@ -131,7 +131,8 @@ pub fn is_read(
     wanted: &str,
 ) -> bool {
     let read = read_of(rt, alloc, asked);
-    let answer = versions.latest().read(alloc, Some(token.as_bytes()), &read);
+    let presented = Presented::of(Some(token.as_bytes()));
+    let answer = versions.latest().read(alloc, presented.as_ref(), &read);
     drop(read);
     let has_room = !matches!(&answer, Err(ReadFault::OutOfMemory));
     has_memory(rt, has_room, "a reading");
@@ -150,7 +151,8 @@ pub fn is_self(
     version: u32,
     wanted: &str,
 ) -> bool {
-    let answer = versions.latest().me(alloc, Some(token.as_bytes()));
+    let presented = Presented::of(Some(token.as_bytes()));
+    let answer = versions.latest().me(alloc, presented.as_ref());
     let has_room = !matches!(&answer, Err(MeFault::OutOfMemory));
     has_memory(rt, has_room, "who one is");
     let mut telling = Telling::of(wanted);

@@ -9,7 +9,7 @@ use crate::tests::steps::{Step, ask_of, copied};
 use crate::tests::telling::Telling;
 use crate::tests::told::{tell_fault, tell_outcome};
 use crate::tests::words::{DONE, VERAS};
-use af_policy::{ChangeFault, Policy, Refusal};
+use af_policy::{ChangeFault, Policy, Presented, Refusal};
 use std::alloc::{AllocGlobal, Global};
 use std::process::Abort;
 
@@ -95,7 +95,10 @@ fn is_so(rt: &impl Abort, alloc: Global, versions: &mut History, case: Case) -> 
 /// Whether vera is known under a version; none past the latest.
 fn knows_vera(versions: &History, version: u32) -> Option<bool> {
     match versions.policy(version as usize) {
-        Some(policy) => Some(policy.bearer(Some(VERAS.as_bytes())).is_some()),
+        Some(policy) => {
+            let presented = Presented::of(Some(VERAS.as_bytes()));
+            Some(policy.bearer(presented.as_ref()).is_some())
+        }
         None => None,
     }
 }

@@ -5,7 +5,7 @@ use super::scenes::{Scene, state};
 use super::users::policy;
 use crate::tests::asserts::{has_memory, holds};
 use af_ops::{CallFault, Endpoint, Op, OpFault, Under, commit, decide_for};
-use af_policy::Policy;
+use af_policy::{Policy, Presented};
 use af_sched::State;
 use std::alloc::{AllocGlobal, Global};
 use std::process::Abort;
@@ -45,7 +45,8 @@ fn decided(
         version: 0,
         seq: entries,
     };
-    let Some(user) = policy.bearer(Some(who.as_bytes())) else {
+    let presented = Presented::of(Some(who.as_bytes()));
+    let Some(user) = policy.bearer(presented.as_ref()) else {
         panic!(rt; "the token of a user");
     };
     let view = policy.view(user);

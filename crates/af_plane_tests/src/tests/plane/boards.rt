@@ -8,6 +8,7 @@ use crate::tests::plane::asserts::holds;
 use crate::tests::plane::calls::{Asked, policy_op};
 use crate::tests::plane::playing::token;
 use crate::tests::plane::told::{Row, is_told};
+use af_audit::Presented;
 use af_board::Board;
 use af_ops::Served;
 use af_plane::Session;
@@ -36,7 +37,8 @@ pub fn administered(
     ensures { IsOn board.now session.new }
 {
     let op = policy_op(alloc, asked)?;
-    let gave = session.administer(rt, alloc, board, token(asked.0), &op);
+    let presented = Presented::of(token(asked.0));
+    let gave = session.administer(rt, alloc, board, presented.as_ref(), &op);
     drop(op);
     Ok(gave)
 }

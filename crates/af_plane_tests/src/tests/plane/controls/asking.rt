@@ -54,6 +54,8 @@ fn administered<N: Named, R: Wait>(
     token: Option<&[u8]>,
     asked: &PolicyOp,
 ) -> Served {
+    let presented = Presented::of(token);
+    let token = presented.as_ref();
     match asked {
         PolicyOp::Me => control.me(alloc, visitor, token),
         PolicyOp::Read(asked) => control.read(alloc, visitor, token, asked),
