@@ -59,7 +59,8 @@ fn drafted(
     ensures seen { HasSeen pass.new result.base }
 {
     let ask = ask_of(rt, alloc, step);
-    match board.draft(rt, alloc, pass, Some(token.as_bytes()), &ask) {
+    let presented = Presented::of(Some(token.as_bytes()));
+    match board.draft(rt, alloc, pass, presented.as_ref(), &ask) {
         Ok(draft) => draft,
         Err(fault) => {
             has_memory(

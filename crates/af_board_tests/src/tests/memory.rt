@@ -100,7 +100,8 @@ fn tried(rt: &impl Wait, alloc: Global, board: &Board, pass: &mut Pass, added: &
     requires { pass.old.word ≡ board.now.word }
     ensures { pass.new.word ≡ board.now.word }
 {
-    match board.draft(rt, alloc, pass, Some(b"admin"), &added.ask) {
+    let presented = Presented::of(Some(b"admin"));
+    match board.draft(rt, alloc, pass, presented.as_ref(), &added.ask) {
         Ok(draft) => published(is_published(board, pass, draft)),
         Err(fault) => {
             let outcome = outcome_of(&fault);
