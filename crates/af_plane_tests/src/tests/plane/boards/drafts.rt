@@ -10,6 +10,7 @@ use crate::tests::plane::calls::{Asked, policy_op};
 use crate::tests::plane::playing::token;
 use crate::tests::plane::told::Row;
 use crate::tests::plane::users::{OF_SAMPLE, policy};
+use af_audit::Presented;
 use af_board::{Board, Draft, Receipt, SubmitFault};
 use af_ops::{Endpoint, PolicyOp, Served, Status, serve_fault};
 use af_plane::Session;
@@ -129,7 +130,8 @@ fn drafted(
     ensures seen { IfOk result (λ d. HasSeen pass.new d.base) }
 {
     let ask = ask_of(alloc, asked)?;
-    let drafted = board.draft(rt, alloc, pass, token(asked.0), &ask);
+    let presented = Presented::of(token(asked.0));
+    let drafted = board.draft(rt, alloc, pass, presented.as_ref(), &ask);
     drop(ask);
     match drafted {
         Ok(draft) => Ok(draft),
