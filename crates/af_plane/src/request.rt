@@ -1,5 +1,4 @@
 ghost use Rattle.std.specs.Prelude.{◌≡◌};
-ghost use Rattle.std.specs.Option.{option_copied};
 ghost use Rattle.af_plane.specs.Requests.{only_reads};
 
 use af_names::Instant;
@@ -25,16 +24,6 @@ impl<'a> Model for Request<'a> {
 }
 
 impl<'a> Request<'a> {
-    /// The bytes of the token.
-    pub fn bytes(&self) -> Option<&[u8]>
-        ensures { option_copied result ≡ self.now.token }
-    {
-        match self.token {
-            Some(token) => Some(token.bytes()),
-            None => None,
-        }
-    }
-
     /// Whether the call only reads: it is a GET on the state that is decided under a version, or a request for event logs. An open operation
     /// is decided under none. Other calls may change nothing too, as a dry run does.
     pub fn only_reads(&self) -> bool

@@ -112,7 +112,7 @@ impl Solo {
             Call::Policy(asked) => {
                 let board = &self.board;
                 self.session
-                    .administer(rt, alloc, board, request.bytes(), asked)
+                    .administer(rt, alloc, board, request.token, asked)
             }
             Call::State(_) | Call::Entries(_) => self.take_turn(alloc, request),
         }

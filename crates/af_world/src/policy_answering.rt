@@ -22,7 +22,18 @@ pub fn answer_policy(
     ensures served { IsPolicyServed asked.now versions.old (option_copied token.entry) result versions.new }
 {
     let presented = Presented::of(token);
-    let token = presented.as_ref();
+    answer_presented(alloc, versions, presented.as_ref(), asked)
+}
+
+/// The same, for a token that is hashed.
+fn answer_presented(
+    alloc: Global,
+    versions: &mut Versions,
+    token: Option<&Presented<'_>>,
+    asked: &PolicyOp,
+) -> Served
+    ensures served { IsPolicyServed asked.now versions.old (option_copied token.entry) result versions.new }
+{
     match asked {
         PolicyOp::Me => serve_me(alloc, versions.latest(), versions.current(), token),
         PolicyOp::Read(asked) => {

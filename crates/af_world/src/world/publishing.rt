@@ -143,7 +143,8 @@ impl World {
         let Some(policy) = self.versions.policy(at) else {
             return Err(AllocError);
         };
-        match refusal(alloc, policy, token, ask, at)? {
+        let presented = Presented::of(token);
+        match refusal(alloc, policy, presented.as_ref(), ask, at)? {
             Some(shown) => Ok(self.tell(session, at, shown)),
             None => self.overtake(alloc, session, ask),
         }
@@ -154,15 +155,14 @@ impl World {
 fn refusal(
     alloc: Global,
     policy: &Policy,
-    token: Option<&[u8]>,
+    token: Option<&Presented<'_>>,
     ask: &Ask,
     version: u32,
 ) -> Result<Option<Shown>, AllocError>
     ensures refused { IfOk result (λ told. IfSome told (λ shown. (fault : Refusal) × (decided policy.now (option_copied token.entry) ask.now ≡ Err fault) × (told_of version (Refuses (submit_problem ask.now fault)) ≡ Some shown))) }
     ensures permitted { IfOk result (λ told. IsNone told → (later : PolicyRows) × (decided policy.now (option_copied token.entry) ask.now ≡ Ok later)) }
 {
-    let presented = Presented::of(token);
-    match policy.decide(alloc, presented.as_ref(), ask) {
+    match policy.decide(alloc, token, ask) {
         Ok(_) => Ok(None),
         Err(fault) => Ok(Some(shown_submit_fault(alloc, ask, &fault, version)?)),
     }

@@ -5,7 +5,7 @@ use Rattle.af_policy.specs.declared.ask.Ask.TheVariants.{Bad}
 use Rattle.af_policy.specs.declared.bad_input.BadInput.TheVariants as input
 use Rattle.af_ops.specs.PolicyVerdicts.{read_verdict, unread_verdict}
 use Rattle.af_world.proofs.ServedLemmas.{told_served}
-use Rattle.af_world.proofs.policy_answering.answer_policy.Goals as goal
+use Rattle.af_world.proofs.policy_answering.answer_presented.Goals as goal
 
 pub returns-in-Read : goal.returns-in-Read
 returns-in-Read c = record {
