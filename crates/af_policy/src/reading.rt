@@ -3,7 +3,8 @@ ghost use Rattle.std.specs.Option.{option_copied};
 ghost use Rattle.af_policy.specs.Reads.{MemoryLast, me_by, me_of, me_shown, read_by, read_of, reading_wants, rows_told};
 
 use crate::{
-    Me, MeFault, Policy, PolicyRead, PolicyReply, Presented, ReadFault, RoleShown, Span, User, UserShown,
+    Me, MeFault, Policy, PolicyRead, PolicyReply, Presented, ReadFault, RoleShown, Span, User,
+    UserShown,
 };
 use af_names::{DagId, RoleName, UserName};
 use std::alloc::Global;
