@@ -67,12 +67,11 @@ impl Row for ByName {
     }
 }
 
-/// A user, found by the digest of the token, which stands beside it with its front, so that a search reads no other place. Contracts see
-/// it as the user.
+/// A user, found by the digest of the token, whose front stands beside it, so that a search reads few other places. Contracts see it as
+/// the user.
 #[derive(Drop)]
 pub(crate) struct ByDigest {
     front: u64,
-    digest: [u8; 32],
     user: Arc<User>,
 }
 
@@ -86,7 +85,7 @@ impl Model for ByDigest {
 
     ghost view = { λ row. arc_value row.user };
 
-    ghost invariant = { λ row. (row.digest ≡ (arc_value row.user).digest) × (row.front ≡ front_of (arc_value row.user).digest) };
+    ghost invariant = { λ row. row.front ≡ front_of (arc_value row.user).digest };
 }
 
 impl ByDigest {
@@ -95,7 +94,6 @@ impl ByDigest {
     {
         ByDigest {
             front: user.fronted_digest().front(),
-            digest: user.digest(),
             user,
         }
     }
@@ -120,7 +118,7 @@ impl Row for ByDigest {
     ghost key = { λ row. row.digest };
 
     fn key(&self) -> &[u8] {
-        self.digest.as_slice()
+        self.user.fronted_digest().value().as_slice()
     }
 
     fn front(&self) -> u64 {
@@ -131,7 +129,6 @@ impl Row for ByDigest {
         let user = Arc::try_clone(&self.user)?;
         Ok(ByDigest {
             front: self.front,
-            digest: self.digest,
             user,
         })
     }

@@ -31,7 +31,9 @@ fn byte_at(bytes: &[u8], place: usize) -> u8
     }
 }
 
-/// The order of two texts with these fronts: by their fronts, and where these are one, by all their bytes.
+/// The order of two texts with these fronts: by their fronts, and where these are one, by all their bytes. Inlined, so that texts which
+/// the fronts tell apart are not read.
+#[inline(always)]
 pub(crate) fn order(front: u64, bytes: &[u8], other_front: u64, other: &[u8]) -> Ordering
     requires one { front ≡ front_of bytes.now }
     requires other { other_front ≡ front_of other.now }
@@ -47,6 +49,7 @@ pub(crate) fn order(front: u64, bytes: &[u8], other_front: u64, other: &[u8]) ->
 }
 
 /// The order of two texts of which the first has the lower front.
+#[inline(always)]
 fn below(bytes: &[u8], other: &[u8]) -> Ordering
     requires { front_of bytes.now < front_of other.now }
     ensures { result ≡ slice_cmp nat_cmp bytes.now other.now }
@@ -55,6 +58,7 @@ fn below(bytes: &[u8], other: &[u8]) -> Ordering
 }
 
 /// The order of two texts of which the first has the higher front.
+#[inline(always)]
 fn above(bytes: &[u8], other: &[u8]) -> Ordering
     requires { front_of other.now < front_of bytes.now }
     ensures { result ≡ slice_cmp nat_cmp bytes.now other.now }

@@ -59,6 +59,7 @@ impl<'a> Sought<'a> {
     }
 
     /// How the key lies to that of a row.
+    #[inline(always)]
     pub(crate) fn order<T: Row>(&self, row: &T) -> Ordering
         ensures { result ≡ slice_cmp nat_cmp self.now (T.key row.now) }
     {
@@ -67,6 +68,7 @@ impl<'a> Sought<'a> {
 }
 
 /// How the keys of two rows lie.
+#[inline(always)]
 pub(crate) fn row_order<T: Row>(one: &T, other: &T) -> Ordering
     ensures { result ≡ slice_cmp nat_cmp (T.key one.now) (T.key other.now) }
 {
