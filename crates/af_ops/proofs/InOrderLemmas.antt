@@ -27,6 +27,10 @@ entries_view-insert_entry [] name value = refl
 entries_view-insert_entry (e ∷ es) name value =
     entries_view-match_ordering (slice_cmp nat_cmp name.now e.0.now) _ _ _ ∙ rw (entries_view-insert_entry es name value)
 
+-- entries behind none
+pub entries_view-behind : (before es made : List Entry) → before ≡ [] → made ≡ before ++ es → entries_view made ≡ entries_view es
+entries_view-behind before es made none is = ap entries_view (is ∙ ap (λ (first : List Entry). first ++ es) none)
+
 -- ---- an object that grows at its end
 
 one_more_put : (es : List (Bor (List ℕ) × Json)) (e : Bor (List ℕ) × Json) (found : Members) → put_all (seen_members (es ++ e ∷ [])) found ≡ put e.0.now (view e.1) (put_all (seen_members es) found)

@@ -1,6 +1,9 @@
 // Reading the access control of a DAG: an object of names of roles, with a list of texts for each. Each reader takes what is told of a
 // value of another kind, of a name that is none and of out of memory, so that bodies and configurations may read alike.
-ghost use Rattle.std.specs.Prelude.{◌≡◌, [], map, IfOk, OnOk};
+ghost use Rattle.std.specs.Prelude.{◌≡◌, ◌++◌, [], map, IfOk, OnOk};
+ghost use Rattle.std.specs.BTreeMap.{insert_entry};
+ghost use Rattle.std.specs.Cmp.Lexicographic.{slice_cmp};
+ghost use Rattle.std.specs.Ordering.{nat_cmp};
 ghost use Rattle.serde_json.specs.Data.{put};
 ghost use Rattle.af_base.specs.JsonValue.{members_view, view};
 ghost use Rattle.af_base.specs.Readings.{Makes, OrMemory, first_fault, seen, taking};
@@ -10,7 +13,11 @@ use af_base::Json;
 use af_names::{NameError, RoleName};
 use af_role::{AccessControl, AccessRow, Text, Texts};
 use std::alloc::{AllocError, Global};
+use std::cmp::Ordering;
 use std::collections::BTreeMap;
+
+/// So many members at most are put in order without a map.
+const FEW: usize = 8;
 
 /// Reads which roles are to have which actions on a DAG: an object, each of whose members has the name of a role and is a list of
 /// texts. The roles stand in byte order of their names; of a name that comes twice the last member counts. The first fault decides:
@@ -38,6 +45,78 @@ pub fn read_access<E: Copy>(
 
 /// The members of an object, each once, in byte order of their names.
 fn in_order<'v, 'a>(
+    alloc: Global,
+    members: &'v [(&'a str, Json<'a>)],
+) -> Result<Vec<(&'a str, &'v Json<'a>)>, AllocError>
+    ensures { IfOk result (λ fields. map field_of fields.items ≡ fields_of (members_view members.now)) }
+{
+    if members.len() <= FEW {
+        few_in_order(alloc, members)
+    } else {
+        many_in_order(alloc, members)
+    }
+}
+
+/// The same, where there are few: each is put at its place among those before it.
+fn few_in_order<'v, 'a>(
+    alloc: Global,
+    members: &'v [(&'a str, Json<'a>)],
+) -> Result<Vec<(&'a str, &'v Json<'a>)>, AllocError>
+    ensures { IfOk result (λ fields. map field_of fields.items ≡ fields_of (members_view members.now)) }
+{
+    let mut fields = Vec::new(alloc);
+    for member in members {
+        fields = with_field(alloc, fields.as_slice(), member.0, &member.1)?;
+    }
+    Ok(fields)
+}
+
+/// Members in byte order of their names with one more, in the place of one of its name.
+fn with_field<'v, 'a>(
+    alloc: Global,
+    fields: &[(&'a str, &'v Json<'a>)],
+    name: &'a str,
+    value: &'v Json<'a>,
+) -> Result<Vec<(&'a str, &'v Json<'a>)>, AllocError>
+    ensures { IfOk result (λ made. entries_view made.items ≡ put name.now (view value.now) (entries_view fields.now)) }
+{
+    let mut made = Vec::with_capacity(alloc, fields.len().saturating_add(1))?;
+    put_field(fields, name, value, &mut made)?;
+    Ok(made)
+}
+
+/// Puts members behind others, with one more at its place, or in the place of one of its name.
+fn put_field<'v, 'a>(
+    fields: &[(&'a str, &'v Json<'a>)],
+    name: &'a str,
+    value: &'v Json<'a>,
+    into: &mut Vec<(&'a str, &'v Json<'a>)>,
+) -> Result<(), AllocError>
+    ensures { OnOk result (into.new.items ≡ into.old.items ++ insert_entry (λ x y. slice_cmp nat_cmp x.now y.now) fields.now name.entry value.entry) }
+{
+    let Some((first, others)) = fields.split_first() else {
+        into.push((name, value))?;
+        return Ok(());
+    };
+    match name.cmp(first.0) {
+        Ordering::Less => {
+            into.push((name, value))?;
+            into.extend_from_slice(fields)?;
+        }
+        Ordering::Equal => {
+            into.push((first.0, value))?;
+            into.extend_from_slice(others)?;
+        }
+        Ordering::Greater => {
+            into.push(*first)?;
+            put_field(others, name, value, into)?;
+        }
+    }
+    Ok(())
+}
+
+/// The same as `in_order`, where there are many.
+fn many_in_order<'v, 'a>(
     alloc: Global,
     members: &'v [(&'a str, Json<'a>)],
 ) -> Result<Vec<(&'a str, &'v Json<'a>)>, AllocError>

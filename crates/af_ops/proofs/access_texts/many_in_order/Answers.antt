@@ -7,7 +7,7 @@ use Rattle.af_base.specs.JsonValue.{members_view, view}
 use Rattle.af_base.specs.declared.json_value.Json.{Json}
 use Rattle.af_ops.specs.AccessTexts.{entries_view, field_of, fields_of}
 use Rattle.af_ops.proofs.InOrderLemmas.{Entry, fields_of-object_of, one_more_member}
-use Rattle.af_ops.proofs.access_texts.in_order.Goals as goal
+use Rattle.af_ops.proofs.access_texts.many_in_order.Goals as goal
 
 pub loop-member-preserved : goal.loop-member-preserved
 loop-member-preserved c =
