@@ -1,6 +1,6 @@
 use Rattle.std.proofs.Common.{◌≡◌, ◌∙◌, ◌+◌, ℕ, List, [], ◌∷◌, ◌++◌, take, take_all, map, Bor, sym, ap, arith}
 use Rattle.std.proofs.lemmas.List.{take_more}
-use Rattle.serde_json.specs.Data.{Members, put}
+use Rattle.serde_json.specs.Data.{put}
 use Rattle.af_base.specs.JsonValue.{members_view, view}
 use Rattle.af_base.specs.declared.json_value.Json.{Json}
 use Rattle.af_ops.specs.AccessTexts.{entries_view, field_of, fields_of}

@@ -1,6 +1,5 @@
-use Rattle.std.proofs.Common.{◌∙◌, ap}
-use Rattle.af_ops.specs.AccessTexts.{entries_view}
-use Rattle.af_ops.proofs.InOrderLemmas.{entries_view-insert_entry, entries_view-behind}
+use Rattle.std.proofs.Common.{◌∙◌}
+use Rattle.af_ops.proofs.InOrderLemmas.{entries_view-behind, entries_view-insert_entry}
 use Rattle.af_ops.proofs.access_texts.with_field.Goals as goal
 
 pub returns : goal.returns
