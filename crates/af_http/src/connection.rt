@@ -29,6 +29,16 @@ impl Connection {
             outgoing,
         })
     }
+
+    /// The same memory for the next connection: nothing came, and nothing waits.
+    pub fn again(self) -> Connection
+        ensures { (result.incoming ≡ []) × (result.outgoing.bytes ≡ []) × (result.outgoing.failed ≡ false) }
+    {
+        let mut next = self;
+        next.incoming.clear();
+        next.outgoing.clear();
+        next
+    }
 }
 
 /// Room for what comes, and for what waits for the writer.

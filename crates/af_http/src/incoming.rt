@@ -51,6 +51,14 @@ impl Incoming {
         })
     }
 
+    /// All bytes are left behind, those too that were not used. The memory stays.
+    pub fn clear(&mut self)
+        ensures { self.new ≡ [] }
+    {
+        self.start = 0;
+        self.end = 0;
+    }
+
     /// The bytes.
     pub fn as_slice(&self) -> &[u8]
         ensures { result.now ≡ self.now }

@@ -24,6 +24,7 @@ mod refusal;
 mod reply;
 mod replying;
 mod request;
+mod room;
 mod route_fault;
 mod routes;
 mod service;
@@ -35,6 +36,7 @@ mod writing;
 
 pub use counted::Counted;
 pub use ended::Ended;
+pub use room::Room;
 pub use route_fault::RouteFault;
 pub use routes::Routes;
 pub use service::Service;

@@ -44,6 +44,14 @@ impl Outgoing {
         })
     }
 
+    /// No byte waits any more, and no write has failed. The memory stays.
+    pub fn clear(&mut self)
+        ensures { (self.new.bytes ≡ []) × (self.new.failed ≡ false) }
+    {
+        self.bytes.clear();
+        self.failed = false;
+    }
+
     /// Whether a write has failed.
     #[inline(always)]
     pub fn has_failed(&self) -> bool

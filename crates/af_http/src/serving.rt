@@ -7,6 +7,7 @@ use crate::connection::Connection;
 use crate::ended::Ended;
 use crate::message::REQUEST_LIMIT;
 use crate::problems::memory_text;
+use crate::room::Room;
 use crate::service::Service;
 use crate::stream::{Sink, Source};
 use crate::turn::serve_one;
@@ -39,7 +40,7 @@ fn serve_each<R: Source, W: Sink, S: Service>(
 }
 
 /// Serves requests until the connection ends, and writes what waits.
-fn serve_all<R: Source, W: Sink, S: Service>(
+pub(crate) fn serve_all<R: Source, W: Sink, S: Service>(
     connection: &mut Connection,
     reader: &mut R,
     writer: &mut W,
@@ -59,25 +60,8 @@ fn serve_all<R: Source, W: Sink, S: Service>(
     ended
 }
 
-/// Serves a connection that was opened just now.
-fn serve_opened<R: Source, W: Sink, S: Service>(
-    connection: Connection,
-    reader: &mut R,
-    writer: &mut W,
-    service: &mut S,
-) -> Ended
-    requires fresh { connection.incoming ≡ [] }
-    requires empty { connection.outgoing.bytes ≡ [] }
-    requires sound { connection.outgoing.failed ≡ false }
-    ensures { Connects S.answers (R.given reader.old) (R.given reader.new) (W.taken writer.old) (W.taken writer.new)
-        service.old service.new result }
-{
-    let mut connection = connection;
-    serve_all(&mut connection, reader, writer, service)
-}
-
 /// There is no memory to begin with.
-fn turn_away<W: Sink>(writer: &mut W) -> Ended
+pub(crate) fn turn_away<W: Sink>(writer: &mut W) -> Ended
     ensures { IsMemoryText (W.taken writer.old) (W.taken writer.new) result }
 {
     match write_all(writer, memory_text()) {
@@ -86,10 +70,7 @@ fn turn_away<W: Sink>(writer: &mut W) -> Ended
     }
 }
 
-/// Serves a connection, and says how it ended.
-///
-/// Reads requests, answers each in order, and writes nothing else. What answers requests that came together is written
-/// together: before a read, and at the end. All memory is taken at the opening.
+/// Serves one connection, in room of its own (`Room::serve`).
 pub fn serve<R: Source, W: Sink, S: Service>(
     alloc: Global,
     reader: &mut R,
@@ -99,8 +80,6 @@ pub fn serve<R: Source, W: Sink, S: Service>(
     ensures { Connects S.answers (R.given reader.old) (R.given reader.new) (W.taken writer.old) (W.taken writer.new)
         service.old service.new result }
 {
-    match Connection::open(alloc) {
-        Ok(connection) => serve_opened(connection, reader, writer, service),
-        Err(_) => turn_away(writer),
-    }
+    let mut room = Room::new(alloc);
+    room.serve(reader, writer, service)
 }

@@ -4,7 +4,7 @@ ghost use Rattle.af_server.specs.Attendances.{Attends, CameAt, HasEnded};
 use crate::guest::Served;
 use crate::machine::Machine;
 use crate::port::Port;
-use af_http::Service;
+use af_http::{Room, Service};
 use std::alloc::Global;
 use std::io::ErrorKind;
 use std::time::Duration;
@@ -36,10 +36,11 @@ impl Attended {
             Some(most) => u64::from(most),
             None => u64::MAX,
         };
+        let mut room = Room::new(alloc);
         let mut served = Served::new();
         for count in 0..most {
             match rt.accept(port) {
-                Ok(guest) => guest.converse(rt, alloc, patience, service, &mut served),
+                Ok(guest) => guest.converse(rt, &mut room, patience, service, &mut served),
                 Err(error) => {
                     return Attended {
                         connections: count,

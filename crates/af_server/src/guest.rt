@@ -4,9 +4,8 @@ ghost use Rattle.af_server.specs.Attendances.{Converses};
 use crate::patience::Patience;
 use crate::peer::{Peer, part};
 use crate::port::Port;
-use af_http::{Counted, Ended, Service, serve};
+use af_http::{Counted, Ended, Room, Service};
 use http_server::Log;
-use std::alloc::Global;
 use std::marker::Model;
 use std::net::TcpStream;
 use std::time::{Clock, Duration};
@@ -39,11 +38,12 @@ impl Guest {
         }
     }
 
-    /// Serves the connection from its first byte to its last. If the server is the first to end it, it takes leave of the peer.
+    /// Serves the connection from its first byte to its last, in the room of the one before it. If the server is the first to end it, it
+    /// takes leave of the peer.
     pub fn converse<R: Clock, S: Service>(
         self,
         rt: &R,
-        alloc: Global,
+        room: &mut Room,
         patience: Duration,
         service: &mut S,
         served: &mut Served,
@@ -52,7 +52,7 @@ impl Guest {
         ensures served { served.new.items ≡ served.old.items ++ (self, tt) ∷ [] }
     {
         let Guest { stream, port } = self;
-        serve_stream(rt, alloc, &stream, patience, service);
+        serve_stream(rt, room, &stream, patience, service);
         *served = served.and(&port, &());
     }
 }
@@ -60,7 +60,7 @@ impl Guest {
 /// Serves what comes on a stream.
 fn serve_stream<R: Clock, S: Service>(
     rt: &R,
-    alloc: Global,
+    room: &mut Room,
     stream: &TcpStream,
     patience: Duration,
     service: &mut S,
@@ -72,7 +72,7 @@ fn serve_stream<R: Clock, S: Service>(
     let patience = Patience::new(rt, patience);
     let mut reader = Counted::new(Peer::new(rt, stream, &patience));
     let mut writer = Counted::new(Peer::new(rt, stream, &patience));
-    match serve(alloc, &mut reader, &mut writer, service) {
+    match room.serve(&mut reader, &mut writer, service) {
         Ended::ReadFault | Ended::WriteFault => {}
         Ended::Closed | Ended::Refused(_) | Ended::Turns | Ended::NoMemory => {
             let _ = part(rt, stream);
