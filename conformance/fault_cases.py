@@ -125,6 +125,7 @@ ACCESS = [
     *[{it: ["can_read"]} for it in LABELS],
     *[{"OnlyB": ["can_read", "x", "y"]}, {"Zed": ["x"], "Abe": ["y"]}, {"Zed": ["can_read"], "Abe": ["can_read"]}, {"Zed": ["can_read"], "OnlyB": ["x"]}],
     *[{"OnlyB": ["x"], "": ["can_read"]}, {"OnlyB": ["x"], "Viewer": None}, {"Nobody": [], "OnlyB": ["can_create"]}, {"OnlyB": {"DAGs": ["can_read"]}}],
+    *[{**{f"Z{it}": ["can_read"] for it in range(count, 0, -1)}, **more} for count in (3, 7, 8, 9, 40) for more in ({}, {"OnlyB": ["x"]}, {"Abe": [], "": []})],
 ]
 
 

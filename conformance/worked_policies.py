@@ -9,6 +9,8 @@ from worked_rows import dag_row, listed, me_row, new_role, role_row, roles_alone
 
 ON = '{"is_paused":true}'
 SYNC = "POST /own/dags/b/sync"
+# of four roles and more, which are not in order
+MANY = '{"access_control":{"Viewer":[],"User":[],"Public":[],"Op":[],%s}}'
 B_ALONE = listed("dags", 1, dag_row("b"))
 NO_DAGS = "missing permission DAGs.can_read"
 
@@ -69,6 +71,15 @@ POLICIES = [
         ("adam", "POST /own/dags/~/sync", "{}", 404, "no such path", None, None),
         ("adam", "GET /own/dags/b/sync", "", 405, "POST", None, None),
         ("adam", "POST /own/dags/b/backfills", "{}", 404, "no such path", None, None),
+    ]),
+    ("sync of many roles", "landed", NOW, {}, [
+        ("adam", SYNC, MANY % '"OnlyB":["can_edit"],"Admin":[]', 200, synced(1), None, 1),
+        ("bob", "GET /own/me", "", 200, me_row("bob", 1, "DAG:b.can_edit", "OnlyB"), None),
+        ("adam", SYNC, MANY % '"OnlyB":["x"],"Admin":[],"OnlyB":["can_edit"],"Op":[],"OnlyB":["can_delete"]', 200, synced(2), None, 2),
+        ("bob", "GET /own/me", "", 200, me_row("bob", 2, "DAG:b.can_delete", "OnlyB"), None),
+        ("adam", SYNC, MANY % '"Z4":["x"],"Z3":["y"],"Z2":["can_read"],"Z1":["can_read"]', 400, "bad action: y", None),
+        ("adam", SYNC, MANY % '"Z4":[],"Z3":[],"Z2":[],"Z1":[]', 400, "unknown role: Z1", None),
+        ("adam", SYNC, MANY % '"Z5":[],"Z4":[],"Z3":[],"Z2":[],"Z1":[]', 400, "unknown role: Z1", None),
     ]),
     ("roles and users", "landed", NOW, {}, [
         ("adam", "GET /roles/OnlyB", "", 200, role_row("OnlyB", "DAG:b.can_read"), None),
