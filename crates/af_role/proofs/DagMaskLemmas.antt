@@ -1,6 +1,6 @@
 -- Rows of single DAGs: the row that a search found, and what is there after an action is added.
 use Rattle.std.proofs.Common.{◌≡◌, ◌≢◌, ℕ, zero, suc, ◌+◌, ◌<◌, ◌≤◌, List, [], ◌∷◌, length, get_or, set, take, drop, Bool, true, false, ◌&&◌, ◌||◌, nat_eq, refl, sym, ap, subst, ◌∙◌, arith}
-use Rattle.std.specs.Prelude.{insert, Ok, Err}
+use Rattle.std.specs.Prelude.{insert, not, Ok, Err}
 use Rattle.std.specs.Ordering.{nat_cmp, ordering_index}
 use Rattle.std.specs.declared.cmp.Ordering.{Ordering}
 use Rattle.std.specs.declared.cmp.Ordering.TheVariants.{Less, Equal, Greater}
@@ -18,6 +18,7 @@ use Rattle.af_role.specs.declared.action.Action.{Action}
 use Rattle.af_role.specs.declared.dag_mask.DagActions.{DagActions}
 use Rattle.af_role.specs.ActionSets.{has}
 use Rattle.af_role.specs.DagMasks.{dag_has, id_of, row_has}
+use Rattle.af_role.specs.DagMarks.{AreMarked, is_marked}
 
 pub or_turn : (a b c : Bool) → (a || (b || c)) ≡ (b || (a || c))
 or_turn true true c = refl
@@ -31,6 +32,14 @@ or_nil false = refl
 pub or_group : (a b c : Bool) → ((a || b) || c) ≡ (a || (b || c))
 or_group true b c = refl
 or_group false b c = refl
+
+or_first : (a b : Bool) → (a || b) ≡ false → a ≡ false
+or_first true b none = none
+or_first false b none = refl
+
+or_second : (a b : Bool) → (a || b) ≡ false → b ≡ false
+or_second true b none = absurd (true≢false none)
+or_second false b none = none
 
 -- a test that one element alone may pass
 list_any-alone : {X : Type 0} (test : X → Bool) (xs : List X) (i : ℕ) (d : X) → i < length xs → ((other : ℕ) (e : X) → other < length xs → other ≢ i → test (get_or xs other e) ≡ false) → list_any test xs ≡ test (get_or xs i d)
@@ -113,3 +122,34 @@ module _ (rows : List DagActions) (dag : List ℕ) (last : ℕ) (row : DagAction
             (subst (λ o. ordering_index (slice_cmp nat_cmp ((get_or rows j d).dag) dag) ≤ ordering_index o) (at_last Less below d) (rises j last d (omega (arith, high, ends)) (omega (arith, ends)))),
         λ j d low high. absurd (omega (arith, low, high)),
       ))
+
+-- a DAG whose mark is not set has no action, where the mark of each row's DAG is set
+pub unmarked_has : (marks : List Bool) (rows : List DagActions) (dag : List ℕ) (action : Action) → AreMarked marks rows → is_marked marks dag ≡ false → dag_has rows dag action ≡ false
+unmarked_has marks [] dag action all none = refl
+unmarked_has marks (x ∷ xs) dag action all none = step (pointwise nat_eq x.dag dag) refl (unmarked_has marks xs dag action (or_second (not (is_marked marks x.dag)) (list_any (λ row. not (is_marked marks row.dag)) xs) all) none)
+  where
+    step : (same : Bool) → pointwise nat_eq x.dag dag ≡ same → dag_has xs dag action ≡ false → dag_has (x ∷ xs) dag action ≡ false
+    step true one later = absurd (true≢false (sym (ap not (ap (is_marked marks) ((bytes_decides x.dag dag).0 one) ∙ none)) ∙ or_first (not (is_marked marks x.dag)) (list_any (λ row. not (is_marked marks row.dag)) xs) all))
+    step false one later = ap (λ t. (t && has x.actions action) || dag_has xs dag action) one ∙ later
+
+-- rows stay marked where no mark is taken away
+pub marked_still : (old new : List Bool) (rows : List DagActions) → ((other : List ℕ) → is_marked old other ≡ true → is_marked new other ≡ true) → AreMarked old rows → AreMarked new rows
+marked_still old new [] more all = refl
+marked_still old new (x ∷ xs) more all = step (is_marked old x.dag) refl (marked_still old new xs more (or_second (not (is_marked old x.dag)) (list_any (λ row. not (is_marked old row.dag)) xs) all))
+  where
+    step : (b : Bool) → is_marked old x.dag ≡ b → AreMarked new xs → AreMarked new (x ∷ xs)
+    step true is later = ap (λ b. not b || list_any (λ row. not (is_marked new row.dag)) xs) (more x.dag is) ∙ later
+    step false is later = absurd (true≢false (sym (ap not is) ∙ or_first (not (is_marked old x.dag)) (list_any (λ row. not (is_marked old row.dag)) xs) all))
+
+-- a row of a DAG whose mark is set, among others
+pub marked_insert : (marks : List Bool) (rows : List DagActions) (place : ℕ) (row : DagActions) → is_marked marks row.dag ≡ true → AreMarked marks rows → AreMarked marks (insert rows place row)
+marked_insert marks rows place row own all =
+    list_any-insert (λ x. not (is_marked marks x.dag)) rows place row
+    ∙ ap (λ b. not b || list_any (λ x. not (is_marked marks x.dag)) rows) own
+    ∙ all
+
+-- a row in the place of another one of its DAG
+pub marked_set : (marks : List Bool) (rows : List DagActions) (place : ℕ) (row own : DagActions) → place < length rows → own ≡ get_or rows place own → row.dag ≡ own.dag → AreMarked marks rows → AreMarked marks (set rows place row)
+marked_set marks rows place row own within at same all =
+    list_any-set (λ x. not (is_marked marks x.dag)) rows place row own false within at (ap (λ id. not (is_marked marks id)) same)
+    ∙ all

@@ -8,4 +8,5 @@ pub mod Access
 pub mod PairTexts
 pub mod KindMasks
 pub mod DagMasks
+pub mod DagMarks
 pub mod Masks

@@ -7,6 +7,7 @@ ghost use Rattle.af_role.specs.ActionSets.{has};
 ghost use Rattle.af_role.specs.Resources.{same_action};
 ghost use Rattle.af_role.specs.DagMasks.{dag_has, id_of};
 
+use crate::dag_marks::DagMarks;
 use crate::{Action, Actions};
 use af_base::{Keyed, place_in};
 use af_names::DagId;
@@ -33,18 +34,20 @@ impl Keyed for DagActions {
 #[derive(Drop)]
 pub struct DagMask {
     rows: Vec<DagActions>,
+    marks: DagMarks,
 }
 
 impl Model for DagMask {
     ghost use Rattle.std.specs.Prelude.{List};
     ghost use Rattle.af_base.specs.Ordered.{AreInOrder};
+    ghost use Rattle.af_role.specs.DagMarks.{AreMarked};
     ghost use Rattle.af_role.specs.declared.dag_mask.DagActions.{DagActions};
 
     ghost Value = { List DagActions };
 
     ghost view = { λ mask. mask.rows.items };
 
-    ghost invariant = { λ mask. AreInOrder (λ row. row.dag) mask.rows.items };
+    ghost invariant = { λ mask. AreInOrder (λ row. row.dag) mask.rows.items × AreMarked mask.marks mask.rows.items };
 }
 
 impl DagMask {
@@ -54,6 +57,7 @@ impl DagMask {
     {
         DagMask {
             rows: Vec::new(alloc),
+            marks: DagMarks::new(),
         }
     }
 
@@ -65,10 +69,13 @@ impl DagMask {
         self.rows.as_slice()
     }
 
-    /// The actions on a DAG, whose row is found by binary search.
+    /// The actions on a DAG. Most DAGs without a row are known by their mark; a row is found by binary search.
     pub fn on(&self, dag: &DagId) -> Actions
         ensures { (action : Action) → has result action ≡ dag_has self.now dag.now action }
     {
+        if !self.marks.has(dag) {
+            return Actions::none();
+        }
         match place_in(self.rows.as_slice(), dag.as_str()) {
             Ok(place) => self.rows[place].actions,
             Err(_) => Actions::none(),
@@ -94,6 +101,7 @@ impl DagMask {
             Err(place) => {
                 let dag = dag.copied(alloc)?;
                 let actions = Actions::none().with(action);
+                self.marks.put(&dag);
                 self.rows.insert(place, DagActions { dag, actions })?;
             }
         }

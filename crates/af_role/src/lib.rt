@@ -4,6 +4,7 @@
 mod access;
 mod action;
 mod actions;
+mod dag_marks;
 mod dag_mask;
 mod defaults;
 mod kind_mask;

@@ -4,20 +4,34 @@ use Rattle.af_base.specs.Places.{FitsAt}
 use Rattle.af_base.proofs.OrderedLemmas.{order-insert, order-set}
 use Rattle.af_role.specs.Resources.{same_action}
 use Rattle.af_role.specs.DagMasks.{dag_has, id_of}
-use Rattle.af_role.proofs.DagMaskLemmas.{added_at, added_row, or_nil}
+use Rattle.af_role.proofs.DagMaskLemmas.{added_at, added_row, marked_insert, marked_set, marked_still, or_nil}
 use Rattle.af_role.proofs.dag_mask.DagMask.add.Goals as goal
 
 pub invariant_of-self : goal.invariant_of-self
 invariant_of-self c =
-    order-set id_of c.self.inside.rows.items c.in-Ok.place (record { dag = c.index_mut-row.result.now.dag; actions = c.with-row.result }) c.index_mut-row.result.now
-    (ap id_of c.index_mut-row.ensures.value) c.self.invariant
+    let stands = rw (c.as_slice.ensures.value, c.as_str.ensures.text) at c.in-Ok.ensures in (
+      order-set id_of c.self.inside.rows.items c.in-Ok.place (record { dag = c.index_mut-row.result.now.dag; actions = c.with-row.result }) c.index_mut-row.result.now
+          (ap id_of c.index_mut-row.ensures.value) (c.self.invariant.0),
+      marked_set c.self.inside.marks c.self.inside.rows.items c.in-Ok.place (record { dag = c.index_mut-row.result.now.dag; actions = c.with-row.result }) c.index_mut-row.result.now
+          stands.within c.index_mut-row.ensures.value refl (c.self.invariant.1),
+    )
 
 pub invariant_of-self-in-Continue-branch-2 : goal.invariant_of-self-in-Continue-branch-2
 invariant_of-self-in-Continue-branch-2 c =
     let fits = rw (c.as_slice.ensures.value, c.as_str.ensures.text) at c.in-Err.ensures in
-    rw c.in_ok-insert-in-Err.ensures.items
-    (order-insert id_of c.self.inside.rows.items (record { dag = c.in_ok-dag-in-Err.dag; actions = c.with-actions.result }) c.in-Err.place
-    (subst (λ dag. FitsAt id_of c.self.inside.rows.items dag c.in-Err.place) (sym c.in_ok-dag-in-Err.ensures) fits) c.self.invariant)
+    rw c.in_ok-insert-in-Err.ensures.items (
+      order-insert id_of c.self.inside.rows.items (record { dag = c.in_ok-dag-in-Err.dag; actions = c.with-actions.result }) c.in-Err.place
+          (subst (λ dag. FitsAt id_of c.self.inside.rows.items dag c.in-Err.place) (sym c.in_ok-dag-in-Err.ensures) fits) (c.self.invariant.0),
+      marked_insert c.put.new.self c.self.inside.rows.items c.in-Err.place (record { dag = c.in_ok-dag-in-Err.dag; actions = c.with-actions.result }) c.put.ensures.own
+          (marked_still c.self.inside.marks c.put.new.self c.self.inside.rows.items c.put.ensures.others (c.self.invariant.1)),
+    )
+
+pub invariant_of-self-in_err-insert-in-Err : goal.invariant_of-self-in_err-insert-in-Err
+invariant_of-self-in_err-insert-in-Err c =
+    rw c.in_err-insert-in-Err.ensures.items (
+      c.self.invariant.0,
+      marked_still c.self.inside.marks c.put.new.self c.self.inside.rows.items c.put.ensures.others (c.self.invariant.1),
+    )
 
 pub returns-in-Ok : goal.returns-in-Ok
 returns-in-Ok c other a =
