@@ -7,7 +7,7 @@ use Rattle.std.specs.declared.cmp.Ordering.TheVariants.{Less, Equal, Greater}
 use Rattle.std.specs.List.{list_any}
 use Rattle.std.specs.Cmp.Lexicographic.{pointwise, bytes_decides, slice_cmp}
 use Rattle.std.proofs.Math.Bool.{and-or_distrib_left}
-use Rattle.std.proofs.lemmas.Bool.{true≢false}
+use Rattle.std.proofs.lemmas.Bool.{eq-eqb, true≢false}
 use Rattle.std.proofs.lemmas.List.{get_or_default, take-append-drop}
 use Rattle.std.proofs.lemmas.List.Folds.{list_any-append}
 use Rattle.af_names.proofs.OrderLemmas.{list_any-none}
@@ -18,7 +18,7 @@ use Rattle.af_role.specs.declared.action.Action.{Action}
 use Rattle.af_role.specs.declared.dag_mask.DagActions.{DagActions}
 use Rattle.af_role.specs.ActionSets.{has}
 use Rattle.af_role.specs.DagMasks.{dag_has, id_of, row_has}
-use Rattle.af_role.specs.DagMarks.{AreMarked, is_marked}
+use Rattle.af_role.specs.DagMarks.{AreMarked, is_marked, mark_of}
 
 pub or_turn : (a b c : Bool) → (a || (b || c)) ≡ (b || (a || c))
 or_turn true true c = refl
@@ -32,6 +32,10 @@ or_nil false = refl
 pub or_group : (a b c : Bool) → ((a || b) || c) ≡ (a || (b || c))
 or_group true b c = refl
 or_group false b c = refl
+
+or_true : (a : Bool) → (a || true) ≡ true
+or_true true = refl
+or_true false = refl
 
 or_first : (a b : Bool) → (a || b) ≡ false → a ≡ false
 or_first true b none = none
@@ -133,13 +137,17 @@ unmarked_has marks (x ∷ xs) dag action all none = step (pointwise nat_eq x.dag
     step false one later = ap (λ t. (t && has x.actions action) || dag_has xs dag action) one ∙ later
 
 -- rows stay marked where no mark is taken away
-pub marked_still : (old new : List Bool) (rows : List DagActions) → ((other : List ℕ) → is_marked old other ≡ true → is_marked new other ≡ true) → AreMarked old rows → AreMarked new rows
-marked_still old new [] more all = refl
-marked_still old new (x ∷ xs) more all = step (is_marked old x.dag) refl (marked_still old new xs more (or_second (not (is_marked old x.dag)) (list_any (λ row. not (is_marked old row.dag)) xs) all))
+pub marked_still : (old new : List Bool) (rows : List DagActions) (more : List ℕ → Bool) → ((other : List ℕ) → is_marked new other ≡ (more other || is_marked old other)) → AreMarked old rows → AreMarked new rows
+marked_still old new [] more is all = refl
+marked_still old new (x ∷ xs) more is all = step (is_marked old x.dag) refl (marked_still old new xs more is (or_second (not (is_marked old x.dag)) (list_any (λ row. not (is_marked old row.dag)) xs) all))
   where
     step : (b : Bool) → is_marked old x.dag ≡ b → AreMarked new xs → AreMarked new (x ∷ xs)
-    step true is later = ap (λ b. not b || list_any (λ row. not (is_marked new row.dag)) xs) (more x.dag is) ∙ later
-    step false is later = absurd (true≢false (sym (ap not is) ∙ or_first (not (is_marked old x.dag)) (list_any (λ row. not (is_marked old row.dag)) xs) all))
+    step true own later = ap (λ b. not b || list_any (λ row. not (is_marked new row.dag)) xs) (is x.dag ∙ ap (λ b. more x.dag || b) own ∙ or_true (more x.dag)) ∙ later
+    step false own later = absurd (true≢false (sym (ap not own) ∙ or_first (not (is_marked old x.dag)) (list_any (λ row. not (is_marked old row.dag)) xs) all))
+
+-- a mark that is put is set
+pub put_own : (old new : List Bool) (dag : List ℕ) → ((other : List ℕ) → is_marked new other ≡ (nat_eq (mark_of dag) (mark_of other) || is_marked old other)) → is_marked new dag ≡ true
+put_own old new dag is = is dag ∙ ap (λ b. b || is_marked old dag) (eq-eqb (mark_of dag) (mark_of dag) refl)
 
 -- a row of a DAG whose mark is set, among others
 pub marked_insert : (marks : List Bool) (rows : List DagActions) (place : ℕ) (row : DagActions) → is_marked marks row.dag ≡ true → AreMarked marks rows → AreMarked marks (insert rows place row)

@@ -1,4 +1,4 @@
-ghost use Rattle.std.specs.Prelude.{◌≡◌, ◌||◌, ◌&&◌, [], List, ℕ, nat_eq, OnOk, MatchResult};
+ghost use Rattle.std.specs.Prelude.{◌≡◌, ◌||◌, ◌&&◌, [], List, ℕ, nat_eq, OnErr, OnOk, MatchResult};
 ghost use Rattle.std.specs.Cmp.Lexicographic.{pointwise};
 ghost use Rattle.af_base.specs.Ordered.{AreInOrder};
 ghost use Rattle.af_base.specs.Places.{FitsAt, StandsAt};
@@ -69,7 +69,7 @@ impl DagMask {
         self.rows.as_slice()
     }
 
-    /// The actions on a DAG. Most DAGs without a row are known by their mark; a row is found by binary search.
+    /// The actions on a DAG. Where there are few rows, most DAGs without one are known by their mark. A row is found by binary search.
     pub fn on(&self, dag: &DagId) -> Actions
         ensures { (action : Action) → has result action ≡ dag_has self.now dag.now action }
     {
@@ -82,16 +82,17 @@ impl DagMask {
         }
     }
 
-    /// Whether an action on a DAG is there. The DAG is found by binary search.
+    /// Whether an action on a DAG is there. It is looked for as `on` does.
     pub fn has(&self, action: Action, dag: &DagId) -> bool
         ensures { result ≡ dag_has self.now dag.now action }
     {
         self.on(dag).has(action)
     }
 
-    /// Adds an action on a DAG. `AllocError` only where a growth was refused.
+    /// Adds an action on a DAG. `AllocError` only where a growth was refused; then the rows are as before.
     pub fn add(&mut self, alloc: Global, action: Action, dag: &DagId) -> Result<(), AllocError>
-        ensures { OnOk result ((other : List ℕ) (a : Action) → dag_has self.new other a ≡ ((pointwise nat_eq dag.now other && same_action action a) || dag_has self.old other a)) }
+        ensures err { OnErr result (self.new ≡ self.old) }
+        ensures ok { OnOk result ((other : List ℕ) (a : Action) → dag_has self.new other a ≡ ((pointwise nat_eq dag.now other && same_action action a) || dag_has self.old other a)) }
     {
         match place_from_end(self.rows.as_slice(), dag.as_str()) {
             Ok(place) => {

@@ -49,7 +49,7 @@ impl Mask {
         self.kinds.has(action, kind)
     }
 
-    /// Whether an action on one DAG is among them, by binary search.
+    /// Whether an action on one DAG is among them, which is looked for as `DagMask::on` does.
     pub fn has_on_dag(&self, action: Action, dag: &DagId) -> bool
         ensures { result ≡ allows self.now (on_dag action dag.now) }
     {
