@@ -11,7 +11,8 @@
   python3 bench/serve_bench.py --program PATH
 
 Both servers run as `serve CONFIG PORT WORKERS` with as many workers as there are connections, and are asked in turn, in rounds of under a second whose
-order changes. A figure is the median of the rounds, and a ratio is of one round, with quartiles in brackets. Before anything is timed each request is
+order changes. A figure is the median of the rounds, and a ratio is of one round, with quartiles in brackets. A ratio differs from start to start, so the
+servers are started several times, and each start has its share of the rounds. Before anything is timed each request is
 asked of both servers once, one after another, and their answers are compared byte for byte, those of the first connection with the model's too;
 where one differs, the load is not timed. The time of a request is from its write to the last byte of its answer (serve_load.rs).
 """
@@ -267,17 +268,19 @@ HEAD = """| Load, connections | requests/s | ratio | p50, ratio | p99 | ratio | 
 |---|---|---|---|---|---|---|---|"""
 
 
-def time_load(named, load, connections, args):
-    """The rounds of both servers."""
-    with running(named, loads.config(), connections) as servers:
+def time_start(named, load, connections, args, turns):
+    """The rounds of both servers, from one start of them. An odd first turn starts the second server first."""
+    order = (0, 1) if turns.start % 2 == 0 else (1, 0)
+    with running([named[it] for it in order], loads.config(), connections) as started:
+        servers = [started[it] for it in order]
         for it in servers:
             it.ask([asked.bytes for asked in loads.before()])
         loaders = [Loader(it, load.records()) for it in servers]
         rounds = [[], []]
         try:
-            for it, loader in zip(servers, loaders):
-                loader.told("run", connections, 0.3)
-            for turn in range(args.rounds):
+            for it in loaders:
+                it.told("run", connections, 0.3)
+            for turn in turns:
                 for place in (0, 1) if turn % 2 == 0 else (1, 0):
                     rounds[place].append(round_of(servers[place], loaders[place], connections, args.seconds))
         finally:
@@ -286,9 +289,24 @@ def time_load(named, load, connections, args):
     return rounds
 
 
+def parts_of(count, parts):
+    """The numbers from 0 on, so many, in so many parts of about one length."""
+    ends = [count * it // parts for it in range(parts + 1)]
+    return [range(start, end) for start, end in zip(ends, ends[1:]) if start < end]
+
+
+def time_load(named, load, connections, args):
+    """The rounds of both servers, which are started so often."""
+    rounds = [[], []]
+    for turns in parts_of(args.rounds, args.starts):
+        for all_of_it, part in zip(rounds, time_start(named, load, connections, args, turns)):
+            all_of_it += part
+    return rounds
+
+
 def tell_times(named, args):
     every, others = [], []
-    print(f"afplane, then the plain server; medians of {args.rounds} rounds of {args.seconds:g} s; workers as many as connections.\n\n{HEAD}", flush=True)
+    print(f"afplane, then the plain server; medians of {args.rounds} rounds of {args.seconds:g} s, of {args.starts} starts; workers as many as connections.\n\n{HEAD}", flush=True)
     for load in [it for it in (loads.READERS, loads.CHANGES) if any(word in it.name for word in args.only.split(","))]:
         check(named, load, max(args.connections))
         for connections in args.connections:
@@ -430,7 +448,8 @@ def arguments():
     options.add_argument("--plain", action="store_true", help="the plain server in afplane's place")
     options.add_argument("--under-lock", action="store_true", help="the plain server makes its texts under the lock, as a simpler one does")
     options.add_argument("--connections", default="1,4,16", help="1 to 16 each; 1,4,16")
-    options.add_argument("--rounds", type=int, default=None, help="61, or 9 with --quick")
+    options.add_argument("--rounds", type=int, default=None, help="63, or 9 with --quick")
+    options.add_argument("--starts", type=int, default=None, help="how often the servers are started for these rounds; 9, or 3 with --quick")
     options.add_argument("--seconds", type=float, default=0.2, help="of a round, under one; 0.2")
     options.add_argument("--quick", action="store_true")
     options.add_argument("--only", default="", metavar="WORDS", help="the loads with one of these words in their names")
@@ -442,9 +461,12 @@ def arguments():
     options.add_argument("--runs", type=int, default=100_000, help="how many runs are made; 100,000")
     args = options.parse_args()
     args.connections = [int(it) for it in args.connections.split(",")]
-    args.rounds = args.rounds or (9 if args.quick else 61)
+    args.rounds = args.rounds or (9 if args.quick else 63)
+    args.starts = args.starts or (3 if args.quick else 9)
     if not all(1 <= it <= loads.CONNECTIONS for it in args.connections) or not 0 < args.seconds < 1:
         fail("connections are 1 to 16, and a round takes less than a second")
+    if not 1 <= args.starts <= args.rounds:
+        fail("the servers are started at least once, and no more often than there are rounds")
     return args
 
 

@@ -42,6 +42,12 @@ class Figures(unittest.TestCase):
         self.assertIn("| readers alone, 4 | 2,000, 2,000 | 1.00 [1.00 to 1.00] |", row)
         self.assertIn("| 9.0, 9.0 us |", row)
 
+    def test_each_round_is_of_one_start(self):
+        self.assertEqual(bench.parts_of(9, 3), [range(3), range(3, 6), range(6, 9)])
+        self.assertEqual(bench.parts_of(5, 2), [range(2), range(2, 5)])
+        self.assertEqual(bench.parts_of(1, 4), [range(1)])
+        self.assertEqual([it for part in bench.parts_of(63, 9) for it in part], list(range(63)))
+
     def test_instructions(self):
         self.assertEqual(bench.collected(b"==7== Events    : Ir\n==7== Collected : 123456\n"), 123456)
         with self.assertRaises(SystemExit):
