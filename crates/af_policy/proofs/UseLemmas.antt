@@ -15,7 +15,7 @@ use Rattle.std.specs.Cmp.{both_ways}
 use Rattle.std.proofs.lemmas.Map.Keys.{sorted_tail}
 use Rattle.af_role.proofs.AccessLemmas.{take_more}
 use Rattle.af_policy.specs.Rows.{NamesAscend, UserRow, found_user, has_user, role_in_use, same_name, user_names, with_user, without_user}
-use Rattle.af_policy.specs.Uses.{UseRow, count_at, count_in, mentions, use_rows, uses_in}
+use Rattle.af_policy.specs.Uses.{UseRow, count_at, count_in, is_counted, mentions, use_rows, uses_in}
 use Rattle.af_policy.proofs.NameLemmas.{fresh, is_some-find}
 use Rattle.af_policy.proofs.FoundLemmas.{found_with, found_without}
 use Rattle.af_policy.proofs.OrderLemmas.{none_from, none_without}
@@ -236,3 +236,13 @@ module _ (uses : List UseRow) (name bytes : List ℕ) (same : bytes ≡ name) wh
         step true e =
             let none : count_at uses other ≡ 0 = ap (count_at uses) ((bytes_decides other name).0 e) ∙ not_counted
             in none ∙ ap (λ n. n - 1) (sym none)
+
+-- a name that is not counted is none that is
+pub uncounted : (after now : ℕ) (name other : List ℕ) → false ≡ is_counted name → is_counted other ≡ true → now ≡ cond (same_name other name) after now
+uncounted after now name other none counted = step (same_name other name) refl
+  where
+    step : (b : Bool) → same_name other name ≡ b → now ≡ cond b after now
+    step false e = refl
+    step true e =
+        let same : true ≡ false = sym counted ∙ ap is_counted ((bytes_decides other name).0 e) ∙ sym none
+        in cc

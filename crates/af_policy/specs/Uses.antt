@@ -1,5 +1,5 @@
 -- How often the users of a policy name a role.
-use Rattle.std.specs.Prelude.{◌≡◌, ℕ, List, true, sum_by, count_by, map, unwrap_or}
+use Rattle.std.specs.Prelude.{◌≡◌, ℕ, List, Bool, true, not, ◌||◌, codes, sum_by, count_by, map, unwrap_or}
 use Rattle.std.specs.List.{find}
 use Rattle.std.specs.Option.{option_map_or}
 use Rattle.std.specs.Ordering.{nat_cmp}
@@ -32,8 +32,12 @@ uses_in roles name = count_by (λ role. same_name name role) roles
 abbrev pub mentions : List UserRow → List ℕ → ℕ
 mentions users name = sum_by (λ user. uses_in user.roles name) users
 
+-- whether it is counted how often users name a role: of the default roles, none of which is ever deleted, only Admin
+abbrev pub is_counted : List ℕ → Bool
+is_counted name = not (same_name name (codes "Public") || same_name name (codes "Viewer") || same_name name (codes "User") || same_name name (codes "Op"))
+
 -- each role that a user has is there, the counts are those of the users, and there are no more rows than a policy may have
 pub record IsTables (users : List UserRow) (roles : List RoleRow) (uses : List UseRow) : Type 0 where
   pub exist : roles_exist (record { users = users; roles = roles }) ≡ true
-  pub counted : (name : List ℕ) → count_at uses name ≡ mentions users name
+  pub counted : (name : List ℕ) → is_counted name ≡ true → count_at uses name ≡ mentions users name
   pub within : IsWithinLimits (record { users = users; roles = roles })

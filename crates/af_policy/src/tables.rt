@@ -6,7 +6,7 @@ ghost use Rattle.af_role.specs.Pairs.{PairRow};
 ghost use Rattle.af_policy.specs.Changes.{replaced};
 ghost use Rattle.af_policy.specs.Grants.{grants, reads, reads_dag};
 ghost use Rattle.af_policy.specs.Identity.{user_of};
-ghost use Rattle.af_policy.specs.Uses.{IsTables, count_at, mentions};
+ghost use Rattle.af_policy.specs.Uses.{IsTables, count_at, is_counted, mentions};
 ghost use Rattle.af_policy.specs.Views.{held};
 ghost use Rattle.af_policy.specs.Rows.{IsWithinLimits, NamesAscend, PermissionsAscend, digests_differ, found_user, has_admin, has_digest, has_role, has_roles, has_user, most_roles, most_users, role_in_use, role_names, roles_exist, same_digest, user_names, with_role, with_user, without_role, without_user};
 
@@ -128,7 +128,7 @@ impl Tables {
 
     /// How often the users but that of a name name each role.
     fn uses_without(&self, alloc: Global, name: &UserName) -> Result<Uses, AllocError>
-        ensures { IfOk result (λ uses. (role : List ℕ) → count_at uses role ≡ mentions (without_user self.now.users name.now) role) }
+        ensures { IfOk result (λ uses. (role : List ℕ) → is_counted role ≡ true → count_at uses role ≡ mentions (without_user self.now.users name.now) role) }
     {
         self.users.facts();
         match self.users.get(name) {
@@ -157,8 +157,9 @@ impl Tables {
         Ok(())
     }
 
-    /// Whether some user has a role.
+    /// Whether some user has a role that is counted.
     pub(crate) fn is_used(&self, name: &str) -> bool
+        requires { is_counted name.now ≡ true }
         ensures { result ≡ role_in_use self.now.users name.now }
     {
         self.uses.count(name) != 0

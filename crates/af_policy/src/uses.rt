@@ -1,8 +1,8 @@
-ghost use Rattle.std.specs.Prelude.{◌≡◌, ◌+◌, ◌-◌, [], List, ℕ, cond, IfOk, OnOk};
+ghost use Rattle.std.specs.Prelude.{◌≡◌, ◌+◌, ◌-◌, [], List, ℕ, true, cond, IfOk, OnOk};
 ghost use Rattle.std.specs.Option.{option_copied};
 ghost use Rattle.af_policy.specs.Rows.{same_name};
 ghost use Rattle.af_policy.specs.SharedRows.{Ascend, found};
-ghost use Rattle.af_policy.specs.Uses.{count_at, count_in, use_rows, uses_in};
+ghost use Rattle.af_policy.specs.Uses.{count_at, count_in, is_counted, use_rows, uses_in};
 
 use crate::shared::{Row, Table, front};
 use af_names::RoleName;
@@ -83,8 +83,8 @@ impl Row for RoleUse {
     }
 }
 
-/// How often the users of a policy name each role, so that no change looks at all users. Contracts see it as rows of names
-/// and counts.
+/// How often the users of a policy name each role, so that no change looks at all users. Of the default roles only Admin is counted, since
+/// no default role is ever deleted. Contracts see it as rows of names and counts.
 #[derive(Drop)]
 pub(crate) struct Uses {
     counts: Table<RoleUse>,
@@ -130,10 +130,13 @@ impl Uses {
         }
     }
 
-    /// Counts a role once more. After an error the counts are not to be used.
+    /// Counts a role once more, if it is counted. After an error the counts are not to be used.
     fn add(&mut self, alloc: Global, name: &RoleName) -> Result<(), AllocError>
-        ensures { OnOk result ((other : List ℕ) → count_at self.new other ≡ cond (same_name other name.now) (count_at self.old other + 1) (count_at self.old other)) }
+        ensures { OnOk result ((other : List ℕ) → is_counted other ≡ true → count_at self.new other ≡ cond (same_name other name.now) (count_at self.old other + 1) (count_at self.old other)) }
     {
+        if !is_counted(name) {
+            return Ok(());
+        }
         match self.counts.get(name.as_str().as_bytes()) {
             Some(row) => {
                 let Some(count) = row.count().checked_add(1) else {
@@ -150,10 +153,13 @@ impl Uses {
         Ok(())
     }
 
-    /// Counts a role once less. After an error the counts are not to be used.
+    /// Counts a role once less, if it is counted. After an error the counts are not to be used.
     fn take(&mut self, alloc: Global, name: &RoleName) -> Result<(), AllocError>
-        ensures { OnOk result ((other : List ℕ) → count_at self.new other ≡ cond (same_name other name.now) (count_at self.old other - 1) (count_at self.old other)) }
+        ensures { OnOk result ((other : List ℕ) → is_counted other ≡ true → count_at self.new other ≡ cond (same_name other name.now) (count_at self.old other - 1) (count_at self.old other)) }
     {
+        if !is_counted(name) {
+            return Ok(());
+        }
         match self.counts.get(name.as_str().as_bytes()) {
             Some(row) => {
                 let count = row.count();
@@ -169,9 +175,9 @@ impl Uses {
         Ok(())
     }
 
-    /// Counts each of these names once more. After an error the counts are not to be used.
+    /// Counts each of these names that is counted once more. After an error the counts are not to be used.
     pub(crate) fn add_all(&mut self, alloc: Global, names: &[RoleName]) -> Result<(), AllocError>
-        ensures { OnOk result ((other : List ℕ) → count_at self.new other ≡ count_at self.old other + uses_in names.now other) }
+        ensures { OnOk result ((other : List ℕ) → is_counted other ≡ true → count_at self.new other ≡ count_at self.old other + uses_in names.now other) }
     {
         for name in names {
             self.add(alloc, name)?;
@@ -179,15 +185,23 @@ impl Uses {
         Ok(())
     }
 
-    /// Counts each of these names once less. After an error the counts are not to be used.
+    /// Counts each of these names that is counted once less. After an error the counts are not to be used.
     pub(crate) fn take_all(&mut self, alloc: Global, names: &[RoleName]) -> Result<(), AllocError>
-        ensures { OnOk result ((other : List ℕ) → count_at self.new other ≡ count_at self.old other - uses_in names.now other) }
+        ensures { OnOk result ((other : List ℕ) → is_counted other ≡ true → count_at self.new other ≡ count_at self.old other - uses_in names.now other) }
     {
         for name in names {
             self.take(alloc, name)?;
         }
         Ok(())
     }
+}
+
+/// Whether it is counted how often users name a role.
+fn is_counted(name: &RoleName) -> bool
+    ensures { result ≡ is_counted name.now }
+{
+    let name = name.as_str();
+    !(name == "Public" || name == "Viewer" || name == "User" || name == "Op")
 }
 
 /// The rows of a map of counts, in the order of their names.

@@ -13,9 +13,9 @@ invariant_of-self-2 c =
     in record {
       exist = rw c.in_ok-insert.ensures.ok (roles_exist-with_user c.self.inside.users c.self.inside.roles c.args.user has c.self.invariant.exist);
       counted =
-          λ name. c.in_ok-add_all.ensures name
+          λ name is. c.in_ok-add_all.ensures name is
           ∙ (λ i. count_at (c.in_ok-uses.ensures i) name + uses_in (c.roles.ensures i) name)
-          ∙ ap (λ n. n + uses_in c.args.user.roles name) (c.self.invariant.counted name)
+          ∙ ap (λ n. n + uses_in c.args.user.roles name) (c.self.invariant.counted name is)
           ∙ sym (mentions-with_user c.args.user name c.self.inside.users new)
           ∙ ap (λ users. mentions users name) (sym c.in_ok-insert.ensures.ok);
       within =

@@ -20,13 +20,13 @@ invariant_of-self-2 c =
           rw c.in_ok-replace.ensures.ok
           (roles_exist-with_user (without_user users user.name) roles user has (roles_exist-without_user users roles user.name c.self.invariant.exist));
       counted =
-          λ name.
+          λ name is.
           let less : count_at c.take_all.new.self name ≡ mentions users name - uses_in c.args.before.now.roles name =
-          c.in_ok-take_all.ensures name
+          c.in_ok-take_all.ensures name is
           ∙ (λ i. count_at (c.in_ok-uses.ensures i) name - uses_in (c.roles.ensures i) name)
-          ∙ ap (λ n. n - uses_in c.args.before.now.roles name) (c.self.invariant.counted name)
+          ∙ ap (λ n. n - uses_in c.args.before.now.roles name) (c.self.invariant.counted name is)
           in let more : count_at c.add_all.new.self name ≡ count_at c.take_all.new.self name + uses_in user.roles name =
-          c.in_ok-add_all.ensures name ∙ ap (λ names. count_at c.take_all.new.self name + uses_in names name) c.roles-2.ensures
+          c.in_ok-add_all.ensures name is ∙ ap (λ names. count_at c.take_all.new.self name + uses_in names name) c.roles-2.ensures
           in let before = mentions-without_user c.args.before.now user.name name users c.facts.ensures.ascend found
           in let after = mentions-with_user user name (without_user users user.name) (has_user-without_user user.name users)
           in let same : mentions c.replace.new.self name ≡ mentions (replaced users user) name = ap (λ rows. mentions rows name) c.in_ok-replace.ensures.ok

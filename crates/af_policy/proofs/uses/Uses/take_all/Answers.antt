@@ -3,6 +3,6 @@ use Rattle.af_policy.proofs.UseLemmas.{counted_less}
 use Rattle.af_policy.proofs.uses.Uses.take_all.Goals as goal
 
 pub loop-name-preserved : goal.loop-name-preserved
-loop-name-preserved c other =
+loop-name-preserved c other counted =
     counted_less c.args.names.now c.loop-name.name-index c.name-item.result other (count_at c.args.self.now other) (count_at c.loop-name.self other) (count_at c.take.new.self other)
-    c.name-item.is c.loop-name-test.true (c.loop-name.invariant other) (c.in_ok-take.ensures other)
+    c.name-item.is c.loop-name-test.true (c.loop-name.invariant other counted) (c.in_ok-take.ensures other counted)
