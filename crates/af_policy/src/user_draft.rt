@@ -4,7 +4,7 @@ ghost use Rattle.std.specs.Ordering.{nat_cmp};
 ghost use Rattle.std.specs.Cmp.Lexicographic.{slice_cmp};
 ghost use Rattle.std.specs.BTreeMap.{IsOrdered, get, insert_entry, values};
 ghost use Rattle.af_policy.specs.Rows.{has_admin, has_digest, has_user, with_user};
-ghost use Rattle.af_policy.specs.Uses.{count_at, mentions};
+ghost use Rattle.af_policy.specs.Uses.{count_at, is_counted, mentions};
 
 use crate::User;
 use crate::fronted::Fronted;
@@ -114,7 +114,7 @@ impl UserDraft {
     /// The table of these users, and how often they name each role.
     pub(crate) fn finish(self, alloc: Global) -> Result<(UserTable, Uses), AllocError>
         ensures table { IfOk result (λ made. made.0 ≡ self) }
-        ensures uses { IfOk result (λ made. (role : List ℕ) → count_at made.1 role ≡ mentions self role) }
+        ensures uses { IfOk result (λ made. (role : List ℕ) → is_counted role ≡ true → count_at made.1 role ≡ mentions self role) }
     {
         let UserDraft { by_name, by_digest } = self;
         let users = in_order(alloc, by_name)?;

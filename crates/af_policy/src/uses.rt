@@ -197,7 +197,7 @@ impl Uses {
 }
 
 /// Whether it is counted how often users name a role.
-fn is_counted(name: &RoleName) -> bool
+pub(crate) fn is_counted(name: &RoleName) -> bool
     ensures { result ≡ is_counted name.now }
 {
     let name = name.as_str();
