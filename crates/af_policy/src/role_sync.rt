@@ -56,9 +56,25 @@ fn sync_row(
     ensures { OnOk result ((made.new ≡ with_role made.old (synced_role dag.now access.now role.now)) ⊎ ((made.new ≡ made.old) × (synced_role dag.now access.now role.now ≡ role.now))) }
 {
     if role.is_touched(dag, access) {
-        let role = MaskedRole::of(alloc, role.role().synced(alloc, dag, access)?)?;
-        let role = Arc::new(alloc, role)?;
-        made.put(alloc, RoleByName::new(role))?;
+        put_synced(alloc, made, role, dag, access)?;
     }
+    Ok(())
+}
+
+/// Puts a role in its place as it is after the sync. It stays a call of its own: a sync looks at all roles, and the memory on the stack for a
+/// role with its mask is cleared where it is declared.
+#[inline(never)]
+fn put_synced(
+    alloc: Global,
+    made: &mut Table<RoleByName>,
+    role: &MaskedRole,
+    dag: &DagId,
+    access: &AccessControl,
+) -> Result<(), AllocError>
+    ensures { OnOk result (made.new ≡ with_role made.old (synced_role dag.now access.now role.now)) }
+{
+    let role = MaskedRole::of(alloc, role.role().synced(alloc, dag, access)?)?;
+    let role = Arc::new(alloc, role)?;
+    made.put(alloc, RoleByName::new(role))?;
     Ok(())
 }
