@@ -59,7 +59,7 @@ impl<T: Row> Table<T> {
         ensures { option_copied result ≡ found T.key self.now key.now }
     {
         match &self.root {
-            Some(root) => search::find(&[], root, &Sought::new(key)),
+            Some(root) => search::find(root, &Sought::new(key)),
             None => None,
         }
     }
