@@ -1,5 +1,6 @@
 ghost use Rattle.std.specs.Prelude.{◌≡◌, [], false, IfOk};
 
+use crate::field_spans::FieldSpans;
 use crate::incoming::Incoming;
 use crate::outgoing::Outgoing;
 use crate::routes::Routes;
@@ -8,6 +9,8 @@ use std::alloc::{AllocError, Global};
 /// What a connection keeps from its opening on, beside its reader and its writer, which each call borrows.
 #[derive(Drop)]
 pub struct Connection {
+    /// Where the fields of the head that is read lie.
+    pub fields: FieldSpans,
     /// The table of paths.
     pub routes: Routes,
     /// What came and was not used yet.
@@ -24,6 +27,7 @@ impl Connection {
         let routes = Routes::new(alloc)?;
         let (incoming, outgoing) = buffers(alloc)?;
         Ok(Connection {
+            fields: FieldSpans::new(),
             routes,
             incoming,
             outgoing,

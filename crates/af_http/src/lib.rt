@@ -7,6 +7,7 @@ mod connection;
 mod counted;
 mod ended;
 mod extent;
+mod field_spans;
 mod fields;
 mod fit;
 mod gathering;

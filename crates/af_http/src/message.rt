@@ -9,6 +9,7 @@ ghost use Rattle.af_http.specs.Turns.{Answers, Messages, or_fault};
 ghost use Rattle.af_http.specs.Sending.{Puts};
 
 use crate::ended::Ended;
+use crate::field_spans::FieldSpans;
 use crate::handled::Handled;
 use crate::outgoing::Outgoing;
 use crate::reading::{is_head, read_head};
@@ -99,6 +100,7 @@ pub fn answer_message<W: Sink, S: Service>(
     held: &[u8],
     size: usize,
     count: u32,
+    fields: &mut FieldSpans,
     routes: &mut Routes,
     writer: &mut W,
     outgoing: &mut Outgoing,
@@ -114,7 +116,7 @@ pub fn answer_message<W: Sink, S: Service>(
         service.new result }
 {
     let (head, after) = held.split_at(size);
-    match read_head(head) {
+    match read_head(head, fields) {
         Ok(request) if request.length <= after.len() => {
             let (body, _) = after.split_at(request.length);
             let ended = answer_request(&request, body, count, routes, writer, outgoing, service);

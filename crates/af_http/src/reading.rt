@@ -7,31 +7,30 @@ ghost use Rattle.af_http.specs.Requests.{body_length, has_host, length_of, lengt
 ghost use Rattle.af_http.specs.Lengths.{cap, capped};
 ghost use Rattle.af_http.specs.Reading.{Parses, IsUnread};
 
+use crate::field_spans::FieldSpans;
 use crate::fields::{Named, bearer, lists, same_text, value_of};
-use crate::lines::FIELD_LIMIT;
 use crate::refusal::Refusal;
 use crate::request::Request;
 use httparse::Status;
-use httparse::spans::{EMPTY_HEADER_SPAN, HeaderSpan, parse_request};
+use httparse::spans::{HeaderSpan, parse_request};
 
 /// The most bytes of a body.
 pub const BODY_LIMIT: usize = 65_536;
 
-/// The request that the head asks for, or why it is refused.
-pub fn read_head(head: &[u8]) -> Result<Request<'_>, Refusal>
+/// The request that the head asks for, or why it is refused. Where its fields lie is found anew.
+pub fn read_head<'b>(head: &'b [u8], fields: &mut FieldSpans) -> Result<Request<'b>, Refusal>
     ensures found { IfOk result (λ r. (h : RequestHead) × Parses head.now h × (body_length h ≡ Ok r.length)
         × ((body : List ℕ) → seen r body ≡ asked_by h body)) }
     ensures bad { IfErr result (λ refusal. IsUnread head.now refusal) }
 {
-    let mut headers = [EMPTY_HEADER_SPAN; FIELD_LIMIT];
-    let Ok(Status::Complete(spans)) = parse_request(head, &mut headers) else {
+    let Ok(Status::Complete(spans)) = parse_request(head, &mut fields.spans) else {
         return Err(Refusal::BadHead(false));
     };
     if spans.len != head.len() {
         return Err(Refusal::BadHead(false));
     }
     let method = spans.method.of(head);
-    let fields = &headers[..spans.headers];
+    let fields = &fields.spans[..spans.headers];
     match length_of(head, is_head(method), spans.version, fields) {
         Ok(length) => Ok(Request {
             method,

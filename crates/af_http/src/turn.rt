@@ -117,6 +117,7 @@ fn answer_held<W: Sink, S: Service>(
         connection.incoming.as_slice(),
         size,
         count,
+        &mut connection.fields,
         &mut connection.routes,
         writer,
         &mut connection.outgoing,
