@@ -7,13 +7,14 @@ use crate::policy::Policy;
 pub struct Site {
     version: AtomicU32,
     last: RwLock<Arc<Policy>>,
-    making: Mutex<()>,
+    /// The lock of those who make a version, with the versions before the last, if they are kept.
+    making: Mutex<Vec<Arc<Policy>>>,
     pub limit: u32,
 }
 
 impl Site {
     pub fn of(policy: Policy, limit: u32) -> Site {
-        Site { version: AtomicU32::new(policy.version), last: RwLock::new(Arc::new(policy)), making: Mutex::new(()), limit }
+        Site { version: AtomicU32::new(policy.version), last: RwLock::new(Arc::new(policy)), making: Mutex::new(Vec::new()), limit }
     }
 
     pub fn is_last(&self, policy: &Policy) -> bool {
@@ -31,15 +32,17 @@ impl Site {
         }
     }
 
-    pub fn making(&self) -> MutexGuard<'_, ()> {
+    pub fn making(&self) -> MutexGuard<'_, Vec<Arc<Policy>>> {
         self.making.lock().unwrap()
     }
 
-    /// Makes a policy the last version. The lock of those who make one is held.
-    pub fn publish(&self, policy: Arc<Policy>, _making: &MutexGuard<'_, ()>) {
+    /// Makes a policy the last version. The lock of those who make one is held. The version before it is kept only with `--cfg keep_versions`.
+    pub fn publish(&self, policy: Arc<Policy>, kept: &mut MutexGuard<'_, Vec<Arc<Policy>>>) {
         let version = policy.version;
         let before = std::mem::replace(&mut *self.last.write().unwrap(), policy);
         self.version.store(version, Ordering::SeqCst);
-        drop(before);
+        if cfg!(keep_versions) {
+            kept.push(before);
+        }
     }
 }

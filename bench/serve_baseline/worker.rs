@@ -140,14 +140,14 @@ impl<'a> Worker<'a> {
         if let Some(need) = bearer.missing(op.needs(), "", None) {
             return Err(fault(403, format!("missing permission {}", need.text(""))));
         }
-        let (Some(change), Some(making)) = (change, making) else { return self.read_policy(op, &bearer, query) };
+        let (Some(change), Some(mut making)) = (change, making) else { return self.read_policy(op, &bearer, query) };
         let mut next = Policy::clone(&policy);
         change?.make(&mut next, &server.dags, &mut self.reply).and_then(|_| match next.version > server.site.limit {
             true => Err(fault(507, "versions full")),
             false => Ok(()),
         })?;
         self.policy = Arc::new(next);
-        server.site.publish(self.policy.clone(), &making);
+        server.site.publish(self.policy.clone(), &mut making);
         Ok(())
     }
 
