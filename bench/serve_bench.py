@@ -7,7 +7,7 @@
   python3 bench/serve_bench.py --count             instructions by request, by valgrind, without the kernel's; other work doesn't touch them
   python3 bench/serve_bench.py --memory            resident memory by entry and by version, and by DAG, run and user
   python3 bench/serve_bench.py --under-lock        beside a plain server that makes its texts under its lock
-  python3 bench/serve_bench.py --drop-versions     beside a plain server that keeps the last version of the policy alone
+  python3 bench/serve_bench.py --keep-versions     beside a plain server that keeps all versions of the policy, as afplane does
   python3 bench/serve_bench.py --plain             the plain server in afplane's place, which shows what the machine alone makes of a ratio
   python3 bench/serve_bench.py --program PATH
 
@@ -448,7 +448,7 @@ def arguments():
     options.add_argument("--program", default=PROGRAM, help="in place of the built program")
     options.add_argument("--plain", action="store_true", help="the plain server in afplane's place")
     options.add_argument("--under-lock", action="store_true", help="the plain server makes its texts under the lock, as a simpler one does")
-    options.add_argument("--drop-versions", action="store_true", help="the plain server keeps the last version of the policy alone")
+    options.add_argument("--keep-versions", action="store_true", help="the plain server keeps all versions of the policy, as afplane does")
     options.add_argument("--connections", default="1,4,16", help="1 to 16 each; 1,4,16")
     options.add_argument("--rounds", type=int, default=None, help="63, or 9 with --quick")
     options.add_argument("--starts", type=int, default=None, help="how often the servers are started for these rounds; 9, or 3 with --quick")
@@ -475,7 +475,7 @@ def arguments():
 def main():
     args = arguments()
     program = BASELINE if args.plain else os.path.realpath(args.program)
-    chosen = [name for name in ("under_lock", "drop_versions") if getattr(args, name)]
+    chosen = [name for name in ("under_lock", "keep_versions") if getattr(args, name)]
     build_plain("serve_baseline", *(word for name in chosen for word in ("--cfg", name)))
     build_plain("serve_load")
     if not os.access(program, os.X_OK):

@@ -7,7 +7,7 @@ use crate::policy::Policy;
 pub struct Site {
     version: AtomicU32,
     last: RwLock<Arc<Policy>>,
-    /// The lock of those who make a version, with the versions before the last.
+    /// The lock of those who make a version, with the versions before the last, if they are kept.
     making: Mutex<Vec<Arc<Policy>>>,
     pub limit: u32,
 }
@@ -36,12 +36,12 @@ impl Site {
         self.making.lock().unwrap()
     }
 
-    /// Makes a policy the last version. The lock of those who make one is held. The version before it is kept, as afplane does, but not with `--cfg drop_versions`.
+    /// Makes a policy the last version. The lock of those who make one is held. The version before it is kept only with `--cfg keep_versions`.
     pub fn publish(&self, policy: Arc<Policy>, kept: &mut MutexGuard<'_, Vec<Arc<Policy>>>) {
         let version = policy.version;
         let before = std::mem::replace(&mut *self.last.write().unwrap(), policy);
         self.version.store(version, Ordering::SeqCst);
-        if !cfg!(drop_versions) {
+        if cfg!(keep_versions) {
             kept.push(before);
         }
     }
