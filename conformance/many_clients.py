@@ -7,7 +7,7 @@
   python3 conformance/many_clients.py --program 'PATH/PROGRAM'
 
 The clients (crowd_cases.py) list, show, pause, trigger, mark, clear and delete, change pools and variables, and read event logs. Two of them change roles and
-users. Two more connections send many changes of the policy at the same moment, until one of them is told that the policy has moved.
+users. Three more connections send many changes of the policy at the same moment, until one of them is told that the policy has moved.
 Meanwhile the server ticks each second, claims and reports. At the end all event logs are read, and history.py says whether every answer is the model's under
 the version and at the number that it names, each change of the policy in order of version, and each of the state in order of number. The server
 has to listen at 127.0.0.1 alone. Ten times the memory of the server is looked at, and how many entries and versions there are: it may grow by what
@@ -41,8 +41,9 @@ NEEDED = ["tick", "claim", "report", "trigger_dag_run", "clear_dag_run", "patch_
 LONG = 30
 MOVED = b'"policy moved to version '
 VERSION, MOVE = "a version", "an answer that the policy has moved"  # what it has to bring besides
-# How many changes an administrator sends at once, so many that two who do so at the same moment meet; how often; and how long one may wait for the other.
-AT_ONCE, EVERY, WAITS = 150, 3, 5
+# Who changes the policy at the same moment. A change is tried once more after another one overtook it, so that it takes three to overtake one twice.
+# How many changes each sends at once, how often, and how long the first may wait for the others.
+RUSHING, AT_ONCE, EVERY, WAITS = ("adam", "zoe", "adam"), 600, 3, 5
 
 
 class Player(threading.Thread):
@@ -74,12 +75,12 @@ class Player(threading.Thread):
 
 
 class Rush(threading.Thread):
-    """Two administrators who send many changes of the policy at the same moment, and again, until one is told that the policy has moved."""
+    """Administrators who send many changes of the policy at the same moment, and again, until one is told that the policy has moved."""
 
     def __init__(self, port, until):
         super().__init__(daemon=True)
         self.port, self.until, self.sessions, self.broken = port, until, [], None
-        tokens = [crowd_cases.token(it) for it in ("adam", "zoe")]
+        tokens = [crowd_cases.token(it) for it in RUSHING]
         self.first = [head(b"GET /api/v1/own/me HTTP/1.1", [b"Host: h", b"Authorization: Bearer " + it]) for it in tokens]
         self.changes = [[with_body(b"PATCH /api/v1/users/ida HTTP/1.1", it, b'{"roles":[{"name":"Auditor"}]}')] * AT_ONCE for it in tokens]
 
@@ -95,20 +96,20 @@ class Rush(threading.Thread):
         return any(MOVED in it.answer for session in self.sessions for it in session)
 
     def meet(self):
-        """Once both have a worker, each sends all its changes. Where one had to wait long, the other is idle for too long, and neither does."""
+        """Once all have a worker, each sends all its changes. Where one had to wait long, the first is idle for too long, and none does."""
         with contextlib.ExitStack() as kept:
-            both = [kept.enter_context(Client(self.port)) for _ in self.first]
-            found = [both[0].ask_all([self.first[0]])]
+            clients = [kept.enter_context(Client(self.port)) for _ in self.first]
+            found = [clients[0].ask_all([self.first[0]])]
             answered = time.monotonic()
-            found.append(both[1].ask_all([self.first[1]]))
+            found += [client.ask_all([first]) for client, first in zip(clients[1:], self.first[1:])]
             self.sessions += found
             sent = time.monotonic()
             if sent - answered < WAITS:
-                for client, changes in zip(both, self.changes):
+                for client, changes in zip(clients, self.changes):
                     client.send(b"".join(changes))
-                for client, changes, session in zip(both, self.changes, found):
+                for client, changes, session in zip(clients, self.changes, found):
                     session += client.answers_to(changes, sent)
-            for it in both:
+            for it in clients:
                 it.finish()
 
 
@@ -191,7 +192,7 @@ def main():
     parser.add_argument("--program", default=PROGRAM, help="the program and its first words, as a shell would read them")
     parser.add_argument("--seconds", type=float, default=SECONDS)
     parser.add_argument("--seed", default="1")
-    parser.add_argument("--workers", type=int, default=8, help=f"two at least where it lasts {LONG} seconds, or no change meets another")
+    parser.add_argument("--workers", type=int, default=8, help=f"three at least where it lasts {LONG} seconds, or no change is overtaken twice")
     parser.add_argument("--clients", type=int, default=10)
     asked = parser.parse_args()
     program = shlex.split(asked.program)

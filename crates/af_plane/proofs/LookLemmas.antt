@@ -1,12 +1,11 @@
 -- Turns that read, and turns of a session that has looked before.
-use Rattle.std.proofs.Common.{◌≡◌, ◌∙◌, inl, inr, ⊎_elim, refl, sym, ap, subst, ℕ, ◌<◌, Bool, true, false, true≢false, ◌&&◌, arith}
+use Rattle.std.proofs.Common.{◌≡◌, ◌∙◌, inl, inr, ⊎_elim, refl, sym, ap, subst, ℕ, Bool, true, false, true≢false, ◌&&◌, arith}
 use Rattle.std.specs.Prelude.{Some, not}
 use mathlib.Core.List.{IsPrefix}
 use Rattle.af_prefixes.proofs.PrefixLemmas.{prefix_trans}
 use Rattle.af_tally.specs.Known.{Known}
 use Rattle.af_ops.specs.declared.call.Call.{Call}
 use Rattle.af_ops.specs.declared.call.Call.TheVariants as call
-use Rattle.af_ops.specs.declared.op.Op.{Op}
 use Rattle.af_ops.specs.declared.served.Served.{Served}
 use Rattle.af_ops.specs.Endpoints.{endpoint_of}
 use Rattle.af_ops.specs.Table.{is_open, reads_only}

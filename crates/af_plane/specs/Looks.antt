@@ -79,6 +79,14 @@ pub record HasOnlyLooked (was now : Visit) : Type 0 where
   pub entries : now.entries ≡ was.entries
   pub grounds : now.grounds ≡ was.grounds
 
+-- a session has looked, once or more often, and done nothing else
+pub record HasWatched (was now : Visit) : Type 0 where
+  pub longer : IsPrefix was.pass.places now.pass.places
+  pub steps : was.pass.steps < now.pass.steps
+  pub deeds : now.pass.deeds ≡ was.pass.deeds
+  pub entries : now.entries ≡ was.entries
+  pub grounds : now.grounds ≡ was.grounds
+
 -- A session has visited a plane, which did not look: both are over one board and one keeper still, and have seen the same of both, and all
 -- that either had seen; the session holds the mark that it had.
 pub record HasVisited (site : Site) (id : TableId) (old : PlaneRows) (was : Visit) (new : PlaneRows) (now : Visit) : Type 0 where

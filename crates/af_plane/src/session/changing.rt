@@ -1,4 +1,4 @@
-ghost use Rattle.std.specs.Prelude.{◌≡◌, ◌+◌, ◌<◌, ◌≤◌, List, Option, ℕ, length, IfErr, IfOk, IfSome, Some};
+ghost use Rattle.std.specs.Prelude.{◌≡◌, ◌+◌, ◌<◌, ◌≤◌, List, Option, ℕ, length, true, IfErr, IfNone, IfOk, IfSome, Some};
 ghost use Rattle.std.specs.Option.{option_copied};
 ghost use mathlib.Core.List.{IsPrefix};
 ghost use Rattle.af_policy.specs.Identity.{bearer_of};
@@ -13,7 +13,7 @@ ghost use Rattle.af_board.specs.Faults.{Explains, mark_of};
 ghost use Rattle.af_board.specs.Marks.{HasSeen, IsLast, IsOf, Site, policy_of};
 ghost use Rattle.af_plane.specs.declared.grounds.Grounds.TheVariants as grounds;
 ghost use Rattle.af_plane.specs.Administered.{IsGiven, IsGivenOn, IsRefused, full_ground};
-ghost use Rattle.af_plane.specs.Looks.{HasSame, IsOn, base_of, versions_made};
+ghost use Rattle.af_plane.specs.Looks.{HasSame, HasWatched, IsOn, base_of, versions_made};
 
 use crate::grounds::Grounds;
 use crate::session::Session;
@@ -24,8 +24,8 @@ use std::alloc::Global;
 use std::sync::Wait;
 
 impl Session {
-    /// Makes the next version of the policy by a change, or reports why there is none. `NotFound` if the policy of the last version is not to
-    /// be had.
+    /// Makes the next version of the policy by a change, or reports why there is none. A change that another one overtakes is tried once more,
+    /// under the version that there is then. `NotFound` if the policy of the last version is not to be had.
     pub(crate) fn change<R: Wait>(
         &mut self,
         rt: &R,
@@ -41,14 +41,42 @@ impl Session {
         ensures given { IfOk result (λ gave. IsGivenOn board.now (option_copied token.entry) (asks.Change ask.now) self.old gave self.new self.new.grounds) }
         ensures missed { IfErr result (λ _. (self.new.grounds ≡ self.old.grounds) × (1 < length self.new.pass.places) × (self.new.pass.deeds ≡ self.old.pass.deeds) × (self.old.pass.steps < self.new.pass.steps)) }
     {
+        if let Some(served) = self.try_change(rt, alloc, board, token, ask, true)? {
+            return Ok(served);
+        }
+        let Some(served) = self.try_change(rt, alloc, board, token, ask, false)? else {
+            unreachable!()
+        };
+        Ok(served)
+    }
+
+    /// Tries to make the next version once. None if another change overtook this one, and it is to be tried again: then the session has only
+    /// looked.
+    fn try_change<R: Wait>(
+        &mut self,
+        rt: &R,
+        alloc: Global,
+        board: &Board,
+        token: Option<&Presented<'_>>,
+        ask: &Ask,
+        again: bool,
+    ) -> Result<Option<Served>, NotFound>
+        requires { IsOn board.now self.old }
+        ensures on { IsOn board.now self.new }
+        ensures longer { IsPrefix self.old.pass.places self.new.pass.places }
+        ensures entries { self.new.entries ≡ self.old.entries }
+        ensures given { IfOk result (λ tried. IfSome tried (λ gave. IsGivenOn board.now (option_copied token.entry) (asks.Change ask.now) self.old gave self.new self.new.grounds)) }
+        ensures overtaken { IfOk result (λ tried. IfNone tried ((again ≡ true) × HasWatched self.old self.new)) }
+        ensures missed { IfErr result (λ _. HasWatched self.old self.new × (1 < length self.new.pass.places)) }
+    {
         match board.draft(rt, alloc, &mut self.pass, token, ask) {
             Ok(draft) => {
                 self.compare(board, draft.base());
-                Ok(self.publish(alloc, board, ask, draft))
+                Ok(self.publish(alloc, board, ask, draft, again))
             }
             Err(fault) => {
                 self.compare_base(board, &fault);
-                self.refuse(alloc, ask, fault)
+                Ok(Some(self.refuse(alloc, ask, fault)?))
             }
         }
     }
@@ -64,8 +92,16 @@ impl Session {
         }
     }
 
-    /// Publishes a draft of what was asked. The text of the reply is made before that.
-    fn publish(&mut self, alloc: Global, board: &Board, ask: &Ask, draft: Draft) -> Served
+    /// Publishes a draft of what was asked. The text of the reply is made before that. None if another version was published after its base,
+    /// and the change is to be tried again: then the session holds what it held.
+    fn publish(
+        &mut self,
+        alloc: Global,
+        board: &Board,
+        ask: &Ask,
+        draft: Draft,
+        again: bool,
+    ) -> Option<Served>
         requires on { IsOn board.now self.old }
         requires draft { IsDraft board.now draft }
         requires last { IsLast board.now self.old.pass draft.base }
@@ -73,27 +109,29 @@ impl Session {
         ensures on { IsOn board.now self.new }
         ensures longer { IsPrefix self.old.pass.places self.new.pass.places }
         ensures entries { self.new.entries ≡ self.old.entries }
-        ensures base { base_of self.new.grounds ≡ draft.base }
-        ensures deeds { self.new.pass.deeds ≡ self.old.pass.deeds + versions_made self.new.grounds }
+        ensures base { IfSome result (λ _. base_of self.new.grounds ≡ draft.base) }
+        ensures deeds { IfSome result (λ _. self.new.pass.deeds ≡ self.old.pass.deeds + versions_made self.new.grounds) }
         ensures steps { self.old.pass.steps ≤ self.new.pass.steps }
-        ensures given { (token : Option (List ℕ)) → bearer_of (policy_of board.now draft.base) token ≡ Some draft.author → IsGiven board.now token (asks.Change ask.now) result self.new self.new.grounds }
+        ensures given { (token : Option (List ℕ)) → bearer_of (policy_of board.now draft.base) token ≡ Some draft.author → IfSome result (λ gave. IsGiven board.now token (asks.Change ask.now) gave self.new self.new.grounds) }
+        ensures overtaken { IfNone result ((again ≡ true) × HasWatched self.old self.new) }
     {
         let base = draft.base().again();
         let version = u64::from(base.version()) + 1;
         let Ok(reply) = asked_text(alloc, draft.policy(board), ask, version) else {
             self.grounds = Grounds::Under(base);
-            return Served::NothingDone;
+            return Some(Served::NothingDone);
         };
         match board.publish(&mut self.pass, draft) {
             Ok(receipt) => {
                 let shown = shown_made(receipt.mark().version(), reply);
                 self.grounds = Grounds::Made(receipt);
-                Served::Shown(shown)
+                Some(Served::Shown(shown))
             }
+            Err(_) if again => None,
             Err(_) => {
                 self.grounds = Grounds::Overtaken(base);
                 let (version, _) = self.seen();
-                serve_fault(alloc, ask, &Refusal::Moved(version), version)
+                Some(serve_fault(alloc, ask, &Refusal::Moved(version), version))
             }
         }
     }

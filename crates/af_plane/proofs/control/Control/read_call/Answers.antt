@@ -1,6 +1,3 @@
-use Rattle.std.proofs.Common.{subst}
-use Rattle.af_plane.specs.Names.{IsCall}
-use Rattle.af_plane.specs.Visits.{VisitorRows}
 use Rattle.af_plane.proofs.LookLemmas.{call_after_look}
 use Rattle.af_plane.proofs.control.Control.read_call.Goals as goal
 

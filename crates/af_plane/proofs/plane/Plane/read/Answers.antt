@@ -1,8 +1,8 @@
-use Rattle.std.proofs.Common.{◌∙◌, ap, subst, sym, refl, arith}
+use Rattle.std.proofs.Common.{ap, subst, refl, arith}
 use Rattle.af_policy.specs.Rows.{PolicyRows}
 use Rattle.std.specs.Prelude.{Some}
 use Rattle.af_plane.specs.Planes.{Applies}
-use Rattle.af_plane.specs.Visits.{PlaneRows, Visit}
+use Rattle.af_plane.specs.Visits.{PlaneRows}
 use Rattle.af_plane.proofs.LookLemmas.{read_turn}
 use Rattle.af_plane.proofs.plane.Plane.read.Goals as goal
 
