@@ -40,7 +40,7 @@ impl Attended {
         let mut served = Served::new();
         for count in 0..most {
             match rt.accept(port) {
-                Ok(guest) => guest.converse(rt, &mut room, patience, service, &mut served),
+                Ok(guest) => guest.converse(rt, port, &mut room, patience, service, &mut served),
                 Err(error) => {
                     return Attended {
                         connections: count,

@@ -1,6 +1,7 @@
 ghost use Rattle.std.specs.Prelude.{◌≡◌, [], ◌++◌, ◌∷◌};
 ghost use Rattle.af_server.specs.Attendances.{Converses};
 
+use crate::caller::Caller;
 use crate::patience::Patience;
 use crate::peer::{Peer, part};
 use crate::port::Port;
@@ -38,11 +39,12 @@ impl Guest {
         }
     }
 
-    /// Serves the connection from its first byte to its last, in the room of the one before it. If the server is the first to end it, it
-    /// takes leave of the peer.
+    /// Serves the connection from its first byte to its last, in the room of the one before it, among the guests of a port. If the server is the
+    /// first to end it, it takes leave of the peer.
     pub fn converse<R: Clock, S: Service>(
         self,
         rt: &R,
+        at: &Port,
         room: &mut Room,
         patience: Duration,
         service: &mut S,
@@ -52,14 +54,17 @@ impl Guest {
         ensures served { served.new.items ≡ served.old.items ++ (self, tt) ∷ [] }
     {
         let Guest { stream, port } = self;
-        serve_stream(rt, room, &stream, patience, service);
+        at.seat();
+        serve_stream(rt, at, room, &stream, patience, service);
+        at.unseat();
         *served = served.and(&port, &());
     }
 }
 
-/// Serves what comes on a stream.
+/// Serves what comes on a stream from this port.
 fn serve_stream<R: Clock, S: Service>(
     rt: &R,
+    at: &Port,
     room: &mut Room,
     stream: &TcpStream,
     patience: Duration,
@@ -70,7 +75,7 @@ fn serve_stream<R: Clock, S: Service>(
     // What is written goes out at once. Where that can't be set, answers are only later.
     let _ = stream.set_nodelay(true);
     let patience = Patience::new(rt, patience);
-    let mut reader = Counted::new(Peer::new(rt, stream, &patience));
+    let mut reader = Counted::new(Caller::new(Peer::new(rt, stream, &patience), at));
     let mut writer = Counted::new(Peer::new(rt, stream, &patience));
     match room.serve(&mut reader, &mut writer, service) {
         Ended::ReadFault | Ended::WriteFault => {}

@@ -4,6 +4,7 @@
 
 mod attendance;
 mod attended;
+mod caller;
 mod clock;
 mod command;
 mod config;
@@ -34,6 +35,7 @@ mod telling;
 mod ticker;
 mod verdict;
 mod verifying;
+mod vigil;
 mod waiting;
 pub mod worked;
 mod worker;
