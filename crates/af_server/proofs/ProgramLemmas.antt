@@ -1,6 +1,6 @@
 -- A file that is never refused is read.
 use Rattle.std.proofs.Common.{◌≡◌, ◌∙◌, inl, inr, ap, ℕ, List, Bool}
-use Rattle.std.specs.Prelude.{Option, Result, Ok, Err, IsOk}
+use Rattle.std.specs.Prelude.{Result, Ok, Err, IsOk}
 use Rattle.std.specs.declared.io.ErrorKind.{ErrorKind}
 use Rattle.af_http.specs.declared.ended.Ended.{Ended}
 use Rattle.af_server.specs.declared.reason.Reason.{Reason}

@@ -1,6 +1,5 @@
 -- The calls of a connection, with what others publish between them, are one run of the world.
 use Rattle.std.proofs.Common.{◌≡◌, ◌∙◌, refl, sym, ap, subst, ℕ, List, [], ◌∷◌, ◌++◌}
-use Rattle.af_ops.specs.declared.served.Served.{Served}
 use Rattle.af_audit.specs.Acts.{IsState}
 use Rattle.af_audit.specs.Ledgers.{Climb}
 use Rattle.af_plane.specs.Events as events
