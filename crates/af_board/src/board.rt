@@ -16,11 +16,20 @@ use std::marker::Model;
 /// The version word names the last version and the place of its policy. Place 0 is the opening policy, which is not in the table; place
 /// n + 1 is index n of the table. A policy is compiled and pushed to the table before its place is published, so a place whose
 /// publication failed stays used up. Each call says which kinds of atomic step it takes on the word; a push takes none.
-#[derive(Drop)]
 pub struct Board {
     pub(crate) word: VersionWord,
     pub(crate) table: boxcar::Vec<Compiled>,
     opening: Compiled,
+}
+
+impl Drop for Board {
+    fn drop(self) {
+        let Board {
+            word: _,
+            table: _,
+            opening: _,
+        } = self;
+    }
 }
 
 impl Model for Board {

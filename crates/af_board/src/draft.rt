@@ -1,7 +1,7 @@
-ghost use Rattle.std.specs.Prelude.{◌≡◌};
+ghost use Rattle.std.specs.Prelude.{◌≡◌, Some};
 ghost use Rattle.boxcar.specs.Table.{Shows};
 
-use crate::{Board, Mark};
+use crate::{Board, Mark, Receipt};
 use af_mask::Compiled;
 use af_names::UserName;
 use af_policy::{Change, Policy};
@@ -9,13 +9,24 @@ use boxcar::Pushed;
 use std::marker::Model;
 
 /// A change that was decided under a version, and the policy that it makes, which is compiled, is in the board's table and is no version yet.
-#[derive(Drop)]
 pub struct Draft {
     pub(crate) author: UserName,
     pub(crate) change: Change,
     pub(crate) base: Mark,
     pub(crate) place: u32,
     pub(crate) pushed: Pushed<Compiled>,
+}
+
+impl Drop for Draft {
+    fn drop(self) {
+        let Draft {
+            author: _,
+            change: _,
+            base: _,
+            place: _,
+            pushed: _,
+        } = self;
+    }
 }
 
 impl Model for Draft {
@@ -46,6 +57,33 @@ impl Draft {
         ensures { result.now ≡ self.now.base }
     {
         &self.base
+    }
+
+    /// The receipt of the version of this number, which the draft has become.
+    pub(crate) fn published(self, version: u32) -> Receipt
+        ensures { result ≡ record {
+          author = self.author;
+          change = self.change;
+          base = self.base;
+          mark = record { version = version; token = Some self.pushed };
+        } }
+    {
+        let Draft {
+            author,
+            change,
+            base,
+            place: _,
+            pushed,
+        } = self;
+        Receipt {
+            author,
+            change,
+            base,
+            mark: Mark {
+                version,
+                token: Some(pushed),
+            },
+        }
     }
 
     /// The policy that the change makes. The board is the one on which the draft was made.

@@ -6,10 +6,18 @@ use std::marker::Model;
 
 /// A version of a board: its number, and the table's token of its policy. Version 0 has no token, since the opening policy is not in the
 /// table. `Board::policy` and `Board::compiled` lend what a mark names, without a look-up that could fail.
-#[derive(Drop)]
 pub struct Mark {
     pub(crate) version: u32,
     pub(crate) token: Option<Pushed<Compiled>>,
+}
+
+impl Drop for Mark {
+    fn drop(self) {
+        let Mark {
+            version: _,
+            token: _,
+        } = self;
+    }
 }
 
 impl Model for Mark {

@@ -8,7 +8,7 @@ ghost use Rattle.af_board.specs.Marks.{HasSeen, IsLast, policy_of};
 ghost use Rattle.af_board.specs.Drafts.{IsDraft, IsReceipt, Publishes};
 ghost use Rattle.af_board.specs.Faults.{MovedOr, MovedPast, steps_of};
 
-use crate::{Board, Draft, Mark, Receipt, SubmitFault};
+use crate::{Board, Draft, Receipt, SubmitFault};
 use af_policy::{Ask, Presented};
 use af_word::{Pass, PublishFault};
 use std::alloc::Global;
@@ -29,23 +29,8 @@ impl Board {
         ensures looked { IfErr result (λ _. Looked pass.old pass.new) }
         ensures err { IfErr result (λ f. MovedPast draft pass.new f) }
     {
-        let Draft {
-            author,
-            change,
-            base,
-            place,
-            pushed,
-        } = draft;
-        match self.word.publish(pass, base.version(), place) {
-            Ok(version) => Ok(Receipt {
-                author,
-                change,
-                base,
-                mark: Mark {
-                    version,
-                    token: Some(pushed),
-                },
-            }),
+        match self.word.publish(pass, draft.base.version(), draft.place) {
+            Ok(version) => Ok(draft.published(version)),
             Err(PublishFault::Moved { version, index: _ }) => Err(SubmitFault::Moved { version }),
             Err(PublishFault::Last) => unreachable!(),
         }

@@ -6,12 +6,22 @@ use af_policy::Change;
 use std::marker::Model;
 
 /// A change that made a version: its author, the change, the version under which it was decided, and the version that it made.
-#[derive(Drop)]
 pub struct Receipt {
     pub(crate) author: UserName,
     pub(crate) change: Change,
     pub(crate) base: Mark,
     pub(crate) mark: Mark,
+}
+
+impl Drop for Receipt {
+    fn drop(self) {
+        let Receipt {
+            author: _,
+            change: _,
+            base: _,
+            mark: _,
+        } = self;
+    }
 }
 
 impl Model for Receipt {

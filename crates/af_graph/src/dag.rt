@@ -18,10 +18,15 @@ use std::alloc::{AllocError, Global};
 use std::marker::Model;
 
 /// A DAG: a definition without a fault, with its graph worked out. Contracts see it as the definition.
-#[derive(Drop)]
 pub struct Dag {
     spec: DagSpec,
     wiring: Wiring,
+}
+
+impl Drop for Dag {
+    fn drop(self) {
+        let Dag { spec: _, wiring: _ } = self;
+    }
 }
 
 impl Model for Dag {

@@ -11,9 +11,14 @@ use std::alloc::AllocError;
 use std::marker::Model;
 
 /// A policy as it is published. Contracts see it as the policy that it keeps.
-#[derive(Drop)]
 pub struct Compiled {
     policy: Policy,
+}
+
+impl Drop for Compiled {
+    fn drop(self) {
+        let Compiled { policy: _ } = self;
+    }
 }
 
 impl Model for Compiled {

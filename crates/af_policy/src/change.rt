@@ -8,17 +8,24 @@ use af_role::{AccessControl, PairTexts};
 use std::alloc::{AllocError, Global};
 
 /// A role as it is to be: its name, and its permissions as they were given.
-#[derive(Drop)]
 pub struct RoleInput {
     pub name: RoleName,
     pub actions: PairTexts,
+}
+
+impl Drop for RoleInput {
+    fn drop(self) {
+        let RoleInput {
+            name: _,
+            actions: _,
+        } = self;
+    }
 }
 
 /// Names of roles, in the order in which they were given.
 pub type RoleNames = Items<RoleName>;
 
 /// What is to be another of the user of a name; what is None stays.
-#[derive(Drop)]
 pub struct UserPatch {
     pub name: UserName,
     /// The SHA-256 of the user's token.
@@ -26,15 +33,29 @@ pub struct UserPatch {
     pub roles: Option<RoleNames>,
 }
 
+impl Drop for UserPatch {
+    fn drop(self) {
+        let UserPatch {
+            name: _,
+            digest: _,
+            roles: _,
+        } = self;
+    }
+}
+
 /// Which roles are to have which actions on a DAG. Without access control they stay as they are.
-#[derive(Drop)]
 pub struct DagAccess {
     pub dag: DagId,
     pub access: Option<AccessControl>,
 }
 
+impl Drop for DagAccess {
+    fn drop(self) {
+        let DagAccess { dag: _, access: _ } = self;
+    }
+}
+
 /// A change of a policy.
-#[derive(Drop)]
 pub enum Change {
     /// A further role.
     AddRole(RoleInput),
@@ -50,6 +71,20 @@ pub enum Change {
     DropUser(UserName),
     /// The access control of a DAG, whether there is such a DAG or not.
     SyncDag(DagAccess),
+}
+
+impl Drop for Change {
+    fn drop(self) {
+        match self {
+            Change::AddRole(_) => {}
+            Change::SetRole(_) => {}
+            Change::DropRole(_) => {}
+            Change::AddUser(_) => {}
+            Change::SetUser(_) => {}
+            Change::DropUser(_) => {}
+            Change::SyncDag(_) => {}
+        }
+    }
 }
 
 impl Change {

@@ -14,10 +14,15 @@ use std::alloc::{AllocError, Global};
 use std::marker::Model;
 
 /// A role with the mask of its permissions. Contracts see it as the role.
-#[derive(Drop)]
 pub(crate) struct MaskedRole {
     role: Role,
     mask: Mask,
+}
+
+impl Drop for MaskedRole {
+    fn drop(self) {
+        let MaskedRole { role: _, mask: _ } = self;
+    }
 }
 
 impl Model for MaskedRole {

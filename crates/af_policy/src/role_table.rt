@@ -31,10 +31,18 @@ use std::sync::Arc;
 
 /// The roles of a policy, found by name in steps that grow with the logarithm of their number. Tables of different versions
 /// share the roles that they have in common. Contracts see it as the roles' rows, in byte order of their names.
-#[derive(Drop)]
 pub(crate) struct RoleTable {
     alloc: Global,
     by_name: Table<RoleByName>,
+}
+
+impl Drop for RoleTable {
+    fn drop(self) {
+        let RoleTable {
+            alloc: _,
+            by_name: _,
+        } = self;
+    }
 }
 
 impl Model for RoleTable {

@@ -21,11 +21,20 @@ use std::marker::Model;
 
 /// The tables of a policy: its users, its roles, and how often the users name each role. Contracts see them as the rows of
 /// users and roles.
-#[derive(Drop)]
 pub(crate) struct Tables {
     pub(crate) users: UserTable,
     pub(crate) roles: RoleTable,
     uses: Uses,
+}
+
+impl Drop for Tables {
+    fn drop(self) {
+        let Tables {
+            users: _,
+            roles: _,
+            uses: _,
+        } = self;
+    }
 }
 
 impl Model for Tables {

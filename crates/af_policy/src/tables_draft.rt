@@ -12,10 +12,15 @@ use std::marker::Model;
 use std::sync::Arc;
 
 /// The tables of a policy that is put together: its users and its roles. Contracts see them as the rows of users and roles.
-#[derive(Drop)]
 pub(crate) struct TablesDraft {
     pub(crate) users: UserDraft,
     pub(crate) roles: RoleTable,
+}
+
+impl Drop for TablesDraft {
+    fn drop(self) {
+        let TablesDraft { users: _, roles: _ } = self;
+    }
 }
 
 impl Model for TablesDraft {

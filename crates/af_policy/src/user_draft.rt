@@ -21,10 +21,18 @@ use std::sync::Arc;
 
 /// The users of a policy that is put together. No older version shares them, so each is added in place; at the end they
 /// become a table, which looks at each once. Contracts see it as the users' rows, in byte order of their names.
-#[derive(Drop)]
 pub(crate) struct UserDraft {
     by_name: BTreeMap<Fronted<Arc<User>>, ByDigest>,
     by_digest: BTreeMap<Fronted<[u8; 32]>, ByDigest>,
+}
+
+impl Drop for UserDraft {
+    fn drop(self) {
+        let UserDraft {
+            by_name: _,
+            by_digest: _,
+        } = self;
+    }
 }
 
 impl Model for UserDraft {

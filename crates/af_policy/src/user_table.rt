@@ -21,10 +21,18 @@ use std::sync::Arc;
 /// number. A name leads to the digest, and the digest to the user. So the table of names stays shared where only roles change, which no
 /// clause says. Tables of different versions share the users that they have in common. Contracts see it as the users' rows, in byte
 /// order of their names.
-#[derive(Drop)]
 pub(crate) struct UserTable {
     by_name: Table<ByName>,
     by_digest: Table<ByDigest>,
+}
+
+impl Drop for UserTable {
+    fn drop(self) {
+        let UserTable {
+            by_name: _,
+            by_digest: _,
+        } = self;
+    }
 }
 
 impl Model for UserTable {

@@ -85,9 +85,14 @@ impl Row for RoleUse {
 
 /// How often the users of a policy name each role, so that no change looks at all users. Of the default roles only Admin is counted, since
 /// no default role is ever deleted. Contracts see it as rows of names and counts.
-#[derive(Drop)]
 pub(crate) struct Uses {
     counts: Table<RoleUse>,
+}
+
+impl Drop for Uses {
+    fn drop(self) {
+        let Uses { counts: _ } = self;
+    }
 }
 
 impl Model for Uses {

@@ -5,10 +5,15 @@ use af_names::PoolName;
 use std::alloc::{AllocError, Global};
 
 /// One pool: its name, and its slots, 0 to 1,000,000.
-#[derive(Drop)]
 pub struct Pool {
     pub name: PoolName,
     pub slots: u32,
+}
+
+impl Drop for Pool {
+    fn drop(self) {
+        let Pool { name: _, slots: _ } = self;
+    }
 }
 
 impl Pool {

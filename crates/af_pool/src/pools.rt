@@ -25,9 +25,14 @@ pub const MOST_POOLS: usize = 65_536;
 
 /// The pools, by name in byte order. Contracts see them as that list of rows, beside the number of rows for which
 /// memory is reserved.
-#[derive(Drop)]
 pub struct Pools {
     rows: Ordered<Pool>,
+}
+
+impl Drop for Pools {
+    fn drop(self) {
+        let Pools { rows: _ } = self;
+    }
 }
 
 impl Model for Pools {

@@ -16,9 +16,14 @@ pub const MOST_VARIABLES: usize = 65_536;
 
 /// The variables, by key in byte order. Contracts see them as that list of rows, beside the number of rows for which
 /// memory is reserved.
-#[derive(Drop)]
 pub struct Variables {
     rows: Ordered<Variable>,
+}
+
+impl Drop for Variables {
+    fn drop(self) {
+        let Variables { rows: _ } = self;
+    }
 }
 
 impl Model for Variables {

@@ -10,10 +10,15 @@ use std::marker::Model;
 
 /// Rows in the order of their keys, found in steps that grow with the logarithm of their number. A table with one row more
 /// or one less shares all others with the table that it was made of, which stays as it is. Contracts see it as its rows.
-#[derive(Drop)]
 pub struct Table<T: Row> {
     root: Link<T>,
     len: usize,
+}
+
+impl<T: Row> Drop for Table<T> {
+    fn drop(self) {
+        let Table { root: _, len: _ } = self;
+    }
 }
 
 impl<T: Row> Model for Table<T> {
