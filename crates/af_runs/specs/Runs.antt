@@ -32,6 +32,10 @@ is_run dag_id run_id run = same_name run.dag_id dag_id && same_name run.run_id r
 abbrev pub is_dated : List ℕ → ℕ → Run → Bool
 is_dated dag_id date run = same_name run.dag_id dag_id && (run.logical_date == date)
 
+-- whether the DAG has a run of this id, or one of this logical date
+abbrev pub is_taken : List Run → List ℕ → List ℕ → ℕ → Bool
+is_taken runs dag_id run_id date = list_any (is_run dag_id run_id) runs || list_any (is_dated dag_id date) runs
+
 -- whether the run has this number
 abbrev pub is_numbered : ℕ → Run → Bool
 is_numbered number run = run.number == number
@@ -62,6 +66,10 @@ is_finished Failed = true
 -- whether the DAG has as many runs as it may have, or no number is left for another
 abbrev pub is_full : List Run → ℕ → List ℕ → Bool
 is_full runs next dag_id = nat_le 65_536 (length (runs_of runs dag_id)) || nat_le (2 ^ 64) next
+
+-- whether the DAG may have so many more runs, and as many numbers are left for them
+abbrev pub has_room : List Run → ℕ → List ℕ → ℕ → Bool
+has_room runs next dag_id count = nat_le (length (runs_of runs dag_id) + count) 65_536 && nat_le (next + count) (2 ^ 64)
 
 -- why a run of these ids and this logical date is not added, memory aside: the first of these faults
 abbrev pub add_fault : List Run → ℕ → List ℕ → List ℕ → ℕ → Option RunFault

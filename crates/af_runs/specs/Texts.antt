@@ -4,7 +4,7 @@ use Rattle.std.specs.Cmp.Lexicographic.{pointwise}
 use Rattle.af_runs.specs.declared.run_state.RunState.{RunState}
 use Rattle.af_runs.specs.declared.run_state.RunState.TheVariants.{Queued, Running, Success, Failed}
 use Rattle.af_runs.specs.declared.run_type.RunType.{RunType}
-use Rattle.af_runs.specs.declared.run_type.RunType.TheVariants.{Manual, Scheduled}
+use Rattle.af_runs.specs.declared.run_type.RunType.TheVariants.{Manual, Scheduled, Backfill}
 
 abbrev pub state_text : RunState → List ℕ
 state_text Queued = codes "queued"
@@ -22,9 +22,10 @@ state_of text = find (λ state. pointwise nat_eq (state_text state) text) states
 abbrev pub type_text : RunType → List ℕ
 type_text Manual = codes "manual"
 type_text Scheduled = codes "scheduled"
+type_text Backfill = codes "backfill"
 
 abbrev pub types : List RunType
-types = Manual ∷ Scheduled ∷ []
+types = Manual ∷ Scheduled ∷ Backfill ∷ []
 
 -- the type whose text this is
 abbrev pub type_of : List ℕ → Option RunType

@@ -9,12 +9,20 @@ use indexmap::IndexMap;
 use std::alloc::{AllocError, Global};
 
 /// For each code the numbers of the rows of that code, from the last one back to the first. A number is above 0.
-#[derive(Drop)]
 pub(crate) struct Chains {
     /// By code, the number of the last row of that code.
     last: IndexMap<u64, u64>,
     /// At the place of each row the number of the last row of its code before it, 0 where there is none.
     earlier: Vec<u64>,
+}
+
+impl Drop for Chains {
+    fn drop(self) {
+        let Chains {
+            last: _,
+            earlier: _,
+        } = self;
+    }
 }
 
 impl Chains {

@@ -14,13 +14,22 @@ use std::collections::HashMap;
 
 /// The numbers of the runs of each DAG, in order, of the first rows of all. The rows after those are few: they were added
 /// where memory was reserved, and are listed when the next tick is planned, or memory is reserved again.
-#[derive(Drop)]
 pub(crate) struct DagLists {
     alloc: Global,
     /// By the id of a DAG, the numbers of its runs among the rows that are listed.
     lists: HashMap<String, Vec<u64>>,
     /// How many rows are listed, from the first on.
     listed: usize,
+}
+
+impl Drop for DagLists {
+    fn drop(self) {
+        let DagLists {
+            alloc: _,
+            lists: _,
+            listed: _,
+        } = self;
+    }
 }
 
 impl DagLists {

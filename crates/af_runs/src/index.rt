@@ -14,7 +14,6 @@ use crate::run::Run;
 use std::alloc::{AllocError, Global};
 
 /// What stands beside the rows of the runs, so that no look-up goes over all of them.
-#[derive(Drop)]
 pub(crate) struct Index {
     /// By the ids of DAG and run.
     pub(crate) ids: Chains,
@@ -26,6 +25,18 @@ pub(crate) struct Index {
     pub(crate) busy: Vec<u64>,
     /// The numbers of the runs that hold slots, in order.
     pub(crate) holders: Vec<u64>,
+}
+
+impl Drop for Index {
+    fn drop(self) {
+        let Index {
+            ids: _,
+            dates: _,
+            dags: _,
+            busy: _,
+            holders: _,
+        } = self;
+    }
 }
 
 impl Index {

@@ -8,6 +8,8 @@ pub enum RunType {
     Manual,
     /// It fell due by its DAG's schedule.
     Scheduled,
+    /// A user backfilled a range of dates.
+    Backfill,
 }
 
 impl RunType {
@@ -18,6 +20,7 @@ impl RunType {
         match text {
             "manual" => Some(RunType::Manual),
             "scheduled" => Some(RunType::Scheduled),
+            "backfill" => Some(RunType::Backfill),
             _ => None,
         }
     }
@@ -30,6 +33,7 @@ impl RunType {
         match self {
             RunType::Manual => "manual",
             RunType::Scheduled => "scheduled",
+            RunType::Backfill => "backfill",
         }
     }
 }

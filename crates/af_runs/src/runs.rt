@@ -23,12 +23,22 @@ pub(crate) const MORE_RUNS: usize = 64;
 
 /// The runs of all DAGs, in order of number. Contracts see them as that list of rows, each with its instances, beside
 /// the number that the next run gets and the number of rows for which memory is reserved.
-#[derive(Drop)]
 pub struct Runs {
     rows: Vec<Run>,
     last: u64,
     index: Index,
     spare: usize,
+}
+
+impl Drop for Runs {
+    fn drop(self) {
+        let Runs {
+            rows: _,
+            last: _,
+            index: _,
+            spare: _,
+        } = self;
+    }
 }
 
 impl Model for Runs {

@@ -44,6 +44,19 @@ module _ (test : ℕ → Bool) where
   first_in : (count from : ℕ) → test from ≡ true → filter test (range_with_len from (suc count)) ≡ from ∷ filter test (range_with_len (from + 1) count)
   first_in count from is = cond-true _ _ _ is
 
+  -- those that pass are above an instant, so none of them is up to it
+  none_up_to : (last count from : ℕ) → ((x : ℕ) → from ≤ x → x < from + count → test x ≡ true → last < x) → filter (λ x. nat_le x last) (filter test (range_with_len from count)) ≡ []
+  none_up_to last zero from above = refl
+  none_up_to last (suc count) from above =
+      let rest : filter (λ x. nat_le x last) (filter test (range_with_len (from + 1) count)) ≡ [] = none_up_to last count (from + 1) (λ x low high is. above x (omega arith) (omega arith) is) in
+      ⊎_elim
+      (λ (here : test from ≡ true).
+      let late = above from (omega arith) (omega arith) here in
+      let far : nat_le from last ≡ false = grind (arith, nat_tests) in
+      ap (filter (λ x. nat_le x last)) (cond-true _ _ _ here) ∙ cond-false _ _ _ far ∙ rest)
+      (λ (not : test from ≡ false). ap (filter (λ x. nat_le x last)) (cond-false _ _ _ not) ∙ rest)
+      (cases_Bool (test from))
+
   -- the last that passes, where none after it does
   last_in : (count from p : ℕ) (o : Option ℕ) → from ≤ p → p < from + count → test p ≡ true → ((x : ℕ) → p < x → x < from + count → test x ≡ false) → last_or o (filter test (range_with_len from count)) ≡ Some p
   last_in zero from p o low high is none = absurd (omega arith)
@@ -126,6 +139,15 @@ module _ (is_point : ℕ → Bool) (t : ℕ) where
         let far = next.before_others due.end due.next.member (omega arith) in
         let by = due.by in
         absurd (omega arith))
+
+    -- the next point is after an instant
+    pub begins_late : (last p : ℕ) → IsLeastFrom is_point c p → last < p → filter (λ x. nat_le x last) (due_from is_point c t) ≡ []
+    unfolding due_from
+    begins_late last p least late =
+        none_up_to (is_due is_point t) last (t - c) c (λ x from before is.
+        let due = due_is x (omega arith) low is in
+        let up = least.before_others x due.point from in
+        omega arith)
 
     -- the next point ends in time
     pub due_first : (p e : ℕ) → IsLeastFrom is_point c p → IsLeastFrom is_point (p + 1) e → e ≤ t → due_from is_point c t ≡ p ∷ due_from is_point e t

@@ -20,7 +20,9 @@ mod NamedLemmas
 mod NumberLemmas
 mod PassingLemmas
 mod PlanLemmas
+mod PointsLemmas
 mod PooledLemmas
+mod RangeLemmas
 mod RoomLemmas
 mod SeatLemmas
 mod SlotsLawLemmas
@@ -29,6 +31,9 @@ mod StandingLemmas
 mod StillLemmas
 mod TakenLemmas
 mod TickLemmas
+pub mod BackfillLawLemmas
+pub mod BackfillLemmas
+pub mod BackfillPlanLemmas
 pub mod FinishLemmas
 pub mod HeldLawLemmas
 pub mod PlacedLemmas

@@ -40,7 +40,7 @@ gone_more number (x ∷ xs) last below none =
 abbrev pub StaysAway : ℕ → ℕ → StateRows → Type 0
 StaysAway low number state = (low ≤ state.next_run) × (run_at state.runs number ≡ None)
 
-grows_run : (low : ℕ) (state : StateRows) (new : NewRun) → low ≤ state.next_run → low ≤ (with_run state new).next_run
+pub grows_run : (low : ℕ) (state : StateRows) (new : NewRun) → low ≤ state.next_run → low ≤ (with_run state new).next_run
 grows_run low state new least = by (is_none (add_fault state.runs state.next_run new.dag_id new.run_id new.logical_date)) refl
   where
     by : (b : Bool) → is_none (add_fault state.runs state.next_run new.dag_id new.run_id new.logical_date) ≡ b → low ≤ (with_run state new).next_run

@@ -19,8 +19,10 @@ use Rattle.af_runs.specs.Additions.{RunAdditions, together}
 use Rattle.af_runs.specs.Runs.{AreRuns, RunRows, add_fault, queued_run, with_advanced}
 use Rattle.af_runs.specs.declared.new_run.NewRun.{NewRun}
 use Rattle.af_runs.specs.declared.run.Run.{Run}
+use Rattle.af_runs.specs.declared.run_type.RunType.{RunType}
+use Rattle.af_runs.specs.declared.run_type.RunType.TheVariants.{Scheduled}
 use Rattle.af_runs.specs.Busy.{busy_of}
-use Rattle.af_sched.specs.Create.{with_run, with_runs_of, runs_of_row, runs_due, run_for, moved_row, created}
+use Rattle.af_sched.specs.Create.{with_run, with_runs_of, runs_of_row, runs_due, point_run, moved_row, created}
 use Rattle.af_sched.specs.Due.{taken_points}
 use Rattle.af_sched.specs.Moves.{MovesOn}
 use Rattle.af_sched.specs.Plan.{Fits, HasRows, IsPlan, applied, with_cursors}
@@ -52,7 +54,7 @@ found_row dags order k d inside =
     (λ j e low apart. texts_ties (get_or dags j e).dag.dag_id id ∙ search_alone (λ (row : DagRow). row.dag.dag_id) nat_list_cmp_total id dags k order inside (λ f. ap (λ (row : DagRow). slice_cmp nat_cmp row.dag.dag_id id) (get_or-same dags k f d inside) ∙ equal_itself (slice_cmp nat_cmp id id) (nat_list_cmp_total.antisymm id id)) j e low apart)
 
 -- ---- the runs that are added are whole
-abbrev IsWholeFor : List DagRow → NewRun → Type 0
+abbrev pub IsWholeFor : List DagRow → NewRun → Type 0
 IsWholeFor dags new = option_map (λ row. length row.dag.tasks) (dag_of dags new.dag_id) ≡ Some (length new.instances)
 
 module _ (dags : List DagRow) where
@@ -60,25 +62,25 @@ module _ (dags : List DagRow) where
   whole_with true state new here whole = All-push (IsWhole dags) state.runs (queued_run state.next_run new) whole here
   whole_with false state new here whole = whole
 
-  whole_fold : (news : List NewRun) (state : StateRows) → All (IsWholeFor dags) news → All (IsWhole dags) state.runs → All (IsWhole dags) (fold with_run state news).runs
+  pub whole_fold : (news : List NewRun) (state : StateRows) → All (IsWholeFor dags) news → All (IsWhole dags) state.runs → All (IsWhole dags) (fold with_run state news).runs
   whole_fold [] state all whole = whole
   whole_fold (new ∷ news) state all whole =
       whole_fold news (with_run state new) (λ k d inside. all (suc k) d (omega arith))
       (whole_with (is_none (add_fault state.runs state.next_run new.dag_id new.run_id new.logical_date)) state new (all 0 new (omega arith)) whole)
 
-  whole_due : (row : DagRow) (is_point : ℕ → Bool) (points : List ℕ) → dag_of dags row.dag.dag_id ≡ Some row → All (IsWholeFor dags) (map (run_for row.dag is_point) points)
-  whole_due row is_point [] found = All-nil (IsWholeFor dags)
-  whole_due row is_point (p ∷ points) found =
-      All-cons (IsWholeFor dags) (run_for row.dag is_point p) (map (run_for row.dag is_point) points)
+  pub whole_due : (kind : RunType) (row : DagRow) (is_point : ℕ → Bool) (points : List ℕ) → dag_of dags row.dag.dag_id ≡ Some row → All (IsWholeFor dags) (map (point_run kind row.dag is_point) points)
+  whole_due kind row is_point [] found = All-nil (IsWholeFor dags)
+  whole_due kind row is_point (p ∷ points) found =
+      All-cons (IsWholeFor dags) (point_run kind row.dag is_point p) (map (point_run kind row.dag is_point) points)
       (ap (option_map (λ (r : DagRow). length r.dag.tasks)) found ∙ ap Some (sym (length-map row.dag.tasks new_instance)))
-      (whole_due row is_point points found)
+      (whole_due kind row is_point points found)
 
   whole_of_row : (t : ℕ) (row : DagRow) → dag_of dags row.dag.dag_id ≡ Some row → All (IsWholeFor dags) (runs_of_row t row)
   whole_of_row t row found = by row.is_paused row.dag.schedule row.cursor
     where
       due : (schedule : Schedule) (cursor : Option ℕ) → All (IsWholeFor dags) (option_map_or (runs_due t row.dag (is_scheduled schedule)) cursor [])
       due schedule None = All-nil (IsWholeFor dags)
-      due schedule (Some cursor) = whole_due row (is_scheduled schedule) (taken_points row.dag.catchup (is_scheduled schedule) cursor t) found
+      due schedule (Some cursor) = whole_due Scheduled row (is_scheduled schedule) (taken_points row.dag.catchup (is_scheduled schedule) cursor t) found
 
       by : (b : Bool) (schedule : Option Schedule) (cursor : Option ℕ) → All (IsWholeFor dags) (cond b [] (option_map_or (λ s. option_map_or (runs_due t row.dag (is_scheduled s)) cursor []) schedule []))
       by true schedule cursor = All-nil (IsWholeFor dags)

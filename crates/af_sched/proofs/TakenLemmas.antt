@@ -17,7 +17,7 @@ rising_from : (low lower : ℕ) (xs : List ℕ) → lower ≤ low → Rising low
 rising_from low lower [] under rising = tt
 rising_from low lower (x ∷ xs) under rising = (omega (arith, rising.0), rising.1)
 
-rising_range : (test : ℕ → Bool) (count from : ℕ) → Rising from (filter test (range_with_len from count))
+pub rising_range : (test : ℕ → Bool) (count from : ℕ) → Rising from (filter test (range_with_len from count))
 rising_range test zero from = tt
 rising_range test (suc count) from = by (test from) (rising_range test count (from + 1))
   where
@@ -81,7 +81,7 @@ find_low test (suc count) from found is = by (test from) refl (λ later. find_lo
     by true on rest = let here = some_is from found (sym (ap (λ (b : Bool). cond b (Some from) more) on) ∙ is) in omega (arith, here)
     by false off rest = let low = rest (sym (ap (λ (b : Bool). cond b (Some from) more) off) ∙ is) in omega (arith, low)
 
-next_low : (is_point : ℕ → Bool) (at next : ℕ) → next_after is_point at ≡ Some next → at < next
+pub next_low : (is_point : ℕ → Bool) (at next : ℕ) → next_after is_point at ≡ Some next → at < next
 unfolding next_of
 next_low is_point at next is = let low = find_low is_point (last_micros + 1 - (at + 1)) (at + 1) next is in omega (arith, low)
 

@@ -1,6 +1,6 @@
 -- The first phase of a tick: runs are created for points that are due, with catchup for the first of them and without it
 -- for the last (Airflow 2, "DAG Runs"). That one tick takes 16 points at most, and that a point whose run can not be added
--- is passed over, is this product's own rule.
+-- is passed over, is this product's own rule. Backfills make their runs by the same definitions.
 use Rattle.std.specs.Prelude.{ℕ, ◌+◌, List, [], ◌∷◌, ◌++◌, Bool, map, fold, codes, Option, None, unwrap_or, is_none, if◌then◌else◌}
 use Rattle.std.specs.Option.{option_map_or}
 use Rattle.af_names.specs.Isoformat.{isoformat}
@@ -8,24 +8,35 @@ use Rattle.af_graph.specs.declared.dag_spec.DagSpec.{DagSpec}
 use Rattle.af_graph.specs.Schedules.{is_scheduled}
 use Rattle.af_runs.specs.Instances.{new_instances}
 use Rattle.af_runs.specs.Runs.{add_fault, queued_run}
+use Rattle.af_runs.specs.Texts.{type_text}
 use Rattle.af_runs.specs.declared.new_run.NewRun.{NewRun}
+use Rattle.af_runs.specs.declared.run_type.RunType.{RunType}
 use Rattle.af_runs.specs.declared.run_type.RunType.TheVariants.{Scheduled}
 use Rattle.af_sched.specs.Due.{taken_points, moved_cursor, next_after}
 use Rattle.af_sched.specs.State.{StateRows}
 use Rattle.af_sched.specs.declared.dag_row.DagRow.{DagRow}
 
--- the run of a DAG for the interval that begins at a point
-abbrev pub run_for : DagSpec → (ℕ → Bool) → ℕ → NewRun
-run_for dag is_point at = record {
+-- the id of the run of this type and this date: `scheduled__2024-01-01T00:00:00+00:00`
+abbrev pub id_of : RunType → ℕ → List ℕ
+id_of kind date = type_text kind ++ codes "__" ++ isoformat date
+
+-- the run of a DAG, of this type, for the interval that begins at a point. The interval ends at the next point; where there is none it
+-- ends where it begins
+abbrev pub point_run : RunType → DagSpec → (ℕ → Bool) → ℕ → NewRun
+point_run kind dag is_point at = record {
   dag_id = dag.dag_id;
-  run_id = codes "scheduled__" ++ isoformat at;
+  run_id = id_of kind at;
   logical_date = at;
   interval = record { start = at; end = unwrap_or (next_after is_point at) at };
-  run_type = Scheduled;
+  run_type = kind;
   instances = new_instances dag.tasks;
 }
 
--- the state with one more run, unless its id or its date is taken, or its DAG is at its limit of runs
+-- the run of a DAG that falls due for the interval that begins at a point
+abbrev pub run_for : DagSpec → (ℕ → Bool) → ℕ → NewRun
+run_for = point_run Scheduled
+
+-- the state with one more run, unless its id or its date is taken, its DAG is at its limit of runs, or no number is left for it
 abbrev pub with_run : StateRows → NewRun → StateRows
 with_run state new =
     if is_none (add_fault state.runs state.next_run new.dag_id new.run_id new.logical_date)

@@ -1,19 +1,24 @@
 -- Laws about ticks and claims, in words of their own.
 use Rattle.std.specs.Prelude.{ℕ, ◌≡◌, ◌<◌, ◌≤◌, ◌↔◌, ◌+◌, ◌-◌, ◌^◌, ◌&&◌, List, [], Bool, true, false, All, Option, Some, None, MatchOption, filter, length, max, min, Contains, sum_by, zip}
+use Rattle.std.specs.List.Sorted.{IsStrictlySortedBy}
+use Rattle.std.specs.Ordering.{nat_cmp}
+use Rattle.af_names.specs.Instants.{last_micros}
 use Rattle.af_graph.specs.Definition.{fault_of}
 use Rattle.af_graph.specs.Graph.{same_name}
 use Rattle.af_graph.specs.States.{same_state}
+use Rattle.af_graph.specs.declared.dag_spec.DagSpec.{DagSpec}
 use Rattle.af_graph.specs.declared.task_spec.TaskSpec.{TaskSpec}
 use Rattle.af_graph.specs.declared.task_state.TaskState.{TaskState}
 use Rattle.af_graph.specs.declared.task_state.TaskState.TheVariants.{Queued, Running}
 use Rattle.af_pool.specs.Pools.{has_pool, slots_of}
 use Rattle.af_runs.specs.Busy.{busy_of, holders_of}
-use Rattle.af_runs.specs.Runs.{AreRuns, is_finished, run_at, without_run}
+use Rattle.af_runs.specs.Runs.{AreRuns, has_room, is_finished, run_at, without_run}
 use Rattle.af_runs.specs.declared.instance.Instance.{Instance}
 use Rattle.af_runs.specs.declared.run.Run.{Run}
+use Rattle.af_sched.specs.Backfills.{Backfills, backfill_runs, backfilled, is_free, points_within}
 use Rattle.af_sched.specs.Claims.{Claims, ClaimsNone, IsNextClaim}
 use Rattle.af_sched.specs.Create.{runs_of_row}
-use Rattle.af_sched.specs.Due.{moved_cursor, taken_points}
+use Rattle.af_sched.specs.Due.{moved_cursor, next_after, taken_points}
 use Rattle.af_sched.specs.Finish.{ends}
 use Rattle.af_sched.specs.Placed.{Placed, placed_in}
 use Rattle.af_sched.specs.Holding.{held_of}
@@ -124,3 +129,18 @@ HeldSlotsAreThoseOfInstances =
     (state : StateRows) (name : List ℕ) → has_pool state.pools name ≡ true
     → (held_of state name ≡ record { queued = min (slots_in_runs Queued state name) (2 ^ 64 - 1); running = min (slots_in_runs Running state name) (2 ^ 64 - 1) })
     × (slots_in_runs Queued state name + slots_in_runs Running state name ≡ occupied state.dags state.runs name)
+
+-- the points of a range are in rising order. They are the points of the schedule from the first date to the last one, both included,
+-- that have a next point which is an instant
+abbrev pub PointsOfARange : Type 0
+PointsOfARange =
+    (is_point : ℕ → Bool) (first last : ℕ)
+    → IsStrictlySortedBy nat_cmp (points_within is_point first last)
+    × ((at : ℕ) → Contains (points_within is_point first last) at ↔ ((is_point at ≡ true) × (first ≤ at) × (at ≤ last) × ((end : ℕ) × (next_after is_point at ≡ Some end) × (end ≤ last_micros))))
+
+-- a backfill fills its range, where there is room for all its runs whose ids and dates are free
+abbrev pub BackfillFillsItsRange : Type 0
+BackfillFillsItsRange =
+    (dag : DagSpec) (is_point : ℕ → Bool) (first last : ℕ) (state : StateRows)
+    → has_room state.runs state.next_run dag.dag_id (length (filter (is_free state) (backfill_runs dag is_point first last))) ≡ true
+    → Backfills dag is_point first last state (backfilled state (backfill_runs dag is_point first last))

@@ -1,4 +1,5 @@
 pub mod Additions
+pub mod Backfills
 pub mod Choosing
 pub mod Claims
 pub mod Counting

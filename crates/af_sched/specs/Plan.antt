@@ -1,4 +1,4 @@
--- What a tick will leave of a state, worked out before it is done (this product's own rule).
+-- What a tick or a backfill will leave of a state, worked out before it is done (this product's own rule).
 use Rattle.std.specs.Prelude.{ℕ, ◌≡◌, ◌≤◌, ◌↔◌, ◌++◌, List, [], Bool, false, All, map, zip, fold, length, Option}
 use Rattle.af_runs.specs.Runs.{AreRuns, with_advanced}
 use Rattle.af_runs.specs.declared.run.Run.{Run}

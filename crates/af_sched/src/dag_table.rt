@@ -13,13 +13,22 @@ use std::alloc::{AllocError, Global};
 use std::marker::Model;
 
 /// The rows of DAGs. Contracts see them as a list.
-#[derive(Drop)]
 pub(crate) struct DagTable {
     rows: Vec<DagRow>,
     /// Where the rows stand, so that none is searched for.
     guesses: Guesses,
     /// No task of a DAG is heavier.
     heaviest: i32,
+}
+
+impl Drop for DagTable {
+    fn drop(self) {
+        let DagTable {
+            rows: _,
+            guesses: _,
+            heaviest: _,
+        } = self;
+    }
 }
 
 impl Model for DagTable {

@@ -1,4 +1,4 @@
-ghost use Rattle.af_sched.specs.Laws.{ClaimIsOne, ClaimTellsTheNext, EndedRunsStay, HeldSlotsAreThoseOfInstances, HoldersHoldAllSlots, NoPointIsTakenTwice, NothingChangesExactlyWhereNothingIsDue, QueuedStateIsOne, ReportsOfRemovedRunsFindNone, SettlingIsOne, SettledStateIsOne, SlotsAreKept, TickGivesNewNumbers, TickIsOne, TickKeepsRows};
+ghost use Rattle.af_sched.specs.Laws.{BackfillFillsItsRange, ClaimIsOne, ClaimTellsTheNext, EndedRunsStay, HeldSlotsAreThoseOfInstances, HoldersHoldAllSlots, NoPointIsTakenTwice, NothingChangesExactlyWhereNothingIsDue, PointsOfARange, QueuedStateIsOne, ReportsOfRemovedRunsFindNone, SettlingIsOne, SettledStateIsOne, SlotsAreKept, TickGivesNewNumbers, TickIsOne, TickKeepsRows};
 
 /// The trigger rules decide in one way what becomes of a run's instances, since no definition has a cycle.
 pub fn settling_is_one()
@@ -74,4 +74,15 @@ pub fn the_holders_hold_all_slots()
 /// runs; both together are those occupied.
 pub fn held_slots_are_those_of_instances()
     ensures { HeldSlotsAreThoseOfInstances }
+{}
+
+/// The points of a range are in rising order, and are those of the schedule between its dates that have a next one.
+pub fn a_range_has_the_points_between_its_dates()
+    ensures { PointsOfARange }
+{}
+
+/// A backfill adds, in order of date and numbered on, a run for each point of its range whose date and id are free, where there is
+/// room for them; all else stays as it was.
+pub fn a_backfill_fills_its_range()
+    ensures { BackfillFillsItsRange }
 {}

@@ -1,7 +1,9 @@
-//! What one tick does to a scheduler's state at a moment, and how an executor claims instances and reports outcomes.
+//! What one tick does to a scheduler's state at a moment, what a backfill adds to it, and how an executor claims instances and
+//! reports outcomes.
 #![tactic(auto)]
 
 mod add_dag_fault;
+mod backfill;
 mod busy;
 mod claim;
 mod counting;
@@ -23,6 +25,7 @@ mod state;
 mod tick;
 
 pub use add_dag_fault::AddDagFault;
+pub use backfill::next_within;
 pub use claim::Claim;
 pub use dag_row::DagRow;
 pub use executor::Executor;

@@ -4,7 +4,7 @@ use af_names::Instant;
 use af_runs::Run;
 use std::marker::Model;
 
-/// A tick that is worked out and not yet done, with all the memory that it takes. Contracts see the cursors of the DAGs,
+/// A tick or a backfill that is worked out and not yet done, with all the memory that it takes. Contracts see the cursors of the DAGs,
 /// runs of the state as it will leave them, the runs that it will add, the number that the next one gets, and whether these
 /// are a change.
 #[derive(Drop)]
@@ -34,10 +34,17 @@ impl Model for Plan {
 }
 
 impl Plan {
-    /// Whether the tick changes the state.
+    /// Whether it changes the state.
     pub fn changes(&self) -> bool
         ensures { result ≡ self.now.changes }
     {
         self.is_change
+    }
+
+    /// The runs that it adds, in order of number.
+    pub fn added(&self) -> &[Run]
+        ensures { result.now ≡ self.now.added }
+    {
+        self.added.as_slice()
     }
 }

@@ -7,11 +7,20 @@ use af_names::{DagId, TaskId};
 use std::marker::Model;
 
 /// The outcomes of a task's tries: those of the first, the second and so on; past the last each try succeeds.
-#[derive(Drop)]
 pub struct Script {
     dag_id: DagId,
     task_id: TaskId,
     outcomes: Vec<Outcome>,
+}
+
+impl Drop for Script {
+    fn drop(self) {
+        let Script {
+            dag_id: _,
+            task_id: _,
+            outcomes: _,
+        } = self;
+    }
 }
 
 impl Model for Script {

@@ -8,9 +8,14 @@ use crate::script::Script;
 use std::marker::Model;
 
 /// An executor that answers by scripts, and runs nothing. Contracts see it as the list of its scripts.
-#[derive(Drop)]
 pub struct Scripted {
     scripts: Vec<Script>,
+}
+
+impl Drop for Scripted {
+    fn drop(self) {
+        let Scripted { scripts: _ } = self;
+    }
 }
 
 impl Model for Scripted {

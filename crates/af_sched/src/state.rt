@@ -13,6 +13,7 @@ use std::alloc::{AllocError, Global};
 use std::marker::Model;
 
 mod adding;
+mod backfilling;
 mod changing;
 mod claiming;
 mod clearing;
@@ -28,12 +29,22 @@ mod varying;
 
 /// The scheduler's state: its DAGs, their runs with the instances, the pools and the variables. Contracts see the lists of
 /// rows, beside the numbers of runs, pools and variables for which memory is reserved.
-#[derive(Drop)]
 pub struct State {
     dags: DagTable,
     runs: Runs,
     pools: Pools,
     variables: Variables,
+}
+
+impl Drop for State {
+    fn drop(self) {
+        let State {
+            dags: _,
+            runs: _,
+            pools: _,
+            variables: _,
+        } = self;
+    }
 }
 
 impl Model for State {

@@ -19,7 +19,7 @@ mod queue;
 mod settle;
 mod start;
 
-pub(crate) use create::create_all;
+pub(crate) use create::{add_all, create_all, runs_for};
 use finish::finish_all;
 use queue::queue_all;
 use settle::settle_all;

@@ -1,5 +1,5 @@
 ghost use Rattle.std.specs.Prelude.{◌≡◌, ◌≢◌, ◌+◌, ◌++◌, ◌<◌, ◌≤◌, ◌^◌, Err, IfOk, IfSome, IsNone, IsOk, None, OnOk, OnErr, is_ok, length, nat_le, if◌then◌else◌};
-ghost use Rattle.af_runs.specs.Runs.{AreRuns, Adds, SameRuns, IsOkOrOutOfMemory, add_fault, refusal, is_full};
+ghost use Rattle.af_runs.specs.Runs.{AreRuns, Adds, SameRuns, IsOkOrOutOfMemory, add_fault, has_room, refusal, is_full};
 
 use crate::new_run::NewRun;
 use crate::run::Run;
@@ -56,6 +56,13 @@ impl Runs {
         } else {
             None
         }
+    }
+
+    /// Whether the DAG may have so many more runs, 65,536 in all, and as many numbers are left for them. It takes no memory.
+    pub fn has_room(&self, dag_id: &DagId, count: usize) -> bool
+        ensures { result ≡ has_room self.now.rows self.now.next dag_id.now count }
+    {
+        count <= MOST_RUNS - self.count_of(dag_id) && count as u64 <= u64::MAX - self.last
     }
 
     /// Adds a run, queued, and tells its number. Its faults are those of `add_fault`, and `OutOfMemory`, only where a

@@ -2,7 +2,7 @@ ghost use Rattle.std.specs.Prelude.{◌≡◌, ◌≤◌, MatchOption, drop, len
 ghost use Rattle.std.specs.List.{list_any};
 ghost use Rattle.af_runs.specs.Busy.{busy_of, holders_of};
 ghost use Rattle.af_runs.specs.Places.{IsMetAt, IsMetNowhere, IsNthOf, IsRunAt, IsRunNowhere};
-ghost use Rattle.af_runs.specs.Runs.{AreRuns, instances_of, is_dated, is_run, run_at, run_of, runs_of};
+ghost use Rattle.af_runs.specs.Runs.{AreRuns, instances_of, is_dated, is_run, is_taken, run_at, run_of, runs_of};
 
 use crate::busy_runs::BusyRuns;
 use crate::holders::Holders;
@@ -30,6 +30,13 @@ impl Runs {
         // No two runs of a DAG have one id.
         let _rows = self.rows();
         self.place_by(&Wanted::Ids(dag_id, run_id.as_str()))
+    }
+
+    /// Whether the DAG has a run of this id, or one of this logical date. It takes no memory: the id is a text.
+    pub fn is_taken(&self, dag_id: &DagId, run_id: &str, logical_date: Instant) -> bool
+        ensures { result ≡ is_taken self.now.rows dag_id.now run_id.now logical_date }
+    {
+        self.has_id(dag_id, run_id) || self.has_date(dag_id, logical_date)
     }
 
     /// The run of this number.
@@ -152,8 +159,14 @@ impl Runs {
     pub(crate) fn has_ids(&self, dag_id: &DagId, run_id: &RunId) -> bool
         ensures { result ≡ list_any (is_run dag_id.now run_id.now) self.now.rows }
     {
-        self.place_by(&Wanted::Ids(dag_id, run_id.as_str()))
-            .is_some()
+        self.has_id(dag_id, run_id.as_str())
+    }
+
+    /// Whether a run has these ids, of which its own is a text.
+    fn has_id(&self, dag_id: &DagId, run_id: &str) -> bool
+        ensures { result ≡ list_any (is_run dag_id.now run_id.now) self.now.rows }
+    {
+        self.place_by(&Wanted::Ids(dag_id, run_id)).is_some()
     }
 
     /// Whether a run is the DAG's of this logical date.

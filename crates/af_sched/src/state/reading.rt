@@ -1,9 +1,9 @@
 ghost use Rattle.std.specs.Prelude.{◌≡◌, ◌^◌, None, Some, drop, length, nat_lt, option_copied, slice_get, if◌then◌else◌};
 ghost use Rattle.af_runs.specs.Busy.{busy_of};
-ghost use Rattle.af_runs.specs.Runs.{AreRuns, run_at, run_of, runs_of};
+ghost use Rattle.af_runs.specs.Runs.{AreRuns, has_room, is_taken, run_at, run_of, runs_of};
 
 use crate::state::State;
-use af_names::{DagId, RunId};
+use af_names::{DagId, Instant, RunId};
 use af_runs::{BusyRuns, Run, RunsOf};
 
 impl State {
@@ -20,6 +20,20 @@ impl State {
         ensures { option_copied result ≡ run_of self.now.rows.runs dag_id.now run_id.now }
     {
         self.runs.find(dag_id, run_id)
+    }
+
+    /// Whether the DAG has a run of this id, or one of this logical date. It takes no memory: the id is a text.
+    pub fn is_taken(&self, dag_id: &DagId, run_id: &str, logical_date: Instant) -> bool
+        ensures { result ≡ is_taken self.now.rows.runs dag_id.now run_id.now logical_date }
+    {
+        self.runs.is_taken(dag_id, run_id, logical_date)
+    }
+
+    /// Whether the DAG may have so many more runs, and as many numbers are left for them. It takes no memory.
+    pub fn has_room(&self, dag_id: &DagId, count: usize) -> bool
+        ensures { result ≡ has_room self.now.rows.runs self.now.rows.next_run dag_id.now count }
+    {
+        self.runs.has_room(dag_id, count)
     }
 
     /// The run of this number.

@@ -49,8 +49,8 @@ impl State {
         })
     }
 
-    /// Does a planned tick on the state that it was planned for, where memory is reserved for the runs that it adds. It takes
-    /// no memory.
+    /// Does what is planned, a tick or a backfill, on the state that it was planned for, where memory is reserved for the runs that
+    /// it adds. It takes no memory.
     pub fn commit(&mut self, plan: Plan)
         requires fits { Fits plan self.old.rows }
         requires room { length plan.added ≤ self.old.spare_runs }

@@ -1,9 +1,8 @@
-ghost use Rattle.std.specs.Prelude.{◌≡◌, ◌∷◌, [], IfOk, IsOk, IsSome, OnOk, map, codes, ◌++◌};
-ghost use Rattle.af_names.specs.Isoformat.{isoformat};
+ghost use Rattle.std.specs.Prelude.{◌≡◌, ◌∷◌, [], IfOk, IsOk, IsSome, OnOk, map};
 ghost use Rattle.af_graph.specs.Schedules.{is_scheduled};
 ghost use Rattle.af_runs.specs.Additions.{together};
 ghost use Rattle.af_runs.specs.Runs.{refusal};
-ghost use Rattle.af_sched.specs.Create.{moved_row, run_for, runs_due, runs_of_row, cursor_due};
+ghost use Rattle.af_sched.specs.Create.{moved_row, id_of, point_run, runs_due, runs_of_row, cursor_due};
 ghost use Rattle.af_sched.specs.Steps.{TakesRuns, TakesRunsOf};
 
 use crate::dag_row::DagRow;
@@ -13,7 +12,7 @@ use af_names::{Instant, RunId};
 use af_runs::{Additions, Interval, NewRun, RunFault, RunType, new_instances};
 use std::alloc::{AllocError, Global};
 
-/// How many bytes the id of a scheduled run takes at most.
+/// How many bytes the id of a run that is made for a date takes at most.
 const RUN_ID: usize = 43;
 
 /// What of a DAG is due at a moment: its new runs, and where its cursor then stands.
@@ -100,38 +99,40 @@ fn due_of(
     ensures cursor { IfOk result (λ due. due.cursor ≡ cursor_due at dag.now (is_scheduled schedule.now) cursor) }
 {
     let points = taken_points(alloc, dag.definition().catchup, schedule, cursor, at)?;
-    let runs = runs_for(alloc, dag, schedule, points.as_slice())?;
+    let runs = runs_for(alloc, RunType::Scheduled, dag, schedule, points.as_slice())?;
     let cursor = moved_cursor(schedule, points.as_slice(), cursor);
     Ok(Due { runs, cursor })
 }
 
-/// The runs of a DAG for the intervals that begin at these points.
-fn runs_for(
+/// The runs of a DAG, of this type, for the intervals that begin at these points.
+pub(crate) fn runs_for(
     alloc: Global,
+    run_type: RunType,
     dag: &Dag,
     schedule: &Schedule,
     points: &[Instant],
 ) -> Result<Vec<NewRun>, AllocError>
-    ensures { IfOk result (λ runs. runs.items ≡ map (run_for dag.now (is_scheduled schedule.now)) points.now) }
+    ensures { IfOk result (λ runs. runs.items ≡ map (point_run run_type dag.now (is_scheduled schedule.now)) points.now) }
 {
     let mut runs = Vec::with_capacity(alloc, points.len())?;
     for point in points {
-        runs.push(run_for(alloc, dag, schedule, *point)?)?;
+        runs.push(run_for(alloc, run_type, dag, schedule, *point)?)?;
     }
     Ok(runs)
 }
 
-/// The run of a DAG for the interval that begins at a point.
+/// The run of a DAG, of this type, for the interval that begins at a point.
 fn run_for(
     alloc: Global,
+    run_type: RunType,
     dag: &Dag,
     schedule: &Schedule,
     point: Instant,
 ) -> Result<NewRun, AllocError>
-    ensures { IfOk result (λ new. new ≡ run_for dag.now (is_scheduled schedule.now) point) }
+    ensures { IfOk result (λ new. new ≡ point_run run_type dag.now (is_scheduled schedule.now) point) }
 {
     let dag_id = dag.dag_id().copied(alloc)?;
-    let run_id = run_id_for(alloc, point)?;
+    let run_id = run_id_for(alloc, run_type, point)?;
     let instances = new_instances(alloc, dag)?;
     let end = schedule.next_after(point).unwrap_or(point);
     Ok(NewRun {
@@ -139,23 +140,24 @@ fn run_for(
         run_id,
         logical_date: point,
         interval: Interval { start: point, end },
-        run_type: RunType::Scheduled,
+        run_type,
         instances,
     })
 }
 
-/// The id of the scheduled run of a date.
-fn run_id_for(alloc: Global, date: Instant) -> Result<RunId, AllocError>
-    ensures { IfOk result (λ run_id. run_id ≡ codes "scheduled__" ++ isoformat date) }
+/// The id of the run of this type and this date.
+fn run_id_for(alloc: Global, run_type: RunType, date: Instant) -> Result<RunId, AllocError>
+    ensures { IfOk result (λ run_id. run_id ≡ id_of run_type date) }
 {
     let mut text = String::with_capacity(alloc, RUN_ID)?;
-    text.push_str("scheduled__")?;
+    text.push_str(run_type.as_str())?;
+    text.push_str("__")?;
     date.write_onto(&mut text)?;
     RunId::parse(alloc, text.as_str()).map_err(|_fault| AllocError)
 }
 
 /// Adds these runs, in their order; one that can not be added is passed over.
-fn add_all(added: Vec<NewRun>, additions: &mut Additions<'_>) -> Result<(), AllocError>
+pub(crate) fn add_all(added: Vec<NewRun>, additions: &mut Additions<'_>) -> Result<(), AllocError>
     ensures runs { OnOk result (TakesRuns added.items (together additions.old) (together additions.new)) }
     ensures before { additions.new.before ≡ additions.old.before }
 {
