@@ -29,7 +29,7 @@ use Rattle.af_ops.specs.declared.op.Op.TheVariants as op
 use Rattle.af_ops.specs.declared.policy_op.PolicyOp.TheVariants as policy_op
 use Rattle.af_ops.specs.declared.pool_op.PoolOp.TheVariants as pool_op
 use Rattle.af_ops.specs.declared.variable_op.VariableOp.TheVariants as variable_op
-use Rattle.af_ops.specs.Bodies.{clear_in, clear_run_in, mark_in, pause_in, trigger_in}
+use Rattle.af_ops.specs.Bodies.{backfill_in, clear_in, clear_run_in, mark_in, pause_in, trigger_in}
 use Rattle.af_ops.specs.Calls.{endpoint_of}
 use Rattle.af_ops.specs.Endpoints.{account_name_in, both, dag_id_in, is_all, row_name_in, run_id_in, task_id_in}
 use Rattle.af_ops.specs.Laws.{IsAt, OperationsAreOfTheirRow}
@@ -153,3 +153,4 @@ of_their_row endpoint.ChangeUser parts query body asked is = mapped_none (λ nam
 of_their_row endpoint.DeleteUser parts query body asked is = mapped_none (λ name. Policy (made (change.DropUser name))) endpoint.DeleteUser (account_name_in parts) asked (λ name. (refl, refl)) is
 of_their_row endpoint.GetMe parts query body asked is = single endpoint.GetMe None (Policy policy_op.Me) asked (refl, refl) is
 of_their_row endpoint.SyncDag parts query body asked is = mapped (λ id. Policy (sync_asked id body)) endpoint.SyncDag (dag_id_in parts) asked (λ id. sync_fits id (dag_access_in id body) (λ access is. its_dag id body access is)) is
+of_their_row endpoint.BackfillDag parts query body asked is = mapped (λ id. State (op.BackfillDag id (backfill_in body))) endpoint.BackfillDag (dag_id_in parts) asked (λ id. (refl, refl)) is

@@ -3,6 +3,7 @@ use Rattle.std.proofs.Common.{◌≡◌, ◌≢◌, ◌+◌, ℕ, Bool, true, fa
 use Rattle.std.specs.Prelude.{Some, None, if◌then◌else◌}
 use Rattle.af_runs.specs.declared.new_run.NewRun.{NewRun}
 use Rattle.af_pool.specs.Pools.{with_pool, with_slots, without_pool}
+use Rattle.af_sched.specs.Plan.{applied}
 use Rattle.af_sched.specs.State.{StateRows, dag_of, is_of_id, with_paused}
 use Rattle.af_vars.specs.Variables.{with_value, with_variable, without_variable}
 use Rattle.af_sched.specs.declared.dag_row.DagRow.{DagRow}
@@ -57,6 +58,8 @@ pause_exact state dag_id is_paused row (edit.RunMarked number mark at) found nex
     ((λ no. cc), (λ same. absurd (exact_by (differs row is_paused) state dag_id is_paused row (with_mark state number mark at) refl found next same)))
 pause_exact state dag_id is_paused row (edit.RunRemoved number) found next =
     ((λ no. cc), (λ same. absurd (exact_by (differs row is_paused) state dag_id is_paused row (without state number) refl found next same)))
+pause_exact state dag_id is_paused row (edit.RunsPlanned plan) found next =
+    ((λ no. cc), (λ same. absurd (exact_by (differs row is_paused) state dag_id is_paused row (applied plan state) refl found next same)))
 pause_exact state dag_id is_paused row (edit.InstancesCleared filter selection) found next =
     ((λ no. cc), (λ same. absurd (exact_by (differs row is_paused) state dag_id is_paused row (with_clear state filter selection) refl found next same)))
 pause_exact state dag_id is_paused row (edit.PoolAdded name slots) found next =

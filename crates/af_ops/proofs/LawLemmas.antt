@@ -15,6 +15,7 @@ use Rattle.af_ops.specs.declared.op.Op.TheVariants as op
 use Rattle.af_ops.specs.declared.trigger.Trigger.{Trigger}
 use Rattle.af_ops.specs.Effects.{Effect, new_run}
 use Rattle.af_ops.specs.Laws.{ChangesLeaveAnotherState, ChangesStayAtTheirDag, LeavesOthers}
+use Rattle.af_ops.proofs.BackfillLemmas.{backfills, backfills_apart, backfills_grow, grown_stays}
 use Rattle.af_ops.proofs.EditLemmas.{paused_apart, run_apart}
 use Rattle.af_ops.proofs.DeletingLemmas.{deleted_apart, deletes_stay}
 use Rattle.af_ops.proofs.ClearingLemmas.{cleared_apart, clears_stay}
@@ -55,6 +56,8 @@ changes_differ reads state (op.ClearInstances dag_id input) now effect next is c
     cleared_apart state it.asked it.selection it.differ (sym it.next_is ∙ same)
 changes_differ reads state (op.ListInstances dag_id run_id asked) now effect next is changes same = unchanged effect next (readings_keep reads state (op.ListInstances dag_id run_id asked) now effect refl is) changes
 changes_differ reads state (op.GetInstance dag_id run_id task_id) now effect next is changes same = unchanged effect next (readings_keep reads state (op.GetInstance dag_id run_id task_id) now effect refl is) changes
+changes_differ reads state (op.BackfillDag dag_id input) now effect next is changes same =
+    absurd (backfills_apart state dag_id input effect next (backfills state dag_id input effect is) changes same)
 changes_differ reads state (op.Pool it) now effect next is changes same = pools_differ it state next effect is changes same
 changes_differ reads state (op.Variable it) now effect next is changes same = variables_differ it state next effect is changes same
 
@@ -139,5 +142,7 @@ changes_stay reads state (op.ClearInstances dag_id input) now effect next at is 
     subst (λ (id : List ℕ). LeavesOthers id state next) (some_same names) (cleared_stay state dag_id next (clears_instances state dag_id input effect next is changes))
 changes_stay reads state (op.ListInstances dag_id run_id asked) now effect next at is changes names = unchanged effect next (readings_keep reads state (op.ListInstances dag_id run_id asked) now effect refl is) changes
 changes_stay reads state (op.GetInstance dag_id run_id task_id) now effect next at is changes names = unchanged effect next (readings_keep reads state (op.GetInstance dag_id run_id task_id) now effect refl is) changes
+changes_stay reads state (op.BackfillDag dag_id input) now effect next at is changes names =
+    subst (λ (id : List ℕ). LeavesOthers id state next) (some_same names) (grown_stays state next dag_id (backfills_grow state dag_id input effect next (backfills state dag_id input effect is) changes))
 changes_stay reads state (op.Pool it) now effect next at is changes names = absurd (none_some names)
 changes_stay reads state (op.Variable it) now effect next at is changes names = absurd (none_some names)

@@ -1,3 +1,4 @@
+mod BackfillLemmas
 mod BodyLemmas
 mod CallLemmas
 mod ClearingLemmas

@@ -91,5 +91,6 @@ readings_keep reads state (op.ClearRun dag_id run_id input) now effect get is = 
 readings_keep reads state (op.ClearInstances dag_id input) now effect get is = cc
 readings_keep reads state (op.ListInstances dag_id run_id asked) now effect get is = instances_kept asked (sched.dag_of state.dags dag_id) (run_of state.runs dag_id run_id) effect is
 readings_keep reads state (op.GetInstance dag_id run_id task_id) now effect get is = instance_kept (sched.dag_of state.dags dag_id) (run_of state.runs dag_id run_id) task_id effect is
+readings_keep reads state (op.BackfillDag dag_id input) now effect get is = cc
 readings_keep reads state (op.Pool it) now effect get is = pools_keep state it effect get is
 readings_keep reads state (op.Variable it) now effect get is = variables_keep state it effect get is

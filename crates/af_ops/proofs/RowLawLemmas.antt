@@ -99,6 +99,7 @@ needed_stays (op.ListInstances dag_id run_id asked) old new at =
     unchanged at.2 new (readings_keep at.0 old (op.ListInstances dag_id run_id asked) at.1 at.2 refl at.3) at.4
 needed_stays (op.GetInstance dag_id run_id task_id) old new at =
     unchanged at.2 new (readings_keep at.0 old (op.GetInstance dag_id run_id task_id) at.1 at.2 refl at.3) at.4
+needed_stays (op.BackfillDag dag_id input) old new at = same_stay old new (changes_stay at.0 old (op.BackfillDag dag_id input) at.1 at.2 new dag_id at.3 at.4 refl).pools
 needed_stays (op.Pool it) old new at = pools_stay it old new at.2 at.3 at.4
 needed_stays (op.Variable it) old new at =
     same_stay old new (ap (λ (s : StateRows). s.pools) (variables_touch it old new at.2 at.3 at.4).rest)

@@ -14,6 +14,7 @@ use Rattle.af_ops.specs.declared.op.Op.TheVariants as op
 use Rattle.af_ops.specs.Edits.{with_run}
 use Rattle.af_ops.specs.Effects.{id_or, new_run}
 use Rattle.af_ops.specs.Laws.{RunNumbersRise, RunsListedAreThoseRead, TriggersAddARun}
+use Rattle.af_ops.proofs.BackfillLemmas.{backfills, backfills_grow, grown_rises}
 use Rattle.af_ops.proofs.PoolLemmas.{pools_touch}
 use Rattle.af_ops.proofs.VariableLemmas.{variables_touch}
 use Rattle.af_ops.proofs.LawLemmas.{unchanged}
@@ -101,6 +102,8 @@ numbers_rise reads state (op.ClearInstances dag_id input) now effect next is cha
     subst (λ (s : StateRows). state.next_run ≤ s.next_run) (sym it.next_is) (omega arith)
 numbers_rise reads state (op.ListInstances dag_id run_id asked) now effect next is changes = unchanged effect next (readings_keep reads state (op.ListInstances dag_id run_id asked) now effect refl is) changes
 numbers_rise reads state (op.GetInstance dag_id run_id task_id) now effect next is changes = unchanged effect next (readings_keep reads state (op.GetInstance dag_id run_id task_id) now effect refl is) changes
+numbers_rise reads state (op.BackfillDag dag_id input) now effect next is changes =
+    grown_rises state next dag_id (backfills_grow state dag_id input effect next (backfills state dag_id input effect is) changes)
 numbers_rise reads state (op.Pool it) now effect next is changes =
     let same = pools_touch it state next effect is changes in
     subst (λ (s : StateRows). state.next_run ≤ s.next_run) (sym same.rest) (omega arith)

@@ -105,6 +105,7 @@ rank endpoint.ChangeUser = 33
 rank endpoint.DeleteUser = 34
 rank endpoint.GetMe = 35
 rank endpoint.SyncDag = 36
+rank endpoint.BackfillDag = 37
 
 stands : (it d : Endpoint) → get_or endpoints (rank it) d ≡ it
 unfolding rank
@@ -145,6 +146,7 @@ stands endpoint.ChangeUser d = refl
 stands endpoint.DeleteUser d = refl
 stands endpoint.GetMe d = refl
 stands endpoint.SyncDag d = refl
+stands endpoint.BackfillDag d = refl
 
 inside : (it : Endpoint) → rank it < length endpoints
 unfolding rank
@@ -185,6 +187,7 @@ inside endpoint.ChangeUser = omega arith
 inside endpoint.DeleteUser = omega arith
 inside endpoint.GetMe = omega arith
 inside endpoint.SyncDag = omega arith
+inside endpoint.BackfillDag = omega arith
 
 same-refl : (method : Method) → same_method method method ≡ true
 same-refl Get = refl
@@ -242,3 +245,4 @@ each_found endpoint.ChangeUser = refl
 each_found endpoint.DeleteUser = refl
 each_found endpoint.GetMe = refl
 each_found endpoint.SyncDag = refl
+each_found endpoint.BackfillDag = refl

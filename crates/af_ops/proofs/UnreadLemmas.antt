@@ -39,6 +39,7 @@ unread_is (op.ClearRun dag_id run_id body) = record { endpoint = refl; dag = ref
 unread_is (op.ListInstances dag_id run_id asked) = same _
 unread_is (op.GetInstance dag_id run_id task_id) = same _
 unread_is (op.ClearInstances dag_id body) = record { endpoint = refl; dag = refl; effect = inr (λ reads state now. refl) }
+unread_is (op.BackfillDag dag_id body) = record { endpoint = refl; dag = refl; effect = inr (λ reads state now. refl) }
 unread_is (op.Pool (pool_op.List asked)) = same _
 unread_is (op.Pool (pool_op.Add body)) = record { endpoint = refl; dag = refl; effect = inr (λ reads state now. refl) }
 unread_is (op.Pool (pool_op.Get name)) = same _

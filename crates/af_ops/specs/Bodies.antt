@@ -1,6 +1,6 @@
 -- What a request's body holds: a JSON object whose members are read in a written order; the first that is absent though it has
 -- to be there, or of a wrong kind or value, is told by its name (this product's own rule). Null counts as absent.
-use Rattle.std.specs.Prelude.{ℕ, List, [], ◌∷◌, ◌++◌, Bool, true, false, is_some, if◌then◌else◌, Option, Some, None, option_and_then, ok_or, unwrap_or, Result, Ok, Err, codes, ⊤}
+use Rattle.std.specs.Prelude.{ℕ, List, [], ◌∷◌, ◌++◌, Bool, true, false, is_some, if◌then◌else◌, Option, Some, None, option_and_then, nat_le, ok_or, unwrap_or, Result, Ok, Err, codes, ⊤}
 use Rattle.std.specs.Option.{option_map_or}
 use Rattle.std.specs.Result.{result_ok}
 use Rattle.serde_json.specs.Data.{Data, Members, no_members, member}
@@ -13,6 +13,7 @@ use Rattle.af_names.specs.Names.{id_grammar, named, run_id_grammar}
 use Rattle.af_runs.specs.Marks.{mark_of}
 use Rattle.af_runs.specs.Texts.{state_of}
 use Rattle.af_runs.specs.declared.mark.Mark.{Mark}
+use Rattle.af_ops.specs.declared.backfill.Backfill.{Backfill}
 use Rattle.af_ops.specs.declared.body_fault.Member.{Member}
 use Rattle.af_ops.specs.declared.body_fault.Member.TheVariants.{IsPaused, DagRunId, LogicalDate, ExecutionDate, Conf, State, DryRun, OnlyFailed, TaskIds, StartDate, EndDate, Name, Slots, Key, Value}
 use Rattle.af_ops.specs.declared.body_fault.BodyFault.{BodyFault}
@@ -153,3 +154,15 @@ abbrev pub clear_in : List ℕ → Result Clear BodyFault
 clear_in bytes = do
   body ← body_in bytes
   clear_of body
+
+-- a range of dates that does not end before it begins
+abbrev pub in_order : ℕ → ℕ → Result Backfill BodyFault
+in_order first last = if nat_le first last then Ok (record { start_date = first; end_date = last }) else Err (BadMember EndDate)
+
+-- the range of dates for whose points a DAG is to have runs: both ends have to be there
+abbrev pub backfill_in : List ℕ → Result Backfill BodyFault
+backfill_in bytes = do
+  body ← body_in bytes
+  first ← required_in instant_in StartDate body
+  last ← required_in instant_in EndDate body
+  in_order first last

@@ -11,7 +11,7 @@ use Rattle.af_ops.specs.declared.op.Op.TheVariants as op
 use Rattle.af_ops.specs.declared.policy_op.PolicyOp.TheVariants as policy_op
 use Rattle.af_ops.specs.declared.pool_op.PoolOp.TheVariants as pool_op
 use Rattle.af_ops.specs.declared.variable_op.VariableOp.TheVariants as variable_op
-use Rattle.af_ops.specs.Bodies.{clear_in, clear_run_in, mark_in, pause_in, trigger_in}
+use Rattle.af_ops.specs.Bodies.{backfill_in, clear_in, clear_run_in, mark_in, pause_in, trigger_in}
 use Rattle.af_ops.specs.Endpoints.{account_name_in, dag_id_in, instance_ids_in, is_all, row_name_in, run_ids_in}
 use Rattle.af_ops.specs.Endpoints as operations
 use Rattle.af_ops.specs.PolicyBodies.{role_added, role_changed, sync_asked, user_added, user_changed}
@@ -64,6 +64,7 @@ call_of_row endpoint.ChangeUser parts query body = option_map (λ name. Policy (
 call_of_row endpoint.DeleteUser parts query body = option_map (λ name. Policy (made (change.DropUser name))) (account_name_in parts)
 call_of_row endpoint.GetMe parts query body = Some (Policy policy_op.Me)
 call_of_row endpoint.SyncDag parts query body = option_map (λ dag_id. Policy (sync_asked dag_id body)) (dag_id_in parts)
+call_of_row endpoint.BackfillDag parts query body = option_map (λ dag_id. State (op.BackfillDag dag_id (backfill_in body))) (dag_id_in parts)
 
 -- the same, whose body was not read for lack of memory
 abbrev pub unread : Call → Call

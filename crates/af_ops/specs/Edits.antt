@@ -8,6 +8,7 @@ use Rattle.af_runs.specs.declared.new_run.NewRun.{NewRun}
 use Rattle.af_runs.specs.declared.run_filter.RunFilter.{RunFilter}
 use Rattle.af_runs.specs.declared.selection.Selection.{Selection}
 use Rattle.af_pool.specs.Pools.{with_pool, with_slots, without_pool}
+use Rattle.af_sched.specs.Plan.{applied}
 use Rattle.af_sched.specs.State.{StateRows, with_paused}
 use Rattle.af_vars.specs.Variables.{with_value, with_variable, without_variable}
 use Rattle.af_ops.specs.declared.edit.Edit.{Edit}
@@ -29,7 +30,7 @@ with_clear state filter selection = record state { runs = with_cleared state.run
 abbrev pub without : StateRows → ℕ → StateRows
 without state number = record state { runs = without_run state.runs number }
 
--- the state that an edit makes, or none where it is no change
+-- the state that an edit makes, or none where it is no change; a plan makes what it says of the state that it was made for
 abbrev pub next_by : Edit → StateRows → Option StateRows
 next_by edit.Nothing state = None
 next_by (edit.DagPaused dag_id is_paused) state = Some (record state { dags = with_paused state.dags dag_id is_paused })
@@ -37,6 +38,7 @@ next_by (edit.RunAdded new) state = Some (with_run state new)
 next_by (edit.RunMarked number mark at) state = Some (with_mark state number mark at)
 next_by (edit.InstancesCleared filter selection) state = Some (with_clear state filter selection)
 next_by (edit.RunRemoved number) state = Some (without state number)
+next_by (edit.RunsPlanned plan) state = Some (applied plan state)
 next_by (edit.PoolAdded name slots) state = Some (record state { pools = with_pool state.pools record { name = name; slots = slots } })
 next_by (edit.PoolSet name slots) state = Some (record state { pools = with_slots state.pools name slots })
 next_by (edit.PoolRemoved name) state = Some (record state { pools = without_pool state.pools name })
@@ -56,6 +58,7 @@ is_edit (edit.RunAdded new) = true
 is_edit (edit.RunMarked number mark at) = true
 is_edit (edit.InstancesCleared filter selection) = true
 is_edit (edit.RunRemoved number) = true
+is_edit (edit.RunsPlanned plan) = true
 is_edit (edit.PoolAdded name slots) = true
 is_edit (edit.PoolSet name slots) = true
 is_edit (edit.PoolRemoved name) = true

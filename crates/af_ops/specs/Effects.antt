@@ -37,6 +37,7 @@ use Rattle.af_ops.specs.declared.body_fault.BodyFault.{BodyFault}
 use Rattle.af_ops.specs.declared.op.Op.{Op}
 use Rattle.af_ops.specs.declared.op.Op.TheVariants as op
 use Rattle.af_ops.specs.declared.trigger.Trigger.{Trigger}
+pub use Rattle.af_ops.specs.BackfillEffects.{backfilled_dag, backfilling, count_of, may_make, most_points, new_runs_data, range_or, runs_since, unless_too_many}
 pub use Rattle.af_ops.specs.ClearEffects.{all_tasks, cleared_list, cleared_told, clearing, filter_of, instances_cleared, is_unknown, known_or, known_run, known_tasks, one_run, run_cleared, selection_of}
 pub use Rattle.af_ops.specs.EffectParts.{Effect, dag_or, id_at, input_fault, input_or, kept, run_or, window_or}
 
@@ -256,5 +257,6 @@ effect_of reads state (op.ClearRun dag_id run_id input) now = run_cleared state 
 effect_of reads state (op.ListInstances dag_id run_id asked) now = listed_instances state dag_id run_id asked
 effect_of reads state (op.GetInstance dag_id run_id task_id) now = got_instance state dag_id run_id task_id
 effect_of reads state (op.ClearInstances dag_id input) now = instances_cleared state dag_id input
+effect_of reads state (op.BackfillDag dag_id input) now = backfilled_dag state dag_id input
 effect_of reads state (op.Pool it) now = pool_effect state it
 effect_of reads state (op.Variable it) now = variable_effect state it

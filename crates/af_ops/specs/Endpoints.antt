@@ -32,6 +32,7 @@ endpoint_of (op.ClearRun dag_id run_id input) = endpoint.ClearRun
 endpoint_of (op.ListInstances dag_id run_id asked) = endpoint.ListInstances
 endpoint_of (op.GetInstance dag_id run_id task_id) = endpoint.GetInstance
 endpoint_of (op.ClearInstances dag_id input) = endpoint.ClearInstances
+endpoint_of (op.BackfillDag dag_id input) = endpoint.BackfillDag
 endpoint_of (op.Pool it) = pools.endpoint_of it
 endpoint_of (op.Variable it) = variables.endpoint_of it
 
@@ -51,6 +52,7 @@ dag_of (op.ClearRun dag_id run_id input) = Some dag_id
 dag_of (op.ListInstances dag_id run_id asked) = Some dag_id
 dag_of (op.GetInstance dag_id run_id task_id) = Some dag_id
 dag_of (op.ClearInstances dag_id input) = Some dag_id
+dag_of (op.BackfillDag dag_id input) = Some dag_id
 dag_of (op.Pool it) = None
 dag_of (op.Variable it) = None
 
@@ -85,6 +87,7 @@ run_of (op.ClearRun dag_id run_id input) = Some run_id
 run_of (op.ListInstances dag_id run_id asked) = Some run_id
 run_of (op.GetInstance dag_id run_id task_id) = Some run_id
 run_of (op.ClearInstances dag_id input) = cleared_run input
+run_of (op.BackfillDag dag_id input) = None
 run_of (op.Pool it) = None
 run_of (op.Variable it) = None
 
@@ -104,6 +107,7 @@ task_of (op.ClearRun dag_id run_id input) = None
 task_of (op.ListInstances dag_id run_id asked) = None
 task_of (op.GetInstance dag_id run_id task_id) = Some task_id
 task_of (op.ClearInstances dag_id input) = None
+task_of (op.BackfillDag dag_id input) = None
 task_of (op.Pool it) = None
 task_of (op.Variable it) = None
 
@@ -133,6 +137,7 @@ given_id (op.ClearRun dag_id run_id input) = None
 given_id (op.ListInstances dag_id run_id asked) = None
 given_id (op.GetInstance dag_id run_id task_id) = None
 given_id (op.ClearInstances dag_id input) = None
+given_id (op.BackfillDag dag_id input) = None
 given_id (op.Pool it) = None
 given_id (op.Variable it) = None
 
@@ -212,6 +217,7 @@ are_names method template.Users parts = true
 are_names method template.User parts = is_some (account_name_in parts)
 are_names method template.Me parts = true
 are_names method template.Sync parts = is_some (dag_id_in parts)
+are_names method template.Backfills parts = is_some (dag_id_in parts)
 
 -- the same operation, whose body was not read for lack of memory
 abbrev pub unread : Op → Op
@@ -229,5 +235,6 @@ unread (op.ClearRun dag_id run_id input) = op.ClearRun dag_id run_id (Err OutOfM
 unread (op.ListInstances dag_id run_id asked) = op.ListInstances dag_id run_id asked
 unread (op.GetInstance dag_id run_id task_id) = op.GetInstance dag_id run_id task_id
 unread (op.ClearInstances dag_id input) = op.ClearInstances dag_id (Err OutOfMemory)
+unread (op.BackfillDag dag_id input) = op.BackfillDag dag_id (Err OutOfMemory)
 unread (op.Pool it) = op.Pool (pools.unread it)
 unread (op.Variable it) = op.Variable (variables.unread it)

@@ -30,6 +30,7 @@ op_event (op.MarkRun dag_id run_id input) = codes "patch_dag_run"
 op_event (op.DeleteRun dag_id run_id) = codes "delete_dag_run"
 op_event (op.ClearRun dag_id run_id input) = codes "clear_dag_run"
 op_event (op.ClearInstances dag_id input) = codes "clear_task_instances"
+op_event (op.BackfillDag dag_id input) = codes "backfill"
 op_event (op.Pool it) = pool_event it
 op_event (op.Variable it) = variable_event it
 op_event _ = []

@@ -5,6 +5,9 @@ use Rattle.std.specs.List.Sorted.{IsStrictlySortedBy}
 use Rattle.std.specs.Ordering.{nat_cmp}
 use Rattle.af_listing.specs.Pages.{cut}
 use Rattle.af_listing.specs.Windows.{Cut}
+use Rattle.serde_json.specs.Written.{compact_text}
+use Rattle.af_graph.specs.Schedules.{is_scheduled}
+use Rattle.af_graph.specs.declared.schedule.Schedule.{Schedule}
 use Rattle.af_graph.specs.declared.task_state.TaskState.TheVariants.{NoStatus}
 use Rattle.af_runs.specs.Clears.{run_after}
 use Rattle.af_runs.specs.Laws.{TouchesChosenAlone}
@@ -12,10 +15,12 @@ use Rattle.af_runs.specs.Runs.{AreRuns, is_of, run_of, runs_of}
 use Rattle.af_runs.specs.declared.run.Run.{Run}
 use Rattle.af_runs.specs.declared.run_state.RunState.TheVariants.{Queued}
 use Rattle.af_runs.specs.declared.run_type.RunType.TheVariants.{Manual}
+use Rattle.af_sched.specs.Backfills.{Backfills}
 use Rattle.af_sched.specs.State.{AreInOrder, StateRows, is_of_id}
 use Rattle.af_sched.specs.State as sched
 use Rattle.af_sched.specs.declared.dag_row.DagRow.{DagRow}
 use Rattle.af_policy.specs.declared.ask.Ask.TheVariants.{Made, Bad}
+use Rattle.af_ops.specs.declared.backfill.Backfill.{Backfill}
 use Rattle.af_ops.specs.declared.body_fault.BodyFault.{BodyFault}
 use Rattle.af_ops.specs.declared.call.Call.{Call}
 use Rattle.af_ops.specs.declared.call.Call.TheVariants.{State, Entries, Policy}
@@ -28,7 +33,7 @@ use Rattle.af_ops.specs.declared.path_template.PathTemplate.{PathTemplate}
 use Rattle.af_ops.specs.declared.policy_op.PolicyOp.{PolicyOp}
 use Rattle.af_ops.specs.declared.policy_op.PolicyOp.TheVariants as policy_op
 use Rattle.af_ops.specs.declared.trigger.Trigger.{Trigger}
-use Rattle.af_ops.specs.Effects.{Effect, all_tasks, effect_of, filter_of, id_or, one_run, selection_of}
+use Rattle.af_ops.specs.Effects.{Effect, all_tasks, effect_of, filter_of, id_or, new_runs_data, one_run, selection_of}
 use Rattle.af_ops.specs.Calls.{call_of_row}
 use Rattle.af_ops.specs.Calls as calls
 use Rattle.af_ops.specs.Endpoints.{dag_id_in, dag_of, endpoint_of}
@@ -116,6 +121,16 @@ TriggersAddARun =
     → AreRuns state.runs state.next_run → effect_of reads state (op.TriggerRun dag_id input) now ≡ Ok effect
     → (asked : Trigger) × (input ≡ Ok asked)
     × ((next : StateRows) × (effect.next ≡ Some next) × ((run : Run) × AddsRun dag_id (id_or asked.dag_run_id (unwrap_or asked.logical_date now)) (unwrap_or asked.logical_date now) state next run))
+
+-- a backfill of a DAG that is not refused leaves what `Backfills` says of the range that is asked for, by the DAG's schedule. Where it adds no
+-- run, the state is as it was. The reply tells all runs that are added
+abbrev pub BackfillsFillTheirRange : Type 0
+BackfillsFillTheirRange =
+    (reads : List ℕ → Bool) (state : StateRows) (dag_id : List ℕ) (input : Result Backfill BodyFault) (now : ℕ) (effect : Effect)
+    → effect_of reads state (op.BackfillDag dag_id input) now ≡ Ok effect
+    → (asked : Backfill) × ((row : DagRow) × ((schedule : Schedule) × ((left : Backfills row.dag (is_scheduled schedule) asked.start_date asked.end_date state (unwrap_or effect.next state))
+    × (input ≡ Ok asked) × (sched.dag_of state.dags dag_id ≡ Some row) × (row.dag.schedule ≡ Some schedule)
+    × (effect.reply ≡ Some (compact_text (new_runs_data left.added))))))
 
 -- a dry run of a clear leaves every state as it is
 abbrev pub DryRunsLeaveTheState : Type 0

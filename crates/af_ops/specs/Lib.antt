@@ -1,4 +1,5 @@
 pub mod AccessTexts
+pub mod BackfillEffects
 pub mod Bodies
 pub mod Calls
 pub mod ClearEffects

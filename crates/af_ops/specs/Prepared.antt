@@ -1,10 +1,11 @@
 -- An operation that is worked out and not yet done.
-use Rattle.std.specs.Prelude.{◌≡◌, ◌<◌, ◌↔◌, ◌⊎◌, ℕ, List, false, Option, None, Result, Ok, Err, IsOk, ⊤}
+use Rattle.std.specs.Prelude.{◌≡◌, ◌<◌, ◌≤◌, ◌↔◌, ◌⊎◌, ℕ, List, false, length, Option, None, Result, Ok, Err, IsOk, ⊤}
 use Rattle.af_pool.specs.Pools as pools
 use Rattle.af_pool.specs.Pools.{remove_fault, set_fault}
 use Rattle.af_runs.specs.Runs.{add_fault}
 use Rattle.af_runs.specs.declared.new_run.NewRun.{NewRun}
 use Rattle.af_sched.specs.Additions.{IsWholeNew}
+use Rattle.af_sched.specs.Plan.{Fits, PlanRows}
 use Rattle.af_sched.specs.State.{StateRows, StateWithRoom, pools_of_row}
 use Rattle.af_vars.specs.Variables as variables
 use Rattle.af_vars.specs.Variables.{change_fault}
@@ -32,6 +33,11 @@ pub record CanAddRun (state : StateWithRoom) (new : NewRun) : Type 0 where
   pub whole : IsWholeNew state.rows new
   pub free : add_fault state.rows.runs state.rows.next_run new.dag_id new.run_id new.logical_date ≡ None
 
+-- the runs of a plan may be added: there is room for them, and the plan may be done
+pub record CanAddRuns (state : StateWithRoom) (plan : PlanRows) : Type 0 where
+  pub room : length plan.added ≤ state.spare_runs
+  pub fits : Fits plan state.rows
+
 -- a pool of this name with these slots may be added: there is room for it, and no fault
 pub record CanAddPool (state : StateWithRoom) (name : List ℕ) (slots : ℕ) : Type 0 where
   pub room : 0 < state.spare_pools
@@ -50,6 +56,7 @@ CanDo state (edit.RunAdded new) = CanAddRun state new
 CanDo state (edit.RunMarked number mark at) = ⊤
 CanDo state (edit.InstancesCleared filter selection) = ⊤
 CanDo state (edit.RunRemoved number) = ⊤
+CanDo state (edit.RunsPlanned plan) = CanAddRuns state plan
 CanDo state (edit.PoolAdded name slots) = CanAddPool state name slots
 CanDo state (edit.PoolSet name slots) = set_fault state.rows.pools name slots ≡ None
 CanDo state (edit.PoolRemoved name) = remove_fault pools_of_row state.rows.dags state.rows.pools name ≡ None

@@ -46,6 +46,7 @@ dag_fields row =
 abbrev pub run_type_text : RunType → List ℕ
 run_type_text run_type.Manual = codes "manual"
 run_type_text run_type.Scheduled = codes "scheduled"
+run_type_text run_type.Backfill = codes "backfill"
 
 abbrev pub run_state_text : RunState → List ℕ
 run_state_text run_state.Queued = codes "queued"

@@ -61,6 +61,7 @@ segments_of template.Users = api (Text (codes "users") ∷ [])
 segments_of template.User = api (Text (codes "users") ∷ Part (codes "username") ∷ [])
 segments_of template.Me = own (Text (codes "me") ∷ [])
 segments_of template.Sync = own (Text (codes "dags") ∷ Part (codes "dag_id") ∷ Text (codes "sync") ∷ [])
+segments_of template.Backfills = own (Text (codes "dags") ∷ Part (codes "dag_id") ∷ Text (codes "backfills") ∷ [])
 
 -- how a path is spelled, with its parts in braces
 abbrev pub spelled : List Segment → List ℕ
@@ -69,7 +70,7 @@ spelled (Text text ∷ rest) = 47 ∷ (text ++ spelled rest)
 spelled (Part name ∷ rest) = 47 ∷ 123 ∷ (name ++ 125 ∷ spelled rest)
 
 abbrev pub templates : List PathTemplate
-templates = template.Version ∷ template.Dags ∷ template.Dag ∷ template.Tasks ∷ template.Runs ∷ template.Run ∷ template.RunClear ∷ template.Instances ∷ template.Instance ∷ template.Clear ∷ template.Pools ∷ template.Pool ∷ template.Variables ∷ template.Variable ∷ template.Entries ∷ template.Roles ∷ template.Role ∷ template.Users ∷ template.User ∷ template.Me ∷ template.Sync ∷ []
+templates = template.Version ∷ template.Dags ∷ template.Dag ∷ template.Tasks ∷ template.Runs ∷ template.Run ∷ template.RunClear ∷ template.Instances ∷ template.Instance ∷ template.Clear ∷ template.Pools ∷ template.Pool ∷ template.Variables ∷ template.Variable ∷ template.Entries ∷ template.Roles ∷ template.Role ∷ template.Users ∷ template.User ∷ template.Me ∷ template.Sync ∷ template.Backfills ∷ []
 
 abbrev pub template_rank : PathTemplate → ℕ
 template_rank template.Version = 0
@@ -93,6 +94,7 @@ template_rank template.Users = 17
 template_rank template.User = 18
 template_rank template.Me = 19
 template_rank template.Sync = 20
+template_rank template.Backfills = 21
 
 abbrev pub same_template : PathTemplate → PathTemplate → Bool
 same_template = on template_rank nat_eq
@@ -164,9 +166,10 @@ route_of endpoint.ChangeUser = needing Patch template.User (on_all Edit Users �
 route_of endpoint.DeleteUser = needing Delete template.User (on_all action.Delete Users ∷ [])
 route_of endpoint.GetMe = needing Get template.Me []
 route_of endpoint.SyncDag = needing Post template.Sync (on_all Edit Roles ∷ [])
+route_of endpoint.BackfillDag = needing Post template.Backfills (at_dag Edit ∷ on_all Create DagRuns ∷ [])
 
 abbrev pub endpoints : List Endpoint
-endpoints = endpoint.Version ∷ endpoint.ListDags ∷ endpoint.GetDag ∷ endpoint.PauseDag ∷ endpoint.ListTasks ∷ endpoint.ListRuns ∷ endpoint.TriggerRun ∷ endpoint.GetRun ∷ endpoint.MarkRun ∷ endpoint.DeleteRun ∷ endpoint.ClearRun ∷ endpoint.ListInstances ∷ endpoint.GetInstance ∷ endpoint.ClearInstances ∷ endpoint.ListPools ∷ endpoint.AddPool ∷ endpoint.GetPool ∷ endpoint.ChangePool ∷ endpoint.DeletePool ∷ endpoint.ListVariables ∷ endpoint.AddVariable ∷ endpoint.GetVariable ∷ endpoint.ChangeVariable ∷ endpoint.DeleteVariable ∷ endpoint.ListEntries ∷ endpoint.ListRoles ∷ endpoint.AddRole ∷ endpoint.GetRole ∷ endpoint.ChangeRole ∷ endpoint.DeleteRole ∷ endpoint.ListUsers ∷ endpoint.AddUser ∷ endpoint.GetUser ∷ endpoint.ChangeUser ∷ endpoint.DeleteUser ∷ endpoint.GetMe ∷ endpoint.SyncDag ∷ []
+endpoints = endpoint.Version ∷ endpoint.ListDags ∷ endpoint.GetDag ∷ endpoint.PauseDag ∷ endpoint.ListTasks ∷ endpoint.ListRuns ∷ endpoint.TriggerRun ∷ endpoint.GetRun ∷ endpoint.MarkRun ∷ endpoint.DeleteRun ∷ endpoint.ClearRun ∷ endpoint.ListInstances ∷ endpoint.GetInstance ∷ endpoint.ClearInstances ∷ endpoint.ListPools ∷ endpoint.AddPool ∷ endpoint.GetPool ∷ endpoint.ChangePool ∷ endpoint.DeletePool ∷ endpoint.ListVariables ∷ endpoint.AddVariable ∷ endpoint.GetVariable ∷ endpoint.ChangeVariable ∷ endpoint.DeleteVariable ∷ endpoint.ListEntries ∷ endpoint.ListRoles ∷ endpoint.AddRole ∷ endpoint.GetRole ∷ endpoint.ChangeRole ∷ endpoint.DeleteRole ∷ endpoint.ListUsers ∷ endpoint.AddUser ∷ endpoint.GetUser ∷ endpoint.ChangeUser ∷ endpoint.DeleteUser ∷ endpoint.GetMe ∷ endpoint.SyncDag ∷ endpoint.BackfillDag ∷ []
 
 -- ---- what is read off it
 

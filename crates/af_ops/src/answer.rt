@@ -38,7 +38,9 @@ pub enum OpFault {
     DateTaken(Instant),
     /// A pool of the name, or a variable of the key, is there already.
     Exists,
-    /// A limit on the number of rows would be passed.
+    /// The DAG that it names has no schedule.
+    NoSchedule,
+    /// A limit on the number of rows, or on the points of a backfill, would be passed.
     TooMany,
     /// The default pool is never deleted.
     DefaultPool,

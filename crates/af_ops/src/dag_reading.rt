@@ -1,8 +1,9 @@
 // What a row of the table stands for, of those on DAGs, runs and instances.
 ghost use Rattle.std.specs.Prelude.{◌≡◌, [], IfOk, IsErr, IsSome, Some, map, string_bytes};
-ghost use Rattle.af_ops.specs.declared.endpoint.Endpoint.TheVariants.{ClearInstances, ClearRun, DeleteRun, GetDag, GetInstance, GetRun, ListDags, ListInstances, ListRuns, ListTasks, MarkRun, PauseDag, TriggerRun};
+ghost use Rattle.af_ops.specs.declared.endpoint.Endpoint.TheVariants.{BackfillDag, ClearInstances, ClearRun, DeleteRun, GetDag, GetInstance, GetRun, ListDags, ListInstances, ListRuns, ListTasks, MarkRun, PauseDag, TriggerRun};
 ghost use Rattle.af_ops.specs.Calls.{IsRead, call_of_row};
 
+use crate::backfill::read_backfill;
 use crate::bodies::{read_clear, read_clear_run, read_mark, read_pause, read_trigger};
 use crate::call::Call;
 use crate::op::Op;
@@ -185,4 +186,20 @@ pub(crate) fn clear_instances(
         return Ok(None);
     };
     Ok(Some(Call::State(Op::ClearInstances(dag_id, read_clear(alloc, body, scratch)))))
+}
+
+/// Runs are made for the points of a range of dates of a DAG.
+pub(crate) fn backfill_dag(
+    alloc: Global,
+    parts: &[String],
+    body: &[u8],
+    scratch: &mut Scratch,
+) -> Result<Option<Call>, AllocError>
+    ensures ok { IfOk result (λ found. IsRead (call_of_row BackfillDag (map (λ part. string_bytes part) parts.now) [] body.now) found) }
+    ensures memory { IsErr result → IsSome (call_of_row BackfillDag (map (λ part. string_bytes part) parts.now) [] body.now) }
+{
+    let Some(dag_id) = dag_id_in(alloc, parts)? else {
+        return Ok(None);
+    };
+    Ok(Some(Call::State(Op::BackfillDag(dag_id, read_backfill(alloc, body, scratch)))))
 }

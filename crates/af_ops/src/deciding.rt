@@ -16,6 +16,7 @@ ghost use Rattle.af_ops.specs.Effects.{effect_of, paused_dag, run_marked};
 use crate::answer::{CallFault, OpFault, Under};
 use crate::body::Body;
 use crate::op::Op;
+use crate::operations::backfilling::would_backfill;
 use crate::operations::dags::differs;
 use crate::operations::pools::would_change_pools;
 use crate::operations::variables::would_change_variables;
@@ -170,7 +171,9 @@ fn would_change(state: &State, op: &Op) -> bool
         Op::TriggerRun(_, Ok(_)) => true,
         Op::MarkRun(dag_id, run_id, Ok(mark)) => would_mark(state, dag_id, run_id, *mark),
         Op::DeleteRun(_, _) => true,
+        Op::BackfillDag(dag_id, Ok(asked)) => would_backfill(state, dag_id, asked),
         Op::PauseDag(_, Err(_)) | Op::TriggerRun(_, Err(_)) | Op::MarkRun(_, _, Err(_)) => false,
+        Op::BackfillDag(_, Err(_)) => false,
         Op::Version
         | Op::ListDags(_)
         | Op::GetDag(_)

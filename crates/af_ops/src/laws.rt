@@ -1,4 +1,4 @@
-ghost use Rattle.af_ops.specs.Laws.{ListingsGoById, ReadingsLeaveTheState, ChangesLeaveAnotherState, ChangesStayAtTheirDag, ClearsTouchChosenAlone, DryRunsLeaveTheState, OneRowAtMost, EachIsFound, OperationsAreOfTheirRow, RunNumbersRise, RunsAreShownByTheirIds, RunsListedAreThoseRead, RunsListedGoByNumber, TriggersAddARun};
+ghost use Rattle.af_ops.specs.Laws.{BackfillsFillTheirRange, ListingsGoById, ReadingsLeaveTheState, ChangesLeaveAnotherState, ChangesStayAtTheirDag, ClearsTouchChosenAlone, DryRunsLeaveTheState, OneRowAtMost, EachIsFound, OperationsAreOfTheirRow, RunNumbersRise, RunsAreShownByTheirIds, RunsListedAreThoseRead, RunsListedGoByNumber, TriggersAddARun};
 
 /// A method and a path name one operation of the table at most.
 pub fn one_row_at_most()
@@ -54,6 +54,11 @@ pub fn runs_are_shown_by_their_ids()
 /// and changes nothing else.
 pub fn triggers_add_a_run()
     ensures { TriggersAddARun }
+{}
+
+/// A backfill adds a run for each point of its range whose date and id are free, and none for others, tells all of them, and changes nothing else.
+pub fn backfills_fill_their_range()
+    ensures { BackfillsFillTheirRange }
 {}
 
 /// No operation lowers the number that the next run gets.

@@ -4,6 +4,7 @@
 mod access_texts;
 mod answer;
 mod answering;
+mod backfill;
 mod bodies;
 mod body;
 mod body_fault;
@@ -84,6 +85,7 @@ pub mod worked_rows;
 pub use access_texts::read_access;
 pub use answer::{CallFault, OpFault, Under};
 pub use answering::{openly, refused, shown_reply};
+pub use backfill::{Backfill, read_backfill};
 pub use bodies::{read_clear, read_clear_run, read_mark, read_pause, read_trigger};
 pub use body::Body;
 pub use body_fault::{BodyFault, Member};

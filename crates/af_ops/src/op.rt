@@ -3,6 +3,7 @@ ghost use Rattle.std.specs.Option.{option_copied};
 ghost use Rattle.af_ops.specs.Endpoints.{cleared_run, dag_of, endpoint_of, given_id, given_in, ids_in, row_name_of, run_of, task_ids_of, task_of};
 ghost use Rattle.af_ops.specs.Table.{reads_only};
 
+use crate::backfill::Backfill;
 use crate::body_fault::BodyFault;
 use crate::clear::Clear;
 use crate::endpoint::Endpoint;
@@ -19,7 +20,6 @@ pub(crate) mod copying;
 mod event;
 
 /// An operation that a request asks for: the names of its path, and what was read of its query or of its body, where it reads one.
-#[derive(Drop)]
 pub enum Op {
     /// What the server is.
     Version,
@@ -49,10 +49,36 @@ pub enum Op {
     GetInstance(DagId, RunId, TaskId),
     /// Instances of a DAG's runs are cleared, or told as those that would be.
     ClearInstances(DagId, Result<Clear, BodyFault>),
+    /// Runs are made for the points of a range of dates of a DAG.
+    BackfillDag(DagId, Result<Backfill, BodyFault>),
     /// An operation on pools.
     Pool(PoolOp),
     /// An operation on variables.
     Variable(VariableOp),
+}
+
+impl Drop for Op {
+    fn drop(self) {
+        match self {
+            Op::Version => {}
+            Op::ListDags(_) => {}
+            Op::GetDag(_) => {}
+            Op::PauseDag(_, _) => {}
+            Op::ListTasks(_) => {}
+            Op::ListRuns(_, _) => {}
+            Op::TriggerRun(_, _) => {}
+            Op::GetRun(_, _) => {}
+            Op::MarkRun(_, _, _) => {}
+            Op::DeleteRun(_, _) => {}
+            Op::ClearRun(_, _, _) => {}
+            Op::ListInstances(_, _, _) => {}
+            Op::GetInstance(_, _, _) => {}
+            Op::ClearInstances(_, _) => {}
+            Op::BackfillDag(_, _) => {}
+            Op::Pool(_) => {}
+            Op::Variable(_) => {}
+        }
+    }
 }
 
 impl Op {
@@ -75,6 +101,7 @@ impl Op {
             Op::ListInstances(_, _, _) => Endpoint::ListInstances,
             Op::GetInstance(_, _, _) => Endpoint::GetInstance,
             Op::ClearInstances(_, _) => Endpoint::ClearInstances,
+            Op::BackfillDag(_, _) => Endpoint::BackfillDag,
             Op::Pool(op) => op.endpoint(),
             Op::Variable(op) => op.endpoint(),
         }
@@ -100,6 +127,7 @@ impl Op {
             Op::MarkRun(dag_id, _, _) | Op::ClearRun(dag_id, _, _) => Some(dag_id),
             Op::DeleteRun(dag_id, _) | Op::ClearInstances(dag_id, _) => Some(dag_id),
             Op::ListInstances(dag_id, _, _) | Op::GetInstance(dag_id, _, _) => Some(dag_id),
+            Op::BackfillDag(dag_id, _) => Some(dag_id),
         }
     }
 
@@ -119,6 +147,7 @@ impl Op {
             | Op::ListTasks(_)
             | Op::ListRuns(_, _)
             | Op::TriggerRun(_, _)
+            | Op::BackfillDag(_, _)
             | Op::Pool(_)
             | Op::Variable(_) => None,
         }
@@ -143,6 +172,7 @@ impl Op {
             | Op::ClearRun(_, _, _)
             | Op::ListInstances(_, _, _)
             | Op::ClearInstances(_, _)
+            | Op::BackfillDag(_, _)
             | Op::Pool(_)
             | Op::Variable(_) => None,
         }
@@ -167,6 +197,7 @@ impl Op {
             | Op::ListInstances(_, _, _)
             | Op::GetInstance(_, _, _)
             | Op::ClearInstances(_, _)
+            | Op::BackfillDag(_, _)
             | Op::Pool(_)
             | Op::Variable(_) => None,
         }
@@ -191,6 +222,7 @@ impl Op {
             | Op::ClearRun(_, _, _)
             | Op::ListInstances(_, _, _)
             | Op::GetInstance(_, _, _)
+            | Op::BackfillDag(_, _)
             | Op::Pool(_)
             | Op::Variable(_) => &[],
         }
@@ -216,7 +248,8 @@ impl Op {
             | Op::ClearRun(_, _, _)
             | Op::ListInstances(_, _, _)
             | Op::GetInstance(_, _, _)
-            | Op::ClearInstances(_, _) => "",
+            | Op::ClearInstances(_, _)
+            | Op::BackfillDag(_, _) => "",
         }
     }
 }

@@ -1,4 +1,5 @@
 // Each operation: what it answers and what it edits. All memory is taken here.
+pub(crate) mod backfilling;
 pub(crate) mod clearing;
 pub(crate) mod dags;
 pub(crate) mod deleting;

@@ -3,7 +3,7 @@ ghost use Rattle.af_ops.specs.Table.{segments_of, spelled};
 ghost use Rattle.af_ops.specs.Segments.{seen};
 
 use crate::paths::{CLEAR, DAG, DAGS, INSTANCE, INSTANCES, RUN, RUN_CLEAR, RUNS, TASKS, VERSION};
-use crate::policy_paths::{ENTRIES, ME, ROLE, ROLES, SYNC, USER, USERS};
+use crate::policy_paths::{BACKFILLS, ENTRIES, ME, ROLE, ROLES, SYNC, USER, USERS};
 use crate::row_paths::{POOL, POOLS, VARIABLE, VARIABLES};
 use crate::segment::Segment;
 
@@ -52,6 +52,8 @@ pub enum PathTemplate {
     Me,
     /// `/own/dags/{dag_id}/sync`
     Sync,
+    /// `/own/dags/{dag_id}/backfills`
+    Backfills,
 }
 
 impl PathTemplate {
@@ -82,6 +84,7 @@ impl PathTemplate {
             PathTemplate::User => "/api/v1/users/{username}",
             PathTemplate::Me => "/own/me",
             PathTemplate::Sync => "/own/dags/{dag_id}/sync",
+            PathTemplate::Backfills => "/own/dags/{dag_id}/backfills",
         }
     }
 
@@ -111,6 +114,7 @@ impl PathTemplate {
             PathTemplate::User => &USER,
             PathTemplate::Me => &ME,
             PathTemplate::Sync => &SYNC,
+            PathTemplate::Backfills => &BACKFILLS,
         }
     }
 }

@@ -113,3 +113,22 @@ pub(crate) static SYNC: [Segment; 4] = [
         is_part: false,
     },
 ];
+
+pub(crate) static BACKFILLS: [Segment; 4] = [
+    Segment {
+        text: "own",
+        is_part: false,
+    },
+    Segment {
+        text: "dags",
+        is_part: false,
+    },
+    Segment {
+        text: "dag_id",
+        is_part: true,
+    },
+    Segment {
+        text: "backfills",
+        is_part: false,
+    },
+];

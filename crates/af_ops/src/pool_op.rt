@@ -13,7 +13,6 @@ use af_pool::Pool;
 use std::alloc::{AllocError, Global};
 
 /// An operation on pools: the name of its path, and what was read of its query or of its body, where it reads one.
-#[derive(Drop)]
 pub enum PoolOp {
     /// A page of the pools.
     List(Result<Window, Parameter>),
@@ -25,6 +24,18 @@ pub enum PoolOp {
     Change(PoolName, Result<u32, BodyFault>),
     /// A pool is deleted.
     Delete(PoolName),
+}
+
+impl Drop for PoolOp {
+    fn drop(self) {
+        match self {
+            PoolOp::List(_) => {}
+            PoolOp::Add(_) => {}
+            PoolOp::Get(_) => {}
+            PoolOp::Change(_, _) => {}
+            PoolOp::Delete(_) => {}
+        }
+    }
 }
 
 impl PoolOp {

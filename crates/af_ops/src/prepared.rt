@@ -1,6 +1,7 @@
 ghost use Rattle.std.specs.Prelude.{◌≡◌, Some, None};
 ghost use Rattle.af_ops.specs.Edits.{edited, is_edit, with_run};
-ghost use Rattle.af_ops.specs.Prepared.{CanAddRun, CanDo};
+ghost use Rattle.af_sched.specs.Plan.{applied};
+ghost use Rattle.af_ops.specs.Prepared.{CanAddRun, CanAddRuns, CanDo};
 
 use crate::body::Body;
 use crate::edit::Edit;
@@ -8,7 +9,7 @@ use crate::row_edits::{
     add_pool, add_variable, remove_pool, remove_variable, set_slots, set_variable,
 };
 use af_runs::NewRun;
-use af_sched::State;
+use af_sched::{Plan, State};
 use std::marker::Model;
 
 /// An operation that can be committed without memory. Contracts see the body of its reply, if it has one, and its edit.
@@ -63,6 +64,7 @@ impl Prepared {
             | Edit::RunMarked(_, _, _)
             | Edit::InstancesCleared(_, _)
             | Edit::RunRemoved(_)
+            | Edit::RunsPlanned(_)
             | Edit::PoolAdded(_, _)
             | Edit::PoolSet(_, _)
             | Edit::PoolRemoved(_)
@@ -96,6 +98,7 @@ fn do_edit(state: &mut State, edit: Edit)
         Edit::RunMarked(number, mark, at) => state.mark_run(number, mark, at),
         Edit::InstancesCleared(filter, selection) => state.clear_instances(&filter, &selection),
         Edit::RunRemoved(number) => state.remove_run(number),
+        Edit::RunsPlanned(plan) => add_runs(state, plan),
         Edit::PoolAdded(name, slots) => add_pool(state, name, slots),
         Edit::PoolSet(name, slots) => set_slots(state, &name, slots),
         Edit::PoolRemoved(name) => remove_pool(state, &name),
@@ -112,4 +115,12 @@ fn add_run(state: &mut State, new: NewRun)
 {
     // There is room for it and no fault, so it succeeds.
     let _number = state.add_run(new);
+}
+
+/// Adds the runs of a plan that may be done. It takes no memory.
+fn add_runs(state: &mut State, plan: Plan)
+    requires { CanAddRuns state.old plan }
+    ensures { state.new.rows ≡ applied plan state.old.rows }
+{
+    state.commit(plan);
 }

@@ -11,6 +11,7 @@ ghost use Rattle.af_base.specs.Readings.{seen};
 use crate::answer::OpFault;
 use crate::edit::Edit;
 use crate::op::Op;
+use crate::operations::backfilling::backfilled_dag;
 use crate::operations::clearing::{instances_cleared, run_cleared};
 use crate::operations::dags::{got_dag, listed_dags, paused_dag};
 use crate::operations::deleting::run_deleted;
@@ -60,6 +61,7 @@ pub fn prepare<R: Reader>(
         Op::DeleteRun(dag_id, run_id) => run_deleted(state, dag_id, run_id),
         Op::ClearRun(dag_id, run_id, input) => run_cleared(alloc, state, dag_id, run_id, input),
         Op::ClearInstances(dag_id, input) => instances_cleared(alloc, state, dag_id, input),
+        Op::BackfillDag(dag_id, input) => backfilled_dag(alloc, state, dag_id, input),
         Op::Pool(op) => prepare_pools(alloc, state, op),
         Op::Variable(op) => prepare_variables(alloc, state, op),
     }
@@ -99,6 +101,7 @@ pub(crate) fn prepare_read<R: Reader>(
         Op::Variable(op) => read_variables(alloc, state, op),
         Op::PauseDag(_, _) | Op::TriggerRun(_, _) | Op::MarkRun(_, _, _) => unreachable!(),
         Op::DeleteRun(_, _) | Op::ClearRun(_, _, _) | Op::ClearInstances(_, _) => unreachable!(),
+        Op::BackfillDag(_, _) => unreachable!(),
     }
 }
 

@@ -4,8 +4,8 @@ ghost use Rattle.af_ops.specs.Endpoints.{are_names, is_get};
 
 use crate::call::Call;
 use crate::dag_reading::{
-    clear_instances, clear_run, delete_run, get_dag, get_instance, get_run, list_dags,
-    list_instances, list_runs, list_tasks, mark_run, pause_dag, trigger_run,
+    backfill_dag, clear_instances, clear_run, delete_run, get_dag, get_instance, get_run,
+    list_dags, list_instances, list_runs, list_tasks, mark_run, pause_dag, trigger_run,
 };
 use crate::endpoint::Endpoint;
 use crate::method::Method;
@@ -77,6 +77,7 @@ pub fn read_row(
         Endpoint::DeleteUser => delete_user(alloc, parts),
         Endpoint::GetMe => Ok(Some(Call::Policy(PolicyOp::Me))),
         Endpoint::SyncDag => sync_dag(alloc, parts, body, scratch),
+        Endpoint::BackfillDag => backfill_dag(alloc, parts, body, scratch),
     }
 }
 
@@ -99,8 +100,8 @@ pub fn are_names(
             true,
         PathTemplate::Pool | PathTemplate::Variable => is_row_name(alloc, parts),
         PathTemplate::Role | PathTemplate::User => is_account_name(alloc, parts),
-        PathTemplate::Dag | PathTemplate::Tasks | PathTemplate::Clear | PathTemplate::Sync =>
-            is_dag_id(alloc, parts),
+        PathTemplate::Dag | PathTemplate::Tasks | PathTemplate::Clear => is_dag_id(alloc, parts),
+        PathTemplate::Sync | PathTemplate::Backfills => is_dag_id(alloc, parts),
         PathTemplate::Runs => is_dag_id(alloc, parts) || is_get(method) && is_all(parts),
         PathTemplate::Run | PathTemplate::RunClear | PathTemplate::Instances => {
             is_dag_id(alloc, parts) && is_run_id(alloc, parts)

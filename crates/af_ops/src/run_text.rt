@@ -138,6 +138,7 @@ fn run_type_text(run_type: RunType) -> &'static str
     match run_type {
         RunType::Manual => "manual",
         RunType::Scheduled => "scheduled",
+        RunType::Backfill => "backfill",
     }
 }
 

@@ -23,7 +23,7 @@ use crate::row_requirements::{
 use af_role::Need;
 
 /// All operations.
-pub const ENDPOINTS: [Endpoint; 37] = [
+pub const ENDPOINTS: [Endpoint; 38] = [
     Endpoint::Version,
     Endpoint::ListDags,
     Endpoint::GetDag,
@@ -61,10 +61,11 @@ pub const ENDPOINTS: [Endpoint; 37] = [
     Endpoint::DeleteUser,
     Endpoint::GetMe,
     Endpoint::SyncDag,
+    Endpoint::BackfillDag,
 ];
 
 /// All templates of paths.
-pub const PATH_TEMPLATES: [PathTemplate; 21] = [
+pub const PATH_TEMPLATES: [PathTemplate; 22] = [
     PathTemplate::Version,
     PathTemplate::Dags,
     PathTemplate::Dag,
@@ -86,6 +87,7 @@ pub const PATH_TEMPLATES: [PathTemplate; 21] = [
     PathTemplate::User,
     PathTemplate::Me,
     PathTemplate::Sync,
+    PathTemplate::Backfills,
 ];
 
 /// The row of an operation.
@@ -134,6 +136,7 @@ pub fn route_of(endpoint: Endpoint) -> Route
         Endpoint::DeleteUser => needing(Method::Delete, PathTemplate::User, &DELETE_USER),
         Endpoint::GetMe => needing(Method::Get, PathTemplate::Me, &[]),
         Endpoint::SyncDag => needing(Method::Post, PathTemplate::Sync, &EDIT_ROLE),
+        Endpoint::BackfillDag => needing(Method::Post, PathTemplate::Backfills, &CREATE_RUN),
     }
 }
 
@@ -182,6 +185,7 @@ pub fn needs_for(op: &Op) -> &'static [Need]
         Op::ListInstances(_, _, _) => needs(Endpoint::ListInstances),
         Op::GetInstance(_, _, _) => needs(Endpoint::GetInstance),
         Op::ClearInstances(_, _) => needs(Endpoint::ClearInstances),
+        Op::BackfillDag(_, _) => needs(Endpoint::BackfillDag),
         Op::Pool(op) => needs(op.endpoint()),
         Op::Variable(op) => needs(op.endpoint()),
     }

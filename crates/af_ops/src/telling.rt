@@ -65,7 +65,8 @@ fn op_status(fault: &OpFault) -> Status
             Status::NotFound
         }
         OpFault::RunExists(_) | OpFault::DateTaken(_) | OpFault::Exists => Status::Conflict,
-        OpFault::TooMany | OpFault::DefaultPool | OpFault::InUse => Status::Conflict,
+        OpFault::NoSchedule | OpFault::TooMany => Status::Conflict,
+        OpFault::DefaultPool | OpFault::InUse => Status::Conflict,
         OpFault::HistoryFull => Status::InsufficientStorage,
         OpFault::OutOfMemory => Status::Unavailable,
     }
@@ -90,6 +91,7 @@ fn op_detail(alloc: Global, op: &Op, fault: OpFault) -> Result<String, AllocErro
         OpFault::RunExists(date) => taken_id(alloc, op.given_id(), date),
         OpFault::DateTaken(date) => joined(alloc, "date taken: ", date.isoformat().as_str()),
         OpFault::Exists => joined(alloc, "exists: ", op.row_name()),
+        OpFault::NoSchedule => String::from_str(alloc, "no schedule"),
         OpFault::TooMany => String::from_str(alloc, "too many"),
         OpFault::DefaultPool => String::from_str(alloc, "default pool"),
         OpFault::InUse => joined(alloc, "pool in use: ", op.row_name()),

@@ -13,7 +13,6 @@ use af_vars::{VarText, Variable};
 use std::alloc::{AllocError, Global};
 
 /// An operation on variables: the key of its path, and what was read of its query or of its body, where it reads one.
-#[derive(Drop)]
 pub enum VariableOp {
     /// A page of the variables.
     List(Result<Window, Parameter>),
@@ -25,6 +24,18 @@ pub enum VariableOp {
     Change(VarKey, Result<VarText, BodyFault>),
     /// A variable is deleted.
     Delete(VarKey),
+}
+
+impl Drop for VariableOp {
+    fn drop(self) {
+        match self {
+            VariableOp::List(_) => {}
+            VariableOp::Add(_) => {}
+            VariableOp::Get(_) => {}
+            VariableOp::Change(_, _) => {}
+            VariableOp::Delete(_) => {}
+        }
+    }
 }
 
 impl VariableOp {

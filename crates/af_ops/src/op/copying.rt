@@ -51,6 +51,7 @@ impl Op {
                 let (dag_id, run_id) = copied_ids(alloc, dag_id, run_id)?;
                 Ok(Op::GetInstance(dag_id, run_id, task_id.copied(alloc)?))
             }
+            Op::BackfillDag(dag_id, input) => Ok(Op::BackfillDag(dag_id.copied(alloc)?, *input)),
             Op::Pool(op) => Ok(Op::Pool(op.copied(alloc)?)),
             Op::Variable(op) => Ok(Op::Variable(op.copied(alloc)?)),
         }

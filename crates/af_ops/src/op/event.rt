@@ -19,6 +19,7 @@ impl Op {
             Op::DeleteRun(_, _) => "delete_dag_run",
             Op::ClearRun(_, _, _) => "clear_dag_run",
             Op::ClearInstances(_, _) => "clear_task_instances",
+            Op::BackfillDag(_, _) => "backfill",
             Op::Pool(op) => op.event(),
             Op::Variable(op) => op.event(),
             _ => "",

@@ -9,6 +9,7 @@ ghost use Rattle.af_ops.specs.Listings.{read_rows};
 ghost use Rattle.af_ops.specs.Texts.{is_name};
 
 use crate::answer::OpFault;
+use crate::backfill::Backfill;
 use crate::body_fault::BodyFault;
 use crate::clear::Clear;
 use crate::row::{Row, rows_text};
@@ -64,6 +65,16 @@ pub(crate) fn mark_or(input: &Result<Mark, BodyFault>) -> Result<Mark, OpFault>
 {
     match input {
         Ok(mark) => Ok(*mark),
+        Err(why) => Err(input_fault(*why)),
+    }
+}
+
+/// The range of dates that was read of a body.
+pub(crate) fn backfill_or(input: &Result<Backfill, BodyFault>) -> Result<&Backfill, OpFault>
+    ensures { seen (λ asked. asked.now) result ≡ input_or input.now }
+{
+    match input {
+        Ok(asked) => Ok(asked),
         Err(why) => Err(input_fault(*why)),
     }
 }
