@@ -19,6 +19,7 @@ use Rattle.af_sched.specs.contracts.state.State as state
 use Rattle.af_sched.specs.contracts.claim.Claim as claim
 use Rattle.af_ops.specs.contracts.trigger.Trigger as trigger
 use Rattle.af_ops.specs.contracts.clear.Clear as clear
+use Rattle.af_ops.specs.contracts.backfill.Backfill as backfill
 use Rattle.af_ops.specs.contracts.pool_op.PoolOp as pool_op
 use Rattle.af_ops.specs.contracts.variable_op.VariableOp as variable_op
 use Rattle.af_ops.specs.contracts.op.Op as op
@@ -77,6 +78,9 @@ trigger_sync = search (sendable, crosses) depth 60 fits 100000
 pub clear_sync : IsSync (clear.the_field).row
 clear_sync = search (sendable, crosses) depth 60 fits 100000
 
+pub backfill_sync : IsSync (backfill.the_field).row
+backfill_sync = search (sendable, crosses) depth 60 fits 100000
+
 pub pool_op_sync : IsSync (pool_op.the_field).row
 pool_op_sync = search (sendable, crosses) depth 60 fits 100000
 
@@ -113,10 +117,13 @@ op_sync = enum_sync (shape op.the_type) (
                           (
                             (search (sendable, crosses) depth 60, (search (sendable, crosses, clear_sync) depth 60, tt)),
                             (
-                              (search (sendable, pool_op_sync) depth 60, tt),
+                              (search (sendable, crosses) depth 60, (search (sendable, crosses, backfill_sync) depth 60, tt)),
                               (
-                                (search (sendable, variable_op_sync) depth 60, tt),
-                                tt,
+                                (search (sendable, pool_op_sync) depth 60, tt),
+                                (
+                                  (search (sendable, variable_op_sync) depth 60, tt),
+                                  tt,
+                                ),
                               ),
                             ),
                           ),

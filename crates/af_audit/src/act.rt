@@ -10,7 +10,6 @@ use af_ops::Op;
 use af_sched::{Claim, Outcome};
 
 /// What was done.
-#[derive(Drop)]
 pub enum Act {
     /// A user's operation.
     Did(Op),
@@ -20,6 +19,17 @@ pub enum Act {
     Claim(Claim),
     /// An executor reported this outcome of a try that it had claimed.
     Report(Claim, Outcome),
+}
+
+impl Drop for Act {
+    fn drop(self) {
+        match self {
+            Act::Did(_) => {}
+            Act::Tick => {}
+            Act::Claim(_) => {}
+            Act::Report(_, _) => {}
+        }
+    }
 }
 
 impl Act {

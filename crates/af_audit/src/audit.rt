@@ -11,10 +11,18 @@ use std::alloc::Global;
 use std::marker::Model;
 
 /// The entries, in the order in which they were made, at most so many. Their numbers go from 1 without gaps.
-#[derive(Drop)]
 pub struct Audit {
     entries: Vec<Entry>,
     limit: u32,
+}
+
+impl Drop for Audit {
+    fn drop(self) {
+        let Audit {
+            entries: _,
+            limit: _,
+        } = self;
+    }
 }
 
 impl Model for Audit {

@@ -7,7 +7,6 @@ use crate::run_name::RunName;
 use af_names::Instant;
 
 /// One entry of the audit: a change that was done.
-#[derive(Drop)]
 pub struct Entry {
     /// Its number: the first entry has 1, and each later one the next.
     pub seq: u32,
@@ -19,6 +18,18 @@ pub struct Entry {
     pub version: u32,
     /// What was done.
     pub act: Act,
+}
+
+impl Drop for Entry {
+    fn drop(self) {
+        let Entry {
+            seq: _,
+            moment: _,
+            actor: _,
+            version: _,
+            act: _,
+        } = self;
+    }
 }
 
 impl Entry {

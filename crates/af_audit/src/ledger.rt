@@ -19,12 +19,22 @@ mod ticking;
 
 /// The state that stands, and the entries that made it of the one that it was opened with: at all times it is their replay. It also
 /// keeps the policy version under which acts are decided. The opening state stands in proofs alone: who wants to replay reads it again.
-#[derive(Drop)]
 pub struct Ledger {
     opening: OpeningState,
     state: State,
     audit: Audit,
     version: u32,
+}
+
+impl Drop for Ledger {
+    fn drop(self) {
+        let Ledger {
+            opening: _,
+            state: _,
+            audit: _,
+            version: _,
+        } = self;
+    }
 }
 
 impl Model for Ledger {

@@ -7,9 +7,14 @@ use af_sched::State;
 use std::marker::Model;
 
 /// The rows of a state as they were at one time. It has no bytes and owns nothing, so no copy is made.
-#[derive(Drop)]
 pub(crate) struct OpeningState {
     pub ghost rows: { StateRows },
+}
+
+impl Drop for OpeningState {
+    fn drop(self) {
+        let OpeningState {} = self;
+    }
 }
 
 impl Model for OpeningState {

@@ -14,9 +14,14 @@ const GOLDEN: u32 = 0x9E37_79B1;
 /// Tokens that came lately, each beside its SHA-256, so that one that comes again is not hashed again. Connections of a proxy carry tokens of
 /// many users. A token has one place, and another one that has the same place takes it over. It changes no answer. Without memory for the
 /// places, each token is hashed.
-#[derive(Drop)]
 pub struct RecentTokens {
     places: Vec<Option<LastToken>>,
+}
+
+impl Drop for RecentTokens {
+    fn drop(self) {
+        let RecentTokens { places: _ } = self;
+    }
 }
 
 impl RecentTokens {
