@@ -119,6 +119,7 @@ module _ (granted : PairRow → Bool) (state : StateRows) where
   from_sight (op.DeleteRun dag_id run_id) now is = absurd (cc)
   from_sight (op.ClearRun dag_id run_id input) now is = absurd (cc)
   from_sight (op.ClearInstances dag_id input) now is = absurd (cc)
+  from_sight (op.BackfillDag dag_id input) now is = absurd (cc)
   from_sight (op.Pool it) now is = absurd (cc)
   from_sight (op.Variable it) now is = absurd (cc)
 

@@ -15,7 +15,9 @@ use Rattle.af_graph.specs.declared.schedule.Schedule.{Schedule}
 use Rattle.af_runs.specs.Instances.{new_instance}
 use Rattle.af_runs.specs.Runs.{add_fault, queued_run}
 use Rattle.af_runs.specs.declared.new_run.NewRun.{NewRun}
-use Rattle.af_sched.specs.Create.{created, moved_row, run_for, runs_due, runs_of_row, with_run, with_runs_of}
+use Rattle.af_runs.specs.declared.run_type.RunType.{RunType}
+use Rattle.af_runs.specs.declared.run_type.RunType.TheVariants.{Scheduled}
+use Rattle.af_sched.specs.Create.{created, moved_row, point_run, runs_due, runs_of_row, with_run, with_runs_of}
 use Rattle.af_sched.specs.Due.{taken_points}
 use Rattle.af_sched.specs.Start.{started, started_run, starts}
 use Rattle.af_sched.specs.State.{StateRows, dag_of, is_of_id}
@@ -42,11 +44,11 @@ found_row dags order k d inside =
 
 module _ (dags : List DagRow) where
   -- it has an instance for each task of its DAG
-  abbrev IsWholeFor : NewRun → Type 0
+  abbrev pub IsWholeFor : NewRun → Type 0
   IsWholeFor new = option_map (λ (row : DagRow). length row.dag.tasks) (dag_of dags new.dag_id) ≡ Some (length new.instances)
 
   -- a state over these DAGs
-  abbrev IsOver : StateRows → Type 0
+  abbrev pub IsOver : StateRows → Type 0
   IsOver state = IsReady state × (state.dags ≡ dags)
 
   same_dags : (b : Bool) (state : StateRows) (new : NewRun) → (cond b (record state { runs = state.runs ++ queued_run state.next_run new ∷ []; next_run = state.next_run + 1 }) state).dags ≡ state.dags
@@ -59,24 +61,24 @@ module _ (dags : List DagRow) where
     same_dags (is_none (add_fault state.runs state.next_run new.dag_id new.run_id new.logical_date)) state new ∙ is.1,
   )
 
-  with_all : (news : List NewRun) (state : StateRows) → All IsWholeFor news → IsOver state → IsOver (fold with_run state news)
+  pub with_all : (news : List NewRun) (state : StateRows) → All IsWholeFor news → IsOver state → IsOver (fold with_run state news)
   with_all [] state all is = is
   with_all (new ∷ news) state all is =
       with_all news (with_run state new) (λ k d inside. all (suc k) d (omega arith)) (with_one state new (all 0 new (omega arith)) is)
 
-  whole_due : (row : DagRow) (is_point : ℕ → Bool) (points : List ℕ) → dag_of dags row.dag.dag_id ≡ Some row → All IsWholeFor (map (run_for row.dag is_point) points)
-  whole_due row is_point [] found = All-nil IsWholeFor
-  whole_due row is_point (p ∷ points) found =
-      All-cons IsWholeFor (run_for row.dag is_point p) (map (run_for row.dag is_point) points)
+  pub whole_due : (kind : RunType) (row : DagRow) (is_point : ℕ → Bool) (points : List ℕ) → dag_of dags row.dag.dag_id ≡ Some row → All IsWholeFor (map (point_run kind row.dag is_point) points)
+  whole_due kind row is_point [] found = All-nil IsWholeFor
+  whole_due kind row is_point (p ∷ points) found =
+      All-cons IsWholeFor (point_run kind row.dag is_point p) (map (point_run kind row.dag is_point) points)
       (ap (option_map (λ (r : DagRow). length r.dag.tasks)) found ∙ ap Some (sym (length-map row.dag.tasks new_instance)))
-      (whole_due row is_point points found)
+      (whole_due kind row is_point points found)
 
   whole_of_row : (t : ℕ) (row : DagRow) → dag_of dags row.dag.dag_id ≡ Some row → All IsWholeFor (runs_of_row t row)
   whole_of_row t row found = by row.is_paused row.dag.schedule row.cursor
     where
       due : (schedule : Schedule) (cursor : Option ℕ) → All IsWholeFor (option_map_or (runs_due t row.dag (is_scheduled schedule)) cursor [])
       due schedule None = All-nil IsWholeFor
-      due schedule (Some cursor) = whole_due row (is_scheduled schedule) (taken_points row.dag.catchup (is_scheduled schedule) cursor t) found
+      due schedule (Some cursor) = whole_due Scheduled row (is_scheduled schedule) (taken_points row.dag.catchup (is_scheduled schedule) cursor t) found
 
       by : (b : Bool) (schedule : Option Schedule) (cursor : Option ℕ) → All IsWholeFor (cond b [] (option_map_or (λ s. option_map_or (runs_due t row.dag (is_scheduled s)) cursor []) schedule []))
       by true schedule cursor = All-nil IsWholeFor

@@ -93,14 +93,16 @@ run_back run_state.Failed = refl
 type_rank : RunType → ℕ
 type_rank run_type.Manual = 0
 type_rank run_type.Scheduled = 1
+type_rank run_type.Backfill = 2
 
 type_of : ℕ → RunType
-type_of n = unwrap_or (slice_get (run_type.Manual ∷ run_type.Scheduled ∷ []) n) run_type.Manual
+type_of n = unwrap_or (slice_get (run_type.Manual ∷ run_type.Scheduled ∷ run_type.Backfill ∷ []) n) run_type.Manual
 
 type_back : (x : RunType) → type_of (type_rank x) ≡ x
 unfolding type_rank type_of
 type_back run_type.Manual = refl
 type_back run_type.Scheduled = refl
+type_back run_type.Backfill = refl
 
 pub known_text : (xs ys : List ℕ) → Known (xs ≡ ys)
 known_text xs ys = known_list known_number xs ys

@@ -1,10 +1,13 @@
 -- A state that is ready stays so after every operation.
-use Rattle.std.proofs.Common.{◌≡◌, ◌∙◌, ℕ, List, length, map, refl, sym, ap, Bool, true, false, cond, not, ◌||◌}
-use Rattle.std.specs.Prelude.{⊤, Option, Some, None, Result, Ok, Err, IfSome, nat_eq, ok_or, option_map, unwrap_or, ◌==◌}
-use Rattle.std.specs.Cmp.Lexicographic.{pointwise}
+use Rattle.std.proofs.Common.{◌≡◌, ◌∙◌, ℕ, List, length, map, refl, sym, ap, subst, Bool, true, false, cond, not, ◌||◌}
+use Rattle.std.specs.Prelude.{⊤, All, Option, Some, None, Result, Ok, Err, IfSome, nat_eq, nat_lt, ok_or, option_map, unwrap_or, ◌==◌}
+use Rattle.std.specs.Cmp.Lexicographic.{bytes_decides, pointwise}
 use Rattle.std.proofs.Math.ListN.{length-map}
 use Rattle.af_base.specs.Readings.{◌>>=◌}
+use Rattle.af_graph.specs.Schedules.{is_scheduled}
+use Rattle.af_graph.specs.declared.schedule.Schedule.{Schedule}
 use Rattle.af_graph.specs.declared.task_spec.TaskSpec.{TaskSpec}
+use Rattle.af_policy.proofs.RemovalLemmas.{find-passes}
 use Rattle.af_pool.specs.Pools as pools
 use Rattle.af_pool.specs.declared.pool.Pool.{Pool}
 use Rattle.af_runs.specs.Clears.{admits, are_left_by, cleared_run, run_after}
@@ -12,18 +15,22 @@ use Rattle.af_runs.specs.Instances.{new_instance}
 use Rattle.af_runs.specs.Marks.{is_marked, marked_instance, marked_run}
 use Rattle.af_runs.specs.Runs.{add_fault, is_run, runs_of}
 use Rattle.af_runs.specs.declared.mark.Mark.{Mark}
+use Rattle.af_runs.specs.declared.new_run.NewRun.{NewRun}
 use Rattle.af_runs.specs.declared.run.Run.{Run}
 use Rattle.af_runs.specs.declared.run_fault.RunFault.{RunFault}
 use Rattle.af_runs.specs.declared.run_fault.RunFault.TheVariants as run_fault
 use Rattle.af_runs.specs.declared.run_filter.RunFilter.{RunFilter}
+use Rattle.af_runs.specs.declared.run_type.RunType.TheVariants as run_type
 use Rattle.af_runs.specs.declared.selection.Selection.{Selection}
 use Rattle.af_runs.proofs.MarkLemmas.{chosen_alone}
+use Rattle.af_sched.specs.Backfills.{backfill_runs, backfilled, points_within}
 use Rattle.af_sched.specs.State.{StateRows, dag_of, is_of_id, pools_of_row, with_paused}
 use Rattle.af_sched.specs.declared.dag_row.DagRow.{DagRow}
 use Rattle.af_vars.specs.Variables as variables
 use Rattle.af_vars.specs.declared.variable.Variable.{Variable}
 use Rattle.af_ops.specs.declared.answer.OpFault.{OpFault}
-use Rattle.af_ops.specs.declared.answer.OpFault.TheVariants.{NoSuchDag, NoSuchTask}
+use Rattle.af_ops.specs.declared.answer.OpFault.TheVariants.{NoSchedule, NoSuchDag, NoSuchTask, TooMany}
+use Rattle.af_ops.specs.declared.backfill.Backfill.{Backfill}
 use Rattle.af_ops.specs.declared.clear.Clear.{Clear}
 use Rattle.af_ops.specs.declared.op.Op.{Op}
 use Rattle.af_ops.specs.declared.op.Op.TheVariants as op
@@ -32,6 +39,7 @@ use Rattle.af_ops.specs.declared.pool_op.PoolOp.TheVariants as pool
 use Rattle.af_ops.specs.declared.trigger.Trigger.{Trigger}
 use Rattle.af_ops.specs.declared.variable_op.VariableOp.{VariableOp}
 use Rattle.af_ops.specs.declared.variable_op.VariableOp.TheVariants as variable
+use Rattle.af_ops.specs.BackfillEffects.{backfilling, may_make, range_or, unless_too_many}
 use Rattle.af_ops.specs.ClearEffects.{all_tasks, clearing, filter_of, known_run, known_tasks, one_run, selection_of}
 use Rattle.af_ops.specs.EffectParts.{Effect, dag_or, input_or, kept, left_with, run_or, window_or}
 use Rattle.af_ops.specs.Effects.{added_run, dags_data, deleting, differs, effect_of, free_by, free_id, id_or, instance_of, instances_data, marking, new_run, pausing, runs_data, tasks_data, with_marked_run}
@@ -43,6 +51,7 @@ use Rattle.af_ops.specs.VariableEffects.{variable_effect, variable_or, variables
 use Rattle.af_ops.specs.VariableEffects.{adding as adding_variable, unless_fault as unless_variable_fault}
 use Rattle.af_audit.specs.Acts.{after_op, next_of}
 use Rattle.af_world.specs.Ready.{IsReady}
+use Rattle.af_world.proofs.DueReadyLemmas.{IsWholeFor, whole_due, with_all}
 use Rattle.af_world.proofs.ReadyLemmas.{IsInPlace, ready_added, ready_dags, ready_fewer, ready_runs, some_in_place}
 
 -- what an operation leaves, if it changes anything
@@ -168,6 +177,34 @@ module _ (state : StateRows) (ready : IsReady state) where
       (λ run there. bound (known_tasks row.dag.tasks asked.task_ids) (λ tasks. Ok (clearing state row.dag.tasks (filter_of dag asked) (selection_of row.dag.tasks asked) asked.dry_run))
       (λ tasks named. clear_leaves row.dag.tasks (filter_of dag asked) (selection_of row.dag.tasks asked) asked.dry_run)))
 
+  -- runs are made for a range of dates: each has an instance for each task of its DAG
+  few_whole : (b : Bool) (runs news : List NewRun) → All (IsWholeFor state.dags) runs → cond b (Ok runs) (Err TooMany) ≡ Ok news → All (IsWholeFor state.dags) news
+  few_whole true runs news whole is = (let same : runs ≡ news = cc in subst (All (IsWholeFor state.dags)) same whole)
+  few_whole false runs news whole is = absurd (cc)
+
+  range_whole : (dag : List ℕ) (asked : Backfill) (news : List NewRun) → range_or state dag asked ≡ Ok news → All (IsWholeFor state.dags) news
+  range_whole dag asked news is = of_dag (dag_of state.dags dag) refl is
+    where
+      of_row : (row : DagRow) → dag_of state.dags row.dag.dag_id ≡ Some row → (schedule : Option Schedule)
+          → (ok_or schedule NoSchedule >>= (λ it. unless_too_many state row.dag.dag_id (backfill_runs row.dag (is_scheduled it) asked.start_date asked.end_date))) ≡ Ok news
+          → All (IsWholeFor state.dags) news
+      of_row row found None is = absurd (cc)
+      of_row row found (Some it) is =
+          let runs : List NewRun = backfill_runs row.dag (is_scheduled it) asked.start_date asked.end_date in
+          few_whole (may_make state row.dag.dag_id runs) runs news (whole_due state.dags run_type.Backfill row (is_scheduled it) (points_within (is_scheduled it) asked.start_date asked.end_date) found) is
+
+      of_dag : (row : Option DagRow) → dag_of state.dags dag ≡ row
+          → (ok_or row NoSuchDag >>= (λ row. ok_or row.dag.schedule NoSchedule >>= (λ it. unless_too_many state row.dag.dag_id (backfill_runs row.dag (is_scheduled it) asked.start_date asked.end_date)))) ≡ Ok news
+          → All (IsWholeFor state.dags) news
+      of_dag None found is = absurd (cc)
+      of_dag (Some row) found is =
+          of_row row (ap (dag_of state.dags) ((bytes_decides row.dag.dag_id dag).0 (find-passes (is_of_id dag) state.dags row found)) ∙ found) row.dag.schedule is
+
+  backfill_leaves : (dag : List ℕ) (asked : Backfill) → Leaves (range_or state dag asked >>= (λ news. Ok (backfilling state (backfilled state news))))
+  backfill_leaves dag asked =
+      bound (range_or state dag asked) (λ news. Ok (backfilling state (backfilled state news)))
+      (λ news is. one_of (nat_lt (length state.runs) (length (backfilled state news).runs)) (backfilled state news) (with_all state.dags news state (range_whole dag asked news is) (ready, refl)).0)
+
   op_leaves : (reads : List ℕ → Bool) (asked : Op) (t : ℕ) → Leaves (effect_of reads state asked t)
   op_leaves reads op.Version t = tt
   op_leaves reads (op.ListDags asked) t = bound (window_or asked) (λ window. Ok (kept (dags_data reads window state.dags))) (λ window is. tt)
@@ -198,6 +235,8 @@ module _ (state : StateRows) (ready : IsReady state) where
       with_run_of dag run (λ row it. ok_or (instance_of row.dag.tasks it task) NoSuchTask >>= (λ told. Ok (kept (instance_data told))))
       (λ row it. bound (ok_or (instance_of row.dag.tasks it task) NoSuchTask) (λ told. Ok (kept (instance_data told))) (λ told at. tt))
   op_leaves reads (op.ClearInstances dag input) t = bound (input_or input) (clears dag) (λ asked is. clears_leave dag asked)
+  op_leaves reads (op.BackfillDag dag input) t =
+      bound (input_or input) (λ asked. range_or state dag asked >>= (λ news. Ok (backfilling state (backfilled state news)))) (λ asked is. backfill_leaves dag asked)
   op_leaves reads (op.Pool it) t = pool_leaves it
   op_leaves reads (op.Variable it) t = variable_leaves it
 

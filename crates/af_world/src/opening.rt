@@ -13,13 +13,24 @@ use std::marker::Model;
 
 /// What a world opens with: version 0 of the policy, and the greatest number that a version may have; the state, and how many entries
 /// the audit may have; and how many sessions there are.
-#[derive(Drop)]
 pub struct Opening {
     policy: Policy,
     version_limit: u32,
     state: State,
     history_limit: u32,
     sessions: u32,
+}
+
+impl Drop for Opening {
+    fn drop(self) {
+        let Opening {
+            policy: _,
+            version_limit: _,
+            state: _,
+            history_limit: _,
+            sessions: _,
+        } = self;
+    }
 }
 
 impl Model for Opening {

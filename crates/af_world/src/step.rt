@@ -4,7 +4,6 @@ use af_names::Instant;
 use af_ops::{Call, PolicyOp};
 
 /// What happens in the world. Sessions are counted from 0.
-#[derive(Drop)]
 pub enum Step {
     /// A session looks at the latest version of the policy, and holds the plane.
     Look(u32),
@@ -20,4 +19,18 @@ pub enum Step {
     Claim(Instant),
     /// An executor reports how a try ended, at a moment.
     Report(TryReport, Instant),
+}
+
+impl Drop for Step {
+    fn drop(self) {
+        match self {
+            Step::Look(_) => {}
+            Step::Act(_, _, _, _) => {}
+            Step::Me(_, _, _) => {}
+            Step::Publish(_, _, _, _) => {}
+            Step::Tick(_) => {}
+            Step::Claim(_) => {}
+            Step::Report(_, _) => {}
+        }
+    }
 }

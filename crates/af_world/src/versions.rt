@@ -8,11 +8,20 @@ use std::marker::Model;
 
 /// The versions of a policy, numbered from 0, and the greatest number that a version may have. Each later one is made of the
 /// one before by a change, whose author lacked nothing there. Contracts see it as the policies and that number.
-#[derive(Drop)]
 pub struct Versions {
     earlier: Vec<Policy>,
     latest: Policy,
     last: u32,
+}
+
+impl Drop for Versions {
+    fn drop(self) {
+        let Versions {
+            earlier: _,
+            latest: _,
+            last: _,
+        } = self;
+    }
 }
 
 impl Model for Versions {

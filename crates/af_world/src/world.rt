@@ -25,12 +25,22 @@ mod ticking;
 
 /// A world: each version of the policy; the state with the entries that made it of the opening one; which session holds the plane; and
 /// what each session has seen. It takes one step after the other.
-#[derive(Drop)]
 pub struct World {
     versions: Versions,
     ledger: Ledger,
     holder: Option<u32>,
     sessions: Vec<Seen>,
+}
+
+impl Drop for World {
+    fn drop(self) {
+        let World {
+            versions: _,
+            ledger: _,
+            holder: _,
+            sessions: _,
+        } = self;
+    }
 }
 
 impl Model for World {
