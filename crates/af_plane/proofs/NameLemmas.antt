@@ -115,6 +115,7 @@ open_names (op.ClearRun dag run input) t ledger shown opens told = absurd (never
 open_names (op.ListInstances dag run asked) t ledger shown opens told = absurd (never opens)
 open_names (op.GetInstance dag run task) t ledger shown opens told = absurd (never opens)
 open_names (op.ClearInstances dag input) t ledger shown opens told = absurd (never opens)
+open_names (op.BackfillDag dag input) t ledger shown opens told = absurd (never opens)
 open_names (op.Pool it) t ledger shown opens told = absurd (pool_closed it opens)
 open_names (op.Variable it) t ledger shown opens told = absurd (variable_closed it opens)
 

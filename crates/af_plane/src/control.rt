@@ -45,12 +45,21 @@ const NAP: u64 = 1_000;
 
 /// A board, and a plane behind a lock, which threads share, each with a session of its own. Calls that only read (`Request::only_reads`) may
 /// have the lock together. All else that takes it has it alone.
-#[derive(Drop)]
 pub struct Control<N: Named> {
     board: Board,
     locked: RwLock<Locked<N>>,
     naps: AtomicU64,
     ghost board_is: { board ≡ N.name.site },
+}
+
+impl<N: Named> Drop for Control<N> {
+    fn drop(self) {
+        let Control {
+            board: _,
+            locked: _,
+            naps: _,
+        } = self;
+    }
 }
 
 impl<N: Named> Control<N> {

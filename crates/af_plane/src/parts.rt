@@ -12,10 +12,15 @@ use std::marker::Model;
 
 /// What a control is made of: a board, and a plane over it on which nothing was done yet. Who has them can do nothing on the plane but take
 /// it apart from the board.
-#[derive(Drop)]
 pub struct Parts {
     board: Board,
     plane: Plane,
+}
+
+impl Drop for Parts {
+    fn drop(self) {
+        let Parts { board: _, plane: _ } = self;
+    }
 }
 
 impl Model for Parts {

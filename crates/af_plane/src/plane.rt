@@ -29,11 +29,20 @@ mod visiting;
 
 /// The ledger of a world, with a pass of a board of versions of the policy, and the keeper of its entries, which shows them to sessions. It
 /// decides under the version that it looked at last, which its pass has seen.
-#[derive(Drop)]
 pub struct Plane {
     pub(crate) pass: Pass,
     pub(crate) keeper: Keeper<Entry>,
     ledger: Ledger,
+}
+
+impl Drop for Plane {
+    fn drop(self) {
+        let Plane {
+            pass: _,
+            keeper: _,
+            ledger: _,
+        } = self;
+    }
 }
 
 impl Model for Plane {

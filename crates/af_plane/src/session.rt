@@ -16,11 +16,20 @@ mod administering;
 mod changing;
 
 /// What one user of the plane has seen of the board, and the marks of the versions on which the last answer rests.
-#[derive(Drop)]
 pub struct Session {
     pub(crate) pass: Pass,
     pub(crate) witness: Witness<Entry>,
     pub(crate) grounds: Grounds,
+}
+
+impl Drop for Session {
+    fn drop(self) {
+        let Session {
+            pass: _,
+            witness: _,
+            grounds: _,
+        } = self;
+    }
 }
 
 impl Model for Session {

@@ -18,11 +18,20 @@ use std::sync::Wait;
 
 /// A server for one thread: a session over a plane without a lock. What is asked of the state and of the event logs is decided on the
 /// plane; what is asked of the policy on the board.
-#[derive(Drop)]
 pub struct Solo {
     board: Board,
     plane: Plane,
     session: Session,
+}
+
+impl Drop for Solo {
+    fn drop(self) {
+        let Solo {
+            board: _,
+            plane: _,
+            session: _,
+        } = self;
+    }
 }
 
 impl Model for Solo {

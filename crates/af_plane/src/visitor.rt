@@ -25,7 +25,6 @@ pub(crate) use locked::Locked;
 
 /// A session of one control. Contracts see what it holds, and all that it has done there. What it has done takes no memory: it is known in
 /// proofs alone.
-#[derive(Drop)]
 pub struct Visitor<N: Named> {
     session: Session,
     calls: Log<Call, Served>,
@@ -39,6 +38,25 @@ pub struct Visitor<N: Named> {
     changes: Log<Ask, Served>,
     unreads: Log<ChangeKind, Served>,
     of: PhantomData<N>,
+}
+
+impl<N: Named> Drop for Visitor<N> {
+    fn drop(self) {
+        let Visitor {
+            session: _,
+            calls: _,
+            times: _,
+            ticks: _,
+            claims: _,
+            reports: _,
+            outcomes: _,
+            mes: _,
+            reads: _,
+            changes: _,
+            unreads: _,
+            of: _,
+        } = self;
+    }
 }
 
 impl<N: Named> Model for Visitor<N> {

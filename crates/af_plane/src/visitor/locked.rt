@@ -24,11 +24,16 @@ use std::alloc::Global;
 use std::marker::PhantomData;
 
 /// The plane that a name means, as it lies behind a lock.
-#[derive(Drop)]
 pub(crate) struct Locked<N: Named> {
     plane: Plane,
     of: PhantomData<N>,
     ghost whose: { IsOfName N.name plane },
+}
+
+impl<N: Named> Drop for Locked<N> {
+    fn drop(self) {
+        let Locked { plane: _, of: _ } = self;
+    }
 }
 
 impl<N: Named> Locked<N> {
