@@ -1,4 +1,5 @@
 pub mod LineLemmas
+pub mod ScanLemmas
 pub mod FieldLemmas
 pub mod LengthLemmas
 pub mod IncomingLemmas

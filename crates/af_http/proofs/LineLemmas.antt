@@ -9,6 +9,7 @@ use Rattle.af_http.specs.Limits.{head_limit, field_limit}
 use Rattle.af_http.specs.Lines.{lines_of, onto, text_of, is_blank, begins_blank, after_blanks, HasNoLine}
 use Rattle.af_http.specs.Fronts.{Front, front_of, fronted, fronted_by, split_head, finished, unfinished, ahead, is_large, large, whole, part}
 use Rattle.af_http.specs.Extents.{IsExtent, open_front, sized}
+use Rattle.af_http.specs.Scans.{Passed}
 use Rattle.af_http.specs.declared.extent.Extent.TheVariants.{Large, Whole}
 
 -- the first line ends at the first line feed
@@ -59,16 +60,6 @@ none-split (b ∷ bytes) none =
 
 or_from_false : (x y : Bool) → x ≡ false → y ≡ false → (x || y) ≡ false
 or_from_false x y a b = ap (λ t. t || y) a ∙ b
-
--- the lines of the text are these first, none of them empty, and then those of the rest
-pub record Passed (bytes rest : List ℕ) (at count : ℕ) : Type 0 where
-  pub front : List (List ℕ)
-  pub counted : count ≡ length front
-  pub few : count ≤ at
-  pub plain : list_any is_blank front ≡ false
-  pub joined : bytes ≡ text_of front ++ rest
-  pub at_is : at ≡ length (text_of front)
-  pub lines : (tail : List ℕ) → lines_of (bytes ++ tail) ≡ front ++ lines_of (rest ++ tail)
 
 text_of-push : (front : List (List ℕ)) (line : List ℕ) → text_of (front ++ line ∷ []) ≡ text_of front ++ line
 text_of-push [] line = append-nil line

@@ -156,6 +156,7 @@ no_names method template.Users texts few long = absurd (no_part texts few long)
 no_names method template.User texts few long = no_account texts few long
 no_names method template.Me texts few long = absurd (no_part texts few long)
 no_names method template.Sync texts few long = no_one texts few long
+no_names method template.Backfills texts few long = no_one texts few long
 
 -- so there is no such path
 pub unfit_path : (method query body : List ℕ) (p : PathTemplate) (path : List ℕ) → IsUnfit (parts_in (segments_of p) path) → with_parts method query body p (parts_in (segments_of p) path) ≡ Err fault.NoPath

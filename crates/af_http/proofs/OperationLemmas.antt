@@ -128,6 +128,10 @@ agrees Get template.Sync parts query body = tt
 agrees Post template.Sync parts query body = some_map _ (dag_id_in parts)
 agrees Patch template.Sync parts query body = tt
 agrees Delete template.Sync parts query body = tt
+agrees Get template.Backfills parts query body = tt
+agrees Post template.Backfills parts query body = some_map _ (dag_id_in parts)
+agrees Patch template.Backfills parts query body = tt
+agrees Delete template.Backfills parts query body = tt
 
 reads_if_named : (o : Option Call) (b : Bool) → b ≡ is_some o → (if b then ok_or o fault.NoPath else Err fault.NoPath) ≡ ok_or o fault.NoPath
 reads_if_named None true is = refl

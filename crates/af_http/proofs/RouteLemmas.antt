@@ -103,6 +103,7 @@ ranked template.Users = refl
 ranked template.User = refl
 ranked template.Me = refl
 ranked template.Sync = refl
+ranked template.Backfills = refl
 
 -- the template is in the list, and those before it are apart from it
 abbrev is_first : List PathTemplate → PathTemplate → Bool
@@ -131,6 +132,7 @@ first_template template.Users = refl
 first_template template.User = refl
 first_template template.Me = refl
 first_template template.Sync = refl
+first_template template.Backfills = refl
 
 abbrev Finds : List PathTemplate → List ℕ → PathTemplate → Type 0
 Finds ps path p = find (λ q. has_form (segments_of q) path) ps ≡ Some p

@@ -3,6 +3,7 @@ pub mod Streams
 pub mod Lines
 pub mod Fronts
 pub mod Extents
+pub mod Scans
 pub mod Fields
 pub mod Requests
 pub mod Routes

@@ -7,7 +7,6 @@ use crate::routes::Routes;
 use std::alloc::{AllocError, Global};
 
 /// What a connection keeps from its opening on, beside its reader and its writer, which each call borrows.
-#[derive(Drop)]
 pub struct Connection {
     /// Where the fields of the head that is read lie.
     pub fields: FieldSpans,
@@ -17,6 +16,17 @@ pub struct Connection {
     pub incoming: Incoming,
     /// What waits for the writer.
     pub outgoing: Outgoing,
+}
+
+impl Drop for Connection {
+    fn drop(self) {
+        let Connection {
+            fields: _,
+            routes: _,
+            incoming: _,
+            outgoing: _,
+        } = self;
+    }
 }
 
 impl Connection {

@@ -8,7 +8,7 @@ ghost use Rattle.af_http.specs.Gathering.{IsGathered, Holds, Fills, IsBodyGather
 
 use crate::extent::Extent;
 use crate::incoming::Incoming;
-use crate::lines::{blanks_len, extent_of};
+use crate::lines::blanks_len;
 use crate::outgoing::Outgoing;
 use crate::stream::Source;
 
@@ -51,7 +51,7 @@ pub fn settle(incoming: &mut Incoming) -> Extent
     ensures extent { IsExtent incoming.new result }
 {
     incoming.drop_front(blanks_len(incoming.as_slice()));
-    extent_of(incoming.as_slice())
+    incoming.extent()
 }
 
 /// What is held where no byte follows it.

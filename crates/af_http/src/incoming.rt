@@ -1,9 +1,14 @@
 ghost use Rattle.std.specs.Prelude.{◌≡◌, ◌≢◌, ◌==◌, ℕ, ◌+◌, ◌<◌, ◌≤◌, List, [], ◌++◌, length, take, drop, IfOk, OnErr, Ok, true, false};
 ghost use Rattle.af_http.specs.Limits.{incoming_room, read_room, unread_limit};
+ghost use Rattle.af_http.specs.Lines.{lines_of, begins_blank};
+ghost use Rattle.af_http.specs.Extents.{IsExtent};
 ghost use Rattle.af_http.specs.Streams.{Took, one_if};
 ghost use Rattle.af_http.specs.Gathering.{Fills, ends_in, failures_in};
 
+use crate::extent::Extent;
+use crate::lines::extent_of;
 use crate::outgoing::Outgoing;
+use crate::scan::{Scan, UNSCANNED};
 use crate::stream::{Failed, Source};
 use std::alloc::{AllocError, Global};
 use std::marker::Model;
@@ -19,23 +24,37 @@ pub const READ_ROOM: usize = INCOMING_ROOM - UNREAD_LIMIT;
 
 /// The bytes that have come and were not used yet. A contract sees them.
 ///
-/// They have their memory from the start. Those used are left behind, and the others move only when room is needed.
-#[derive(Drop)]
+/// They have their memory from the start. Those used are left behind, and the others move only when room is needed. The lines
+/// found so far are remembered, so that they are not searched again when more bytes come.
 pub struct Incoming {
     bytes: Vec<u8>,
     start: usize,
     end: usize,
+    scan: Scan,
+}
+
+impl Drop for Incoming {
+    fn drop(self) {
+        let Incoming {
+            bytes: _,
+            start: _,
+            end: _,
+            scan: _,
+        } = self;
+    }
 }
 
 impl Model for Incoming {
     ghost use Rattle.std.specs.Prelude.{◌≡◌, ℕ, List, ◌≤◌, take, drop, vec_len};
     ghost use Rattle.af_http.specs.Limits.{incoming_room};
+    ghost use Rattle.af_http.specs.Scans.{IsScanned};
 
     ghost Value = { List ℕ };
 
     ghost view = { λ i. drop i.start (take i.end i.bytes.items) };
 
-    ghost invariant = { λ i. (i.start ≤ i.end) × (i.end ≤ incoming_room) × (vec_len i.bytes ≡ incoming_room) };
+    ghost invariant = { λ i. (i.start ≤ i.end) × (i.end ≤ incoming_room) × (vec_len i.bytes ≡ incoming_room)
+        × IsScanned (drop i.start (take i.end i.bytes.items)) i.scan };
 }
 
 impl Incoming {
@@ -48,6 +67,7 @@ impl Incoming {
             bytes,
             start: 0,
             end: 0,
+            scan: UNSCANNED,
         })
     }
 
@@ -57,6 +77,7 @@ impl Incoming {
     {
         self.start = 0;
         self.end = 0;
+        self.scan = UNSCANNED;
     }
 
     /// The bytes.
@@ -73,7 +94,21 @@ impl Incoming {
         requires { n ≤ length self.old }
         ensures { self.new ≡ drop n self.old }
     {
-        self.start += n;
+        if n > 0 {
+            self.start += n;
+            self.scan = UNSCANNED;
+        }
+    }
+
+    /// How far the head at the front goes. Lines that were found before are not searched again.
+    pub fn extent(&mut self) -> Extent
+        requires { begins_blank (lines_of self.old) ≡ false }
+        ensures same { self.new ≡ self.old }
+        ensures extent { IsExtent self.new result }
+    {
+        let (extent, scan) = extent_of(self.as_slice(), self.scan);
+        self.scan = scan;
+        extent
     }
 
     /// Reads once, and says whether bytes came. No other function reads, and a read may wait for the client: so none is

@@ -28,6 +28,7 @@ mod request;
 mod room;
 mod route_fault;
 mod routes;
+mod scan;
 mod service;
 mod serving;
 mod stream;

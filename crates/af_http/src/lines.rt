@@ -1,8 +1,10 @@
 ghost use Rattle.std.specs.Prelude.{◌≡◌, ℕ, ◌<◌, ◌≤◌, List, ◌∷◌, ◌++◌, length, take, drop, IfSome, IfNone, false};
 ghost use Rattle.af_http.specs.Lines.{lines_of, is_blank, after_blanks, begins_blank, HasNoLine};
 ghost use Rattle.af_http.specs.Extents.{IsExtent, sized};
+ghost use Rattle.af_http.specs.Scans.{IsScanned};
 
 use crate::extent::Extent;
+use crate::scan::Scan;
 use memchr::memchr;
 
 /// The most bytes that may stand without an empty line.
@@ -64,27 +66,31 @@ fn blank_len(bytes: &[u8]) -> Option<usize>
     }
 }
 
-/// How far the head at the front goes.
-pub fn extent_of(bytes: &[u8]) -> Extent
-    requires { begins_blank (lines_of bytes.now) ≡ false }
-    ensures { IsExtent bytes.now result }
+/// How far the head at the front goes, and the whole lines found in it. Lines that are known already are not searched again.
+pub fn extent_of(bytes: &[u8], known: Scan) -> (Extent, Scan)
+    requires plain { begins_blank (lines_of bytes.now) ≡ false }
+    requires scanned { IsScanned bytes.now known }
+    ensures extent { IsExtent bytes.now result.0 }
+    ensures scanned { IsScanned bytes.now result.1 }
 {
-    let mut rest = bytes;
-    let mut at = 0;
-    let mut lines = 0;
+    let (_, mut rest) = bytes.split_at(known.bytes);
+    let mut at = known.bytes;
+    let mut lines = known.lines;
     while let Some(n) = line_len(rest) {
         let (line, after) = rest.split_at(n);
-        at += n;
-        lines += 1;
+        let end = at + n;
+        let count = lines + 1;
         if is_blank(line) {
-            return sized(at, lines);
+            return (sized(end, count), Scan { bytes: at, lines });
         }
+        at = end;
+        lines = count;
         rest = after;
     }
     if bytes.len() > HEAD_LIMIT {
-        return Extent::Large;
+        return (Extent::Large, Scan { bytes: at, lines });
     }
-    Extent::Part
+    (Extent::Part, Scan { bytes: at, lines })
 }
 
 /// A head of so many bytes, in so many lines.

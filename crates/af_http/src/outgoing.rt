@@ -14,10 +14,18 @@ pub const OUTGOING_ROOM: usize = 65_536;
 /// nothing more is held or written. A contract sees both.
 ///
 /// They have their memory from the start.
-#[derive(Drop)]
 pub struct Outgoing {
     bytes: Vec<u8>,
     failed: bool,
+}
+
+impl Drop for Outgoing {
+    fn drop(self) {
+        let Outgoing {
+            bytes: _,
+            failed: _,
+        } = self;
+    }
 }
 
 impl Model for Outgoing {

@@ -9,10 +9,15 @@ use crate::stream::{Sink, Source};
 use std::alloc::{AllocError, Global};
 
 /// Room for connections that are served one after another. The first takes all the memory, at its opening, and the next ones use it again.
-#[derive(Drop)]
 pub struct Room {
     alloc: Global,
     kept: Option<Connection>,
+}
+
+impl Drop for Room {
+    fn drop(self) {
+        let Room { alloc: _, kept: _ } = self;
+    }
 }
 
 impl Room {

@@ -19,7 +19,6 @@ use std::alloc::{AllocError, Global};
 
 /// The table of paths, with room for the parts of one. A router finds the likely one, or that of a path before; that it has the path's form
 /// is tested, so what is found depends on neither.
-#[derive(Drop)]
 pub struct Routes {
     alloc: Global,
     likely: Likely,
@@ -27,6 +26,17 @@ pub struct Routes {
     parts: Parts,
     /// Where texts of a body with escapes are spelled out.
     scratch: Scratch,
+}
+
+impl Drop for Routes {
+    fn drop(self) {
+        let Routes {
+            alloc: _,
+            likely: _,
+            parts: _,
+            scratch: _,
+        } = self;
+    }
 }
 
 /// What stands before the first slash, and from it on. It is near, so the bytes are looked at one by one.

@@ -60,6 +60,7 @@ op_whole (op.ClearRun dag_id run_id input) read = absurd (cc)
 op_whole (op.ListInstances dag_id run_id asked) read = refl
 op_whole (op.GetInstance dag_id run_id task_id) read = refl
 op_whole (op.ClearInstances dag_id input) read = absurd (cc)
+op_whole (op.BackfillDag dag_id input) read = absurd (cc)
 op_whole (op.Pool it) read = ap (λ (it : PoolOp). op.Pool it) (pool_whole it read)
 op_whole (op.Variable it) read = ap (λ (it : VariableOp). op.Variable it) (variable_whole it read)
 

@@ -126,6 +126,7 @@ op_was_read (op.ClearRun dag_id run_id input) = was_read input
 op_was_read (op.ListInstances dag_id run_id asked) = true
 op_was_read (op.GetInstance dag_id run_id task_id) = true
 op_was_read (op.ClearInstances dag_id input) = was_read input
+op_was_read (op.BackfillDag dag_id input) = was_read input
 op_was_read (op.Pool it) = pool_was_read it
 op_was_read (op.Variable it) = variable_was_read it
 

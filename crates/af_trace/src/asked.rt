@@ -163,6 +163,7 @@ fn op_was_read(op: &Op) -> bool
         Op::MarkRun(_, _, input) => was_read(input),
         Op::ClearRun(_, _, input) => was_read(input),
         Op::ClearInstances(_, input) => was_read(input),
+        Op::BackfillDag(_, input) => was_read(input),
         Op::Pool(op) => pool_was_read(op),
         Op::Variable(op) => variable_was_read(op),
         Op::Version

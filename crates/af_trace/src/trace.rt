@@ -15,13 +15,23 @@ use std::alloc::{AllocError, Global};
 use std::marker::Model;
 
 /// A trace: how many sessions there are, the steps, and what was answered to each.
-#[derive(Drop)]
 pub struct Trace {
     sessions: u32,
     steps: Vec<Step>,
     answers: Vec<Option<Shown>>,
     /// Whether each answer that is recorded is one that may be given.
     possible: bool,
+}
+
+impl Drop for Trace {
+    fn drop(self) {
+        let Trace {
+            sessions: _,
+            steps: _,
+            answers: _,
+            possible: _,
+        } = self;
+    }
 }
 
 impl Model for Trace {
