@@ -1,11 +1,11 @@
 -- A file that is never refused is read.
 use Rattle.std.proofs.Common.{◌≡◌, ◌∙◌, inl, inr, ap, ℕ, List, Bool}
 use Rattle.std.specs.Prelude.{Result, Ok, Err, IsOk}
-use Rattle.std.specs.declared.io.ErrorKind.{ErrorKind}
 use Rattle.af_http.specs.declared.ended.Ended.{Ended}
 use Rattle.af_server.specs.declared.reason.Reason.{Reason}
 use Rattle.af_server.specs.Configurations.{ConfigurationRows, configuration_of}
 use Rattle.af_server.specs.Listenings.{ListeningRows}
+use Rattle.af_server.specs.NoPorts.{NoPortRows}
 use Rattle.af_server.specs.Programs.{OnceReads, ServeReads, VerifyReads}
 
 -- the error of a result, or another
@@ -31,7 +31,7 @@ module _ (Holds : List ℕ → List ℕ → Type 0) (Refuses : List ℕ → Reas
   serve_reads path reason never fits (inl (bytes, holds, inl refused)) = absurd (no_error (configuration_of bytes) reason (fits bytes holds) refused)
   serve_reads path reason never fits (inl (bytes, holds, inr memory)) = memory
   serve_reads path reason never fits (inr (why, inl refuses, same)) = absurd (never why refuses)
-  serve_reads path reason never fits (inr (why, inr memory, same)) = same_error (Result ListeningRows ErrorKind) (Err reason) (Err why) reason same ∙ memory
+  serve_reads path reason never fits (inr (why, inr memory, same)) = same_error (Result ListeningRows NoPortRows) (Err reason) (Err why) reason same ∙ memory
 
   pub verify_reads : VerifyReads Holds Refuses
   verify_reads path reason never fits (inl (bytes, holds, of)) = fits bytes reason holds of

@@ -19,10 +19,12 @@ pub mod Commands
 pub mod Tellings
 pub mod Verified
 pub mod Verdicts
+pub mod AcceptErrors
 pub mod Machines
 pub mod Attendances
 pub mod Workers
 pub mod Rounds
+pub mod NoPorts
 pub mod Listenings
 pub mod Servers
 pub mod Programs

@@ -1,7 +1,6 @@
 -- What the program does of what its words ask for: it finds the file at the path, and serves under what it holds, or checks what it records
 -- (this product's own rule).
 use Rattle.std.specs.Prelude.{◌≡◌, ◌⊎◌, ◌++◌, ◌∷◌, ℕ, List, [], Bool, codes, decimal, string_bytes, None, Result, Ok, Err, IfOk, IsOk}
-use Rattle.std.specs.declared.io.ErrorKind.{ErrorKind}
 use Rattle.af_http.specs.Streams.{Given, Taken}
 use Rattle.af_http.specs.declared.ended.Ended.{Ended}
 use Rattle.af_server.specs.declared.command.Command.{Command}
@@ -12,6 +11,7 @@ use Rattle.af_server.specs.declared.reason.Reason.TheVariants.{Memory}
 use Rattle.af_server.specs.Configurations.{ConfigurationRows, configuration_of}
 use Rattle.af_server.specs.Listenings.{ListeningRows}
 use Rattle.af_server.specs.Machines.{Behaviour}
+use Rattle.af_server.specs.NoPorts.{NoPortRows, no_port_line}
 use Rattle.af_server.specs.Once.{IsOnce, IsUntouched}
 use Rattle.af_server.specs.Servers.{HasServed, IsAt, IsServerOf}
 use Rattle.af_server.specs.Tellings.{Tells, refusal_line, said_of, status_of, usage_line}
@@ -23,7 +23,7 @@ use Rattle.af_server.specs.Verified.{IsVerified}
 
 -- What became of a server: the bytes of its configuration were accepted, and it listens under what they say, or the machine gave it no port.
 -- Where the bytes are refused, or there is no memory for what they say, the reason is told.
-abbrev pub IsServed : List ℕ → Result (Result ListeningRows ErrorKind) Reason → Type 0
+abbrev pub IsServed : List ℕ → Result (Result ListeningRows NoPortRows) Reason → Type 0
 IsServed bytes (Ok found) =
     (configuration : ConfigurationRows)
     × ((configuration_of bytes ≡ Ok configuration) × IfOk found (λ listening. IsServerOf configuration listening.server))
@@ -33,16 +33,17 @@ abbrev pub listening_line : ℕ → List ℕ
 listening_line port = codes "listening on 127.0.0.1:" ++ (decimal port ++ 10 ∷ [])
 
 -- what is printed, what is told on standard error, and the status
-abbrev pub announced : Result (Result ListeningRows ErrorKind) Reason → List ℕ
+abbrev pub announced : Result (Result ListeningRows NoPortRows) Reason → List ℕ
 announced (Ok (Ok listening)) = listening_line listening.port
-announced (Ok (Err error)) = []
+announced (Ok (Err none)) = []
 announced (Err reason) = []
 
-abbrev pub blamed : Result (Result ListeningRows ErrorKind) Reason → List ℕ
-blamed (Ok found) = []
+abbrev pub blamed : Result (Result ListeningRows NoPortRows) Reason → List ℕ
+blamed (Ok (Ok listening)) = []
+blamed (Ok (Err none)) = no_port_line none.port none.error
 blamed (Err reason) = refusal_line reason
 
-abbrev pub served_status : Result (Result ListeningRows ErrorKind) Reason → ℕ
+abbrev pub served_status : Result (Result ListeningRows NoPortRows) Reason → ℕ
 served_status (Ok found) = 1
 served_status (Err reason) = 3
 
@@ -71,7 +72,7 @@ module _ (Holds : List ℕ → List ℕ → Type 0) (Refuses : List ℕ → Reas
   -- printed; then so many workers serve under the configuration, beside a scheduler. One outcome is announced, and served.
   abbrev pub RunsServe : Behaviour → List ℕ → ℕ → ℕ → Given → Given → Taken → Taken → Taken → Taken → Done → Type 0
   RunsServe behaviour path port count before after start finish told told' done =
-      (outcome : Result (Result ListeningRows ErrorKind) Reason) × Comes path IsServed outcome × IfOk outcome (IsAt behaviour port) × (after ≡ before)
+      (outcome : Result (Result ListeningRows NoPortRows) Reason) × Comes path IsServed outcome × IfOk outcome (IsAt behaviour port) × (after ≡ before)
       × Tells start finish (announced outcome) × Tells told told' (blamed outcome) × (done.status ≡ served_status outcome)
       × HasServed behaviour count outcome done.shift
 

@@ -1,6 +1,5 @@
 -- A server under a configuration, from when it listens until its workers have ended (this product's own rule).
 use Rattle.std.specs.Prelude.{◌≡◌, ℕ, All, IsSomeAnd, Option, None, Result, Ok, Err, length}
-use Rattle.std.specs.declared.io.ErrorKind.{ErrorKind}
 use Rattle.af_audit.specs.Ledgers as ledgers
 use Rattle.af_plane.specs.Names.{Name}
 use Rattle.af_server.specs.declared.reason.Reason.{Reason}
@@ -8,6 +7,7 @@ use Rattle.af_server.specs.declared.shift.Shift.{Shift}
 use Rattle.af_server.specs.Configurations.{ConfigurationRows}
 use Rattle.af_server.specs.Listenings.{ListeningRows, ServerRows}
 use Rattle.af_server.specs.Machines.{Behaviour}
+use Rattle.af_server.specs.NoPorts.{NoPortRows}
 use Rattle.af_server.specs.Rounds.{HasScheduled}
 use Rattle.af_server.specs.Workers.{IsAttended}
 
@@ -30,10 +30,11 @@ name_of server = record {
 
 -- ---- where it listens
 
--- the port is one that the machine may give for the one that is asked for; or the machine may give none for this error
-abbrev pub IsAt : Behaviour → ℕ → Result ListeningRows ErrorKind → Type 0
+-- the port is one that the machine may give for the one that is asked for; or the machine may give none for this error, and that is said of the
+-- port that was asked for
+abbrev pub IsAt : Behaviour → ℕ → Result ListeningRows NoPortRows → Type 0
 IsAt behaviour asked (Ok listening) = behaviour.gives asked listening.port
-IsAt behaviour asked (Err error) = behaviour.fails error
+IsAt behaviour asked (Err none) = behaviour.fails none.error × (none.port ≡ asked)
 
 -- ---- what its threads did
 
@@ -45,7 +46,7 @@ pub record IsShift (behaviour : Behaviour) (count port : ℕ) (server : ServerRo
   pub scheduled : HasScheduled behaviour.tells (name_of server) server.scripts shift.waiting
 
 -- where it listens, its threads did that; else there were none
-abbrev pub HasServed : Behaviour → ℕ → Result (Result ListeningRows ErrorKind) Reason → Option Shift → Type 0
+abbrev pub HasServed : Behaviour → ℕ → Result (Result ListeningRows NoPortRows) Reason → Option Shift → Type 0
 HasServed behaviour count (Ok (Ok listening)) shift = IsSomeAnd shift (IsShift behaviour count listening.port listening.server)
-HasServed behaviour count (Ok (Err error)) shift = shift ≡ None
+HasServed behaviour count (Ok (Err none)) shift = shift ≡ None
 HasServed behaviour count (Err reason) shift = shift ≡ None

@@ -9,7 +9,7 @@ use std::alloc::Global;
 use std::io::ErrorKind;
 use std::time::Duration;
 
-/// The connections that one worker has served. Only serving makes one, and there is no copy of it.
+/// The connections that one worker has served: how many, and at which ports they came in. There is no copy of it.
 #[derive(Drop)]
 pub struct Attended {
     connections: u64,
@@ -40,7 +40,7 @@ impl Attended {
         let mut served = Served::new();
         for count in 0..most {
             match rt.accept(port) {
-                Ok(guest) => guest.converse(rt, port, &mut room, patience, service, &mut served),
+                Ok(guest) => guest.converse(rt, &mut room, patience, service, &mut served),
                 Err(error) => {
                     return Attended {
                         connections: count,

@@ -1,7 +1,6 @@
 ghost use Rattle.std.specs.Prelude.{◌≡◌, [], ◌++◌, ◌∷◌};
 ghost use Rattle.af_server.specs.Attendances.{Converses};
 
-use crate::caller::Caller;
 use crate::patience::Patience;
 use crate::peer::{Peer, part};
 use crate::port::Port;
@@ -11,7 +10,8 @@ use std::marker::Model;
 use std::net::TcpStream;
 use std::time::{Clock, Duration};
 
-/// A connection that came in at a port. It can't be let go: it is served, and then it is among those that were. Contracts see the port.
+/// A connection that came in at a port. It has no `Drop`, so it can only be handed to `converse`, which notes its port. No clause says that the
+/// bytes of a conversation are those of its stream. Contracts see the port.
 pub struct Guest {
     stream: TcpStream,
     port: u16,
@@ -39,12 +39,11 @@ impl Guest {
         }
     }
 
-    /// Serves the connection from its first byte to its last, in the room of the one before it, among the guests of a port. If the server is the
-    /// first to end it, it takes leave of the peer.
+    /// Serves the connection from its first byte to its last, in the room of the one before it. If the server is the first to end it, it takes
+    /// leave of the peer.
     pub fn converse<R: Clock, S: Service>(
         self,
         rt: &R,
-        at: &Port,
         room: &mut Room,
         patience: Duration,
         service: &mut S,
@@ -54,17 +53,14 @@ impl Guest {
         ensures served { served.new.items ≡ served.old.items ++ (self, tt) ∷ [] }
     {
         let Guest { stream, port } = self;
-        at.seat();
-        serve_stream(rt, at, room, &stream, patience, service);
-        at.unseat();
+        serve_stream(rt, room, &stream, patience, service);
         *served = served.and(&port, &());
     }
 }
 
-/// Serves what comes on a stream from this port.
+/// Serves what comes on a stream.
 fn serve_stream<R: Clock, S: Service>(
     rt: &R,
-    at: &Port,
     room: &mut Room,
     stream: &TcpStream,
     patience: Duration,
@@ -75,7 +71,7 @@ fn serve_stream<R: Clock, S: Service>(
     // What is written goes out at once. Where that can't be set, answers are only later.
     let _ = stream.set_nodelay(true);
     let patience = Patience::new(rt, patience);
-    let mut reader = Counted::new(Caller::new(Peer::new(rt, stream, &patience), at));
+    let mut reader = Counted::new(Peer::new(rt, stream, &patience));
     let mut writer = Counted::new(Peer::new(rt, stream, &patience));
     match room.serve(&mut reader, &mut writer, service) {
         Ended::ReadFault | Ended::WriteFault => {}

@@ -2,9 +2,9 @@
 //! the answers of a trace are those of the run of its steps.
 #![tactic(auto)]
 
+mod accept_error;
 mod attendance;
 mod attended;
-mod caller;
 mod clock;
 mod command;
 mod config;
@@ -19,6 +19,7 @@ mod leave;
 mod listening;
 mod machine;
 mod members;
+mod no_port;
 mod number;
 pub mod once;
 mod patience;
@@ -35,13 +36,13 @@ mod telling;
 mod ticker;
 mod verdict;
 mod verifying;
-mod vigil;
 mod waiting;
 pub mod worked;
 mod worker;
 mod worker_count;
 mod workers;
 
+pub use accept_error::AcceptError;
 pub use attendance::Attendance;
 pub use attended::Attended;
 pub use clock::time_now;
@@ -55,6 +56,7 @@ pub use gate::{Gate, Open};
 pub use guest::Guest;
 pub use leave::Leave;
 pub use machine::Machine;
+pub use no_port::NoPort;
 pub use port::Port;
 pub use ports::Ports;
 pub use program::run;

@@ -8,6 +8,7 @@ use crate::config::Configuration;
 use crate::done::Done;
 use crate::files::Files;
 use crate::machine::Machine;
+use crate::no_port::NoPort;
 use crate::port::Port;
 use crate::ports::Ports;
 use crate::reason::Reason;
@@ -16,7 +17,6 @@ use crate::telling::{line_of, tell};
 use crate::worker_count::WorkerCount;
 use af_http::Sink;
 use std::alloc::Global;
-use std::io::ErrorKind;
 use std::marker::Model;
 use std::sync::Wait;
 use std::thread::Threads;
@@ -42,7 +42,7 @@ impl Model for Listening {
 }
 
 /// A server that listens, or why the machine gives it no port.
-type Found = Result<Listening, ErrorKind>;
+type Found = Result<Listening, NoPort>;
 
 /// Listens under the configuration at a path.
 pub fn listen_at<H: Ports, F: Files>(
@@ -77,13 +77,12 @@ fn listen<H: Ports>(rt: &H, alloc: Global, server: Server, port: u16) -> Result<
     ensures port { IfOk result (IsAt H.behaviour port) }
     ensures memory { IfErr result (λ reason. reason ≡ Reason.Memory) }
 {
-    let port = match rt.listen(port) {
-        Ok(port) => port,
-        Err(error) => return Ok(Err(error)),
-    };
-    match listening_line(alloc, port.number()) {
-        Ok(line) => Ok(Ok(Listening { server, port, line })),
-        Err(reason) => Err(reason),
+    match rt.listen(port) {
+        Ok(port) => {
+            let line = listening_line(alloc, port.number())?;
+            Ok(Ok(Listening { server, port, line }))
+        }
+        Err(error) => Ok(Err(NoPort::of(alloc, port, error)?)),
     }
 }
 
@@ -111,18 +110,19 @@ fn announced(outcome: &Result<Found, Reason>) -> &str
     }
 }
 
-/// Says why the configuration is refused, if it is.
+/// Says why the configuration is refused, or why the server does not listen.
 pub fn blame<E: Sink>(errors: &mut E, outcome: &Result<Found, Reason>)
     ensures { Tells (E.taken errors.old) (E.taken errors.new) (blamed outcome.now) }
 {
     tell(errors, blamed(outcome));
 }
 
-fn blamed(outcome: &Result<Found, Reason>) -> &'static str
+fn blamed(outcome: &Result<Found, Reason>) -> &str
     ensures { result.now ≡ blamed outcome.now }
 {
     match outcome {
-        Ok(_) => "",
+        Ok(Ok(_)) => "",
+        Ok(Err(none)) => none.line(),
         Err(reason) => line_of(*reason),
     }
 }

@@ -1,17 +1,11 @@
-ghost use Rattle.std.specs.Io.{ReadsAtMost};
-
 use crate::patience::Patience;
 use std::cell::Cell;
 use std::io::{self, ErrorKind, Read, Write};
 use std::net::{Shutdown, TcpStream};
-use std::thread;
 use std::time::{Clock, Duration};
 
 /// How often a call is made again that a signal interrupts.
 const TRIES: u32 = 100;
-
-/// How often a thread that stays awake looks for bytes. That takes some twenty microseconds.
-const LOOKS: u32 = 40;
 
 /// How often at most what a peer still sends is read, after the last answer.
 const LAST_READS: u32 = 100;
@@ -49,30 +43,6 @@ impl<'a, R: Clock> Peer<'a, R> {
             self.set.set(Some(left));
         }
         Ok(())
-    }
-
-    /// Looks for bytes for a moment, and lets other threads run meanwhile, but does not sleep. `WouldBlock` if there were none.
-    pub fn read_awake(&self, buffer: &mut [u8]) -> io::Result<usize>
-        ensures { ReadsAtMost result buffer.new }
-    {
-        self.patience.left(self.rt, false)?;
-        self.stream.set_nonblocking(true)?;
-        let outcome = self.look(buffer);
-        self.stream.set_nonblocking(false)?;
-        outcome
-    }
-
-    /// Looks for bytes on a stream that does not wait.
-    fn look(&self, buffer: &mut [u8]) -> io::Result<usize>
-        ensures { ReadsAtMost result buffer.new }
-    {
-        for _ in 0..LOOKS {
-            match (&mut &*self.stream).read(buffer) {
-                Err(error) if is_passing(error.kind()) => thread::yield_now(),
-                outcome => return outcome,
-            }
-        }
-        Err(io::Error::from(ErrorKind::WouldBlock))
     }
 
     /// Sets the time-out of writes to what is left of the peer's time.
@@ -117,14 +87,6 @@ impl<'a, R: Clock> Write for Peer<'a, R> {
 
     fn flush(&mut self) -> io::Result<()> {
         Ok(())
-    }
-}
-
-/// Whether bytes may still come after an error of this kind.
-fn is_passing(error: ErrorKind) -> bool {
-    match error {
-        ErrorKind::WouldBlock | ErrorKind::Interrupted => true,
-        _ => false,
     }
 }
 

@@ -27,10 +27,18 @@ use std::thread::Threads;
 use std::time::Duration;
 
 /// What a server runs: a board with a plane over it, and the scripts by which its tasks end.
-#[derive(Drop)]
 pub struct Server {
     pub parts: Parts,
     pub scripted: Scripted,
+}
+
+impl Drop for Server {
+    fn drop(self) {
+        let Server {
+            parts: _,
+            scripted: _,
+        } = self;
+    }
 }
 
 impl Server {
@@ -51,7 +59,8 @@ impl Server {
         })
     }
 
-    /// Serves with so many workers until each has ended, and has a round of the scheduler each second meanwhile.
+    /// Serves with so many workers until each has ended. Meanwhile the scheduler has rounds, with a second between two. What the workers answered
+    /// is said by `Worker::answer`, and not here.
     pub fn run<N: Named + Send + Sync, R: Threads + Wait + Machine + Sync>(
         self,
         rt: &R,

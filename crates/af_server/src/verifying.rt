@@ -18,10 +18,18 @@ use json::Scratch;
 use std::alloc::{AllocError, Global};
 
 /// What a trace says: what its world opens with, the steps, and what was answered to each.
-#[derive(Drop)]
 pub struct Recorded {
     pub opening: Opening,
     pub trace: Trace,
+}
+
+impl Drop for Recorded {
+    fn drop(self) {
+        let Recorded {
+            opening: _,
+            trace: _,
+        } = self;
+    }
 }
 
 /// Whether the answers of a trace are those of the run of its steps, in the world under its configuration. The refusals, in their order:

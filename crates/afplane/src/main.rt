@@ -1,5 +1,5 @@
-//! The program `afplane`: one connection, from standard input to standard output, under the configuration in a file; or whether the
-//! answers of a trace are those of the run of its steps.
+//! The program `afplane`, under the configuration in a file: one connection, from standard input to standard output (`once`), or a server of
+//! many on 127.0.0.1 (`serve`). Or it says whether the answers of a trace are those of the run of its steps (`verify`).
 #![tactic(auto)]
 
 use af_http::Counted;
