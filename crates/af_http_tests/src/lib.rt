@@ -1,5 +1,5 @@
-//! What a connection's input is answered with, told as rows that one loop plays; and what requests of several users are told, and
-//! what they leave.
+//! Connections whose input comes in pieces, is cut or does not end; readers and writers that fail; replies that no request shows; and a change of the
+//! policy for whose body there was no memory.
 #![tactic(auto)]
 
 #[cfg(test)]

@@ -1,5 +1,6 @@
 mod adding;
 mod asserts;
+mod backfills;
 mod below;
 mod claims;
 mod clears;

@@ -1,31 +1,21 @@
-//! Whole connections under the sample configuration, byte for byte, and each reason for which a configuration is refused.
-mod access;
+//! Whole connections under the sample configuration, byte for byte, in pieces, with readers and writers that fail, and over loopback; and reasons for which
+//! a configuration is refused.
 mod asserts;
+mod backfills;
 mod calls;
-mod clears;
 mod configurations;
 mod connections;
 mod consoles;
-mod dags;
-mod denials;
 mod faults;
 mod hidden;
 mod histories;
-mod instances;
-mod listings;
 mod loopback;
 mod many;
-mod marks;
 mod memory;
-mod pages;
-mod policies;
-mod pools;
 mod programs;
 mod rows;
 mod traces;
-mod variables;
 mod verifying;
-mod versions;
 
 use af_http::{Counted, Ended};
 use af_names::Instant;

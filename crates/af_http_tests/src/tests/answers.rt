@@ -6,59 +6,26 @@ pub const VERSION: &str =
 pub const LAST_VERSION: &str =
     "HTTP/1.1 200 OK\r\nContent-Type: application/json\r\nContent-Length: 42\r\nConnection: close\r\n\r\n{\"git_version\":null,\"version\":\"afplane 1\"}";
 
-pub const DAGS: &str =
-    "HTTP/1.1 200 OK\r\nContent-Type: application/json\r\nContent-Length: 2\r\nX-Policy-Version: 3\r\nX-Plane-Seq: 70\r\n\r\nxx";
-
-pub const NO_TOKEN: &str =
-    "HTTP/1.1 401 Unauthorized\r\nContent-Type: application/problem+json\r\nContent-Length: 2\r\nWWW-Authenticate: Bearer\r\nX-Policy-Version: 3\r\nX-Plane-Seq: 70\r\n\r\n{}";
-
 pub const NO_PATH: &str =
     "HTTP/1.1 404 Not Found\r\nContent-Type: application/problem+json\r\nContent-Length: 79\r\n\r\n{\"detail\":\"no such path\",\"status\":404,\"title\":\"Not Found\",\"type\":\"about:blank\"}";
 
 pub const BAD_METHOD: &str =
     "HTTP/1.1 405 Method Not Allowed\r\nContent-Type: application/problem+json\r\nContent-Length: 94\r\nAllow: GET\r\n\r\n{\"detail\":\"method not allowed\",\"status\":405,\"title\":\"Method Not Allowed\",\"type\":\"about:blank\"}";
 
-pub const BAD_METHOD_OF_DAG: &str =
-    "HTTP/1.1 405 Method Not Allowed\r\nContent-Type: application/problem+json\r\nContent-Length: 94\r\nAllow: GET, PATCH\r\n\r\n{\"detail\":\"method not allowed\",\"status\":405,\"title\":\"Method Not Allowed\",\"type\":\"about:blank\"}";
-
-pub const BAD_METHOD_OF_ROWS: &str =
-    "HTTP/1.1 405 Method Not Allowed\r\nContent-Type: application/problem+json\r\nContent-Length: 94\r\nAllow: GET, POST\r\n\r\n{\"detail\":\"method not allowed\",\"status\":405,\"title\":\"Method Not Allowed\",\"type\":\"about:blank\"}";
-
-pub const BAD_METHOD_OF_ROW: &str =
-    "HTTP/1.1 405 Method Not Allowed\r\nContent-Type: application/problem+json\r\nContent-Length: 94\r\nAllow: GET, PATCH, DELETE\r\n\r\n{\"detail\":\"method not allowed\",\"status\":405,\"title\":\"Method Not Allowed\",\"type\":\"about:blank\"}";
-
-pub const BAD_METHOD_OF_SYNC: &str =
+pub const BAD_METHOD_OF_POST: &str =
     "HTTP/1.1 405 Method Not Allowed\r\nContent-Type: application/problem+json\r\nContent-Length: 94\r\nAllow: POST\r\n\r\n{\"detail\":\"method not allowed\",\"status\":405,\"title\":\"Method Not Allowed\",\"type\":\"about:blank\"}";
-
-pub const BAD_METHOD_OF_HEAD: &str =
-    "HTTP/1.1 405 Method Not Allowed\r\nContent-Type: application/problem+json\r\nContent-Length: 94\r\nAllow: GET\r\n\r\n";
 
 pub const INCOMPLETE: &str =
     "HTTP/1.1 400 Bad Request\r\nContent-Type: application/problem+json\r\nContent-Length: 87\r\nConnection: close\r\n\r\n{\"detail\":\"incomplete request\",\"status\":400,\"title\":\"Bad Request\",\"type\":\"about:blank\"}";
 
-pub const INCOMPLETE_OF_HEAD: &str =
-    "HTTP/1.1 400 Bad Request\r\nContent-Type: application/problem+json\r\nContent-Length: 87\r\nConnection: close\r\n\r\n";
-
 pub const BAD_HEAD: &str =
     "HTTP/1.1 400 Bad Request\r\nContent-Type: application/problem+json\r\nContent-Length: 85\r\nConnection: close\r\n\r\n{\"detail\":\"bad request head\",\"status\":400,\"title\":\"Bad Request\",\"type\":\"about:blank\"}";
-
-pub const BAD_HEAD_OF_HEAD: &str =
-    "HTTP/1.1 400 Bad Request\r\nContent-Type: application/problem+json\r\nContent-Length: 85\r\nConnection: close\r\n\r\n";
 
 pub const TOO_LARGE: &str =
     "HTTP/1.1 431 Request Header Fields Too Large\r\nContent-Type: application/problem+json\r\nContent-Length: 111\r\nConnection: close\r\n\r\n{\"detail\":\"request head too large\",\"status\":431,\"title\":\"Request Header Fields Too Large\",\"type\":\"about:blank\"}";
 
-pub const CODING: &str =
-    "HTTP/1.1 501 Not Implemented\r\nContent-Type: application/problem+json\r\nContent-Length: 102\r\nConnection: close\r\n\r\n{\"detail\":\"transfer coding not supported\",\"status\":501,\"title\":\"Not Implemented\",\"type\":\"about:blank\"}";
-
-pub const CODING_OF_HEAD: &str =
-    "HTTP/1.1 501 Not Implemented\r\nContent-Type: application/problem+json\r\nContent-Length: 102\r\nConnection: close\r\n\r\n";
-
 pub const BODY_TOO_LARGE: &str =
     "HTTP/1.1 413 Content Too Large\r\nContent-Type: application/problem+json\r\nContent-Length: 89\r\nConnection: close\r\n\r\n{\"detail\":\"body too large\",\"status\":413,\"title\":\"Content Too Large\",\"type\":\"about:blank\"}";
-
-pub const BODY_TOO_LARGE_OF_HEAD: &str =
-    "HTTP/1.1 413 Content Too Large\r\nContent-Type: application/problem+json\r\nContent-Length: 89\r\nConnection: close\r\n\r\n";
 
 pub const MEMORY: &str =
     "HTTP/1.1 503 Service Unavailable\r\nContent-Type: application/problem+json\r\nContent-Length: 90\r\nConnection: close\r\n\r\n{\"detail\":\"out of memory\",\"status\":503,\"title\":\"Service Unavailable\",\"type\":\"about:blank\"}";

@@ -3,9 +3,6 @@ use af_http::Ended;
 use std::alloc::Global;
 use std::process::Abort;
 
-/// Sizes of pieces in which an input comes.
-pub const ANY_PIECES: &[usize] = &[1, 2, 3, 40, 100_000];
-
 /// What comes on a connection, in pieces of which sizes, and what comes of it: how it ends, and the two parts of what is
 /// written.
 #[derive(Clone, Copy)]

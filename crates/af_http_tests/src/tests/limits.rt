@@ -1,7 +1,9 @@
+//! The longest body and the longest head, in pieces; and how many writes a thousand answers take.
 use crate::tests::answers::{INCOMPLETE, LAST_VERSION, TOO_LARGE, VERSION};
-use crate::tests::asserts::{holds, number_holds, row_holds};
+use crate::tests::asserts::{holds, number_holds, row_goes, row_holds};
 use crate::tests::cases::is_joined;
 use crate::tests::cut::ASKS_VERSION;
+use crate::tests::pieces::ANY_PIECES;
 use crate::tests::tools::{Pieces, new_paper, run};
 use af_http::Ended;
 use af_ops::Status;
@@ -158,40 +160,62 @@ fn after_lines(rt: &impl Abort, alloc: Global, lines: usize, head: &[u8], come: 
     input
 }
 
-/// 64 fields are read, 65 are too many.
+/// How many fields two requests have, one behind the other, and what comes of them: 64 are read, 65 are too many. A request
+/// does not count the lines of the one before it.
+const FIELDS: &[(usize, usize, Ended, &str, &str)] = &[
+    (64, 64, Ended::Closed, VERSION, VERSION),
+    (
+        64,
+        65,
+        Ended::Refused(Status::HeadTooLarge),
+        VERSION,
+        TOO_LARGE,
+    ),
+    (65, 1, Ended::Refused(Status::HeadTooLarge), TOO_LARGE, ""),
+];
+
+/// Lines are counted alike in whatever pieces they come.
 #[test]
 fn many_fields(rt: HostRuntime) {
-    for (fields, wanted, text) in FIELDS {
-        let give = fields_give(&rt, rt.alloc(), *fields, *wanted, text);
-        number_holds(&rt, give, "fields:", *fields);
+    for (row, (first, second, ended, answer, next)) in FIELDS.iter().enumerate() {
+        let input = with_fields(&rt, rt.alloc(), [*first, *second]);
+        let fault = fields_fault(&rt, rt.alloc(), input.as_slice(), *ended, answer, next);
+        drop(input);
+        row_goes(&rt, fault, row);
     }
 }
 
-/// Whether a head with so many fields ends so, and this is written.
-fn fields_give(rt: &impl Abort, alloc: Global, fields: usize, wanted: Ended, text: &str) -> bool {
-    let input = with_fields(rt, alloc, fields);
-    let gives = gives(rt, alloc, input.as_slice(), 100_000, wanted, text, "");
-    drop(input);
-    gives
+/// The first size of pieces with which an input does not end so, or these two parts are not written.
+fn fields_fault(
+    rt: &impl Abort,
+    alloc: Global,
+    input: &[u8],
+    wanted: Ended,
+    first: &str,
+    second: &str,
+) -> Option<usize> {
+    for size in ANY_PIECES {
+        if !gives(rt, alloc, input, *size, wanted, first, second) {
+            return Some(*size);
+        }
+    }
+    None
 }
 
-const FIELDS: &[(usize, Ended, &str)] = &[
-    (64, Ended::Closed, VERSION),
-    (65, Ended::Refused(Status::HeadTooLarge), TOO_LARGE),
-];
-
-/// A head with so many fields.
-fn with_fields(rt: &impl Abort, alloc: Global, fields: usize) -> Vec<u8> {
+/// Two requests, one behind the other, with so many fields each.
+fn with_fields(rt: &impl Abort, alloc: Global, counts: [usize; 2]) -> Vec<u8> {
     let mut input = Vec::new(alloc);
-    add(
-        rt,
-        &mut input,
-        b"GET /api/v1/version HTTP/1.1\r\nHost: h\r\n",
-        1,
-    );
-    add(rt, &mut input, b"X: y\r\n", fields.saturating_sub(1));
-    add(rt, &mut input, b"\r\n", 1);
+    for fields in counts {
+        add_head(rt, &mut input, fields);
+    }
     input
+}
+
+/// Appends a head with so many fields.
+fn add_head(rt: &impl Abort, input: &mut Vec<u8>, fields: usize) {
+    add(rt, input, b"GET /api/v1/version HTTP/1.1\r\nHost: h\r\n", 1);
+    add(rt, input, b"X: y\r\n", fields.saturating_sub(1));
+    add(rt, input, b"\r\n", 1);
 }
 
 /// The 1,000th request closes, and what follows it is not read. Answers share writes.

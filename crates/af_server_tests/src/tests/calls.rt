@@ -1,12 +1,10 @@
-//! What words ask for, what the program says, and how files are refused.
+//! What words ask for, how files are refused, and how the program ends where there is no memory.
+use super::Pieces;
 use super::asserts::{all_go, first_fault, holds};
 use super::consoles::{Act, does};
-use super::{BASE, Pieces};
 use af_http::Counted;
-use af_server::{Command, Ports, Reason, read_whole};
+use af_server::{Command, Reason, read_whole};
 use std::alloc::{AllocError, Global};
-use std::sync::Wait;
-use std::thread::Threads;
 
 /// Adds a word to those of a call.
 fn add_word(alloc: Global, all: &mut Vec<String>, word: &str) -> Result<(), AllocError> {
@@ -41,7 +39,6 @@ pub enum Asked {
     Once(&'static str),
     Serve(&'static str, u16, u32),
     Verify(&'static str),
-    Usage,
 }
 
 /// Whether a command is what is asked for.
@@ -49,7 +46,7 @@ fn is_asked(command: &Command, asked: Asked) -> bool {
     match command {
         Command::Once { config, .. } => match asked {
             Asked::Once(path) => config.as_str() == path,
-            Asked::Serve(_, _, _) | Asked::Verify(_) | Asked::Usage => false,
+            Asked::Serve(_, _, _) | Asked::Verify(_) => false,
         },
         Command::Serve {
             config,
@@ -59,16 +56,13 @@ fn is_asked(command: &Command, asked: Asked) -> bool {
             Asked::Serve(path, wanted, workers) => {
                 config.as_str() == path && *port == wanted && count.count() == workers
             }
-            Asked::Once(_) | Asked::Verify(_) | Asked::Usage => false,
+            Asked::Once(_) | Asked::Verify(_) => false,
         },
         Command::Verify { trace } => match asked {
             Asked::Verify(path) => trace.as_str() == path,
-            Asked::Once(_) | Asked::Serve(_, _, _) | Asked::Usage => false,
+            Asked::Once(_) | Asked::Serve(_, _, _) => false,
         },
-        Command::Usage => match asked {
-            Asked::Usage => true,
-            Asked::Once(_) | Asked::Serve(_, _, _) | Asked::Verify(_) => false,
-        },
+        Command::Usage => false,
     }
 }
 
@@ -79,35 +73,6 @@ pub fn asks(alloc: Global, words: &[&str], wanted: Asked) -> Result<bool, AllocE
     drop(command);
     Ok(is_asked)
 }
-
-/// Words that ask for nothing that there is.
-const WRONG: [&[&str]; 19] = [
-    &["afplane"],
-    &["afplane", "verify"],
-    &["afplane", "once", "base.json"],
-    &["afplane", "check", "trace.json"],
-    &["afplane", "verify", "trace.json", "2024-01-01T00:00:00Z"],
-    &["afplane", "verify", "trace.json", "more", "words"],
-    &["afplane", "once", "base.json", "today"],
-    &[
-        "afplane",
-        "once",
-        "base.json",
-        "2024-01-01T00:00:00Z",
-        "more",
-    ],
-    &["afplane", "serve", "base.json", "0"],
-    &["afplane", "serve", "base.json", "0", "1", "more"],
-    &["afplane", "once", "base.json", "0", "1"],
-    &["afplane", "serve", "base.json", "65536", "1"],
-    &["afplane", "serve", "base.json", "4294967376", "1"],
-    &["afplane", "serve", "base.json", "+80", "1"],
-    &["afplane", "serve", "base.json", "", "1"],
-    &["afplane", "serve", "base.json", "0", "0"],
-    &["afplane", "serve", "base.json", "0", "17"],
-    &["afplane", "serve", "base.json", "0", "-1"],
-    &["afplane", "twice", "base.json", "2024-01-01T00:00:00Z"],
-];
 
 /// Words that ask for one connection.
 const ONCE: [&[&str]; 1] = [&["afplane", "once", "base.json", "2024-01-01T00:00:00Z"]];
@@ -133,83 +98,11 @@ fn asks_serve(alloc: Global, row: &(&[&str], u16, u32)) -> Result<bool, AllocErr
     asks(alloc, row.0, Asked::Serve("base.json", row.1, row.2))
 }
 
-/// Whether the words ask for how the program is called.
-fn asks_usage(alloc: Global, words: &&[&str]) -> Result<bool, AllocError> {
-    asks(alloc, *words, Asked::Usage)
-}
-
 #[test]
 fn the_words_of_the_program(rt: HostRuntime) {
     let once = first_fault(rt.alloc(), &ONCE, asks_once);
     all_go(&rt, once, "one connection");
     all_go(&rt, first_fault(rt.alloc(), &SERVE, asks_serve), "a server");
-    all_go(&rt, first_fault(rt.alloc(), &WRONG, asks_usage), "row");
-}
-
-/// What a file holds, what comes from standard input, the status, whether there is an answer, and what is told on standard error.
-type Call = (&'static str, &'static str, u8, bool, &'static str);
-
-const CALLS: [Call; 6] = [
-    (BASE, "", 0, false, ""),
-    (
-        BASE,
-        "GET /api/v1/version HTTP/1.1\r\nHost: h\r\n\r\n",
-        0,
-        true,
-        "",
-    ),
-    (BASE, "GET", 1, true, ""),
-    (
-        "{",
-        "GET",
-        3,
-        false,
-        "afplane: configuration refused: syntax\n",
-    ),
-    (
-        "[]",
-        "GET",
-        3,
-        false,
-        "afplane: configuration refused: shape\n",
-    ),
-    (
-        "{}",
-        "",
-        3,
-        false,
-        "afplane: configuration refused: admin\n",
-    ),
-];
-
-/// Whether a call goes as it should.
-fn goes<H: Ports + Threads + Wait + Sync>(
-    rt: &H,
-    alloc: Global,
-    call: &Call,
-) -> Result<bool, AllocError> {
-    let (config, input, status, answered, errors) = *call;
-    let output = if answered { None } else { Some("") };
-    Ok(does(
-        rt,
-        alloc,
-        Act::Once(config),
-        input,
-        (status, output, errors),
-    ))
-}
-
-#[test]
-fn what_the_program_says(rt: HostRuntime) {
-    all_go(
-        &rt,
-        first_fault(
-            rt.alloc(),
-            &CALLS,
-            |alloc, call: &Call| goes(&rt, alloc, call),
-        ),
-        "call",
-    );
 }
 
 /// How many spaces a file holds, how many of them a read gives at most, whether it fails behind them, and why it is refused.
@@ -242,58 +135,10 @@ fn files_that_fail_are_refused(rt: HostRuntime) {
     all_go(&rt, first_fault(rt.alloc(), &SPACES, is_refused), "spaces");
 }
 
-/// A reason, and its word.
-type Word = (Reason, &'static str);
-
-/// Each reason.
-const WORDS: [Word; 15] = [
-    (Reason::Unreadable, "unreadable"),
-    (Reason::Syntax, "syntax"),
-    (Reason::Shape, "shape"),
-    (Reason::Name, "name"),
-    (Reason::Duplicate, "duplicate"),
-    (Reason::Role, "role"),
-    (Reason::Action, "action"),
-    (Reason::Pair, "pair"),
-    (Reason::Admin, "admin"),
-    (Reason::Pool, "pool"),
-    (Reason::Graph, "graph"),
-    (Reason::Schedule, "schedule"),
-    (Reason::Limit, "limit"),
-    (Reason::Memory, "memory"),
-    (Reason::Trace, "trace"),
-];
-
-/// Whether a reason is told by this word.
-fn is_word<H: Ports + Threads + Wait + Sync>(
-    rt: &H,
-    alloc: Global,
-    word: &Word,
-) -> Result<bool, AllocError> {
-    let line = ["afplane: configuration refused: ", word.1, "\n"].concat(alloc)?;
-    let told = (3, Some(""), line.as_str());
-    let is_word = does(rt, alloc, Act::End(word.0), "", told);
-    drop(line);
-    Ok(is_word)
-}
-
+/// Of all reasons the one that no configuration has.
 #[test]
-fn each_line(rt: HostRuntime) {
-    all_go(
-        &rt,
-        first_fault(
-            rt.alloc(),
-            &WORDS,
-            |alloc, word: &Word| is_word(&rt, alloc, word),
-        ),
-        "word",
-    );
-}
-
-const USAGE: &str = "usage: afplane once CONFIG NOW | serve CONFIG PORT WORKERS | verify TRACE\n";
-
-#[test]
-fn the_line_of_the_usage(rt: HostRuntime) {
-    let is_told = does(&rt, rt.alloc(), Act::Usage, "", (2, Some(""), USAGE));
+fn the_line_where_there_is_no_memory(rt: HostRuntime) {
+    let line = "afplane: configuration refused: memory\n";
+    let is_told = does(&rt, rt.alloc(), Act::End(Reason::Memory), "", (3, "", line));
     holds(&rt, is_told, "the status and the line");
 }

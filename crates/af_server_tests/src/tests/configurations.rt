@@ -1,8 +1,7 @@
 use super::BASE;
-use super::asserts::{Fault, all_go};
+use super::asserts::{Fault, all_go, first_fault};
 use af_names::Instant;
 use af_server::{Configuration, Reason};
-use af_vars::Variable;
 use std::alloc::{AllocError, Global};
 
 /// An administrator.
@@ -13,25 +12,10 @@ pub const ADMIN: &str =
 #[derive(Clone, Copy)]
 pub enum Said {
     Anything,
-    /// Variables, in their order.
-    Variables(&'static [(&'static str, &'static str)]),
     /// The limits of entries and of versions.
     Limits(u32, u32),
     /// The only DAG, and where its cursor is.
     Cursor(Option<&'static str>),
-}
-
-fn is_variable(row: &Variable, said: (&str, &str)) -> bool {
-    row.key.as_str() == said.0 && row.value.as_str() == said.1
-}
-
-fn are_variables(rows: &[Variable], said: &[(&str, &str)]) -> bool {
-    for (row, said) in rows.iter().zip(said) {
-        if !is_variable(row, *said) {
-            return false;
-        }
-    }
-    rows.len() == said.len()
 }
 
 /// Whether the one DAG of a configuration begins at this moment, or at none.
@@ -49,7 +33,6 @@ fn is_at(read: &Configuration, first: Option<&str>) -> bool {
 fn is_said(read: &Configuration, said: Said) -> bool {
     match said {
         Said::Anything => true,
-        Said::Variables(variables) => are_variables(read.state.variables(), variables),
         Said::Limits(history, versions) => {
             read.limits.history == history && read.limits.versions == versions
         }
@@ -92,19 +75,19 @@ fn reason_of(alloc: Global, parts: &[&str]) -> Result<Option<Reason>, AllocError
 }
 
 /// A text, and why a configuration that has it is refused, or none where it is taken.
-pub type Refusal = (&'static str, Option<Reason>);
+type Refusal = (&'static str, Option<Reason>);
 
 /// Three parts of a configuration that stand before what a row has, and one behind it.
-pub type Frame = [&'static str; 4];
+type Frame = [&'static str; 4];
 
 /// No more than what the row has.
 const WHOLE_TEXT: Frame = ["", "", "", ""];
 
 /// An administrator, beside the members that the row has.
-pub const BESIDE: Frame = ["{", ADMIN, ",", "}"];
+const BESIDE: Frame = ["{", ADMIN, ",", "}"];
 
 /// The number of the first of these texts that, in this frame, is not refused for its reason, or taken where there is none.
-pub fn first_refusal(alloc: Global, frame: Frame, rows: &[Refusal]) -> Fault {
+fn first_refusal(alloc: Global, frame: Frame, rows: &[Refusal]) -> Fault {
     let [first, second, third, last] = frame;
     for (number, (text, reason)) in rows.iter().enumerate() {
         if reason_of(alloc, &[first, second, third, *text, last])? != *reason {
@@ -237,4 +220,29 @@ fn each_reason(rt: HostRuntime) {
     all_go(&rt, fault, "whole configurations");
     let fault = first_refusal(rt.alloc(), BESIDE, &LISTS);
     all_go(&rt, fault, "pools and DAGs");
+}
+
+/// Members behind an administrator, and the limits of entries and of versions that are read.
+type Limits = (&'static str, u32, u32);
+
+const LIMITS: [Limits; 3] = [
+    ("", 1_000_000, 4_294_967_295),
+    (
+        r#","history_limit":4294967294"#,
+        4_294_967_294,
+        4_294_967_295,
+    ),
+    (r#","version_limit":2,"history_limit":3"#, 3, 2),
+];
+
+/// Whether members are taken, and give these limits.
+fn are_kept(alloc: Global, limits: &Limits) -> Result<bool, AllocError> {
+    let (members, history, versions) = *limits;
+    let said = Said::Limits(history, versions);
+    is_taken(alloc, &["{", ADMIN, members, "}"], said)
+}
+
+#[test]
+fn limits_are_kept(rt: HostRuntime) {
+    all_go(&rt, first_fault(rt.alloc(), &LIMITS, are_kept), "limits");
 }

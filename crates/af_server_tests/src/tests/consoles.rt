@@ -1,9 +1,9 @@
 //! What the program does at a console: what it prints, and what it tells on standard error.
 use super::calls::command_of;
 use super::programs::Shelf;
-use super::{Pieces, in_pieces, now};
+use super::{Pieces, in_pieces};
 use af_http::Counted;
-use af_server::{Command, Console, Ports, Reason, ended, run, usage};
+use af_server::{Command, Console, Ports, Reason, ended, run};
 use std::alloc::Global;
 use std::sync::Wait;
 use std::thread::Threads;
@@ -11,20 +11,16 @@ use std::thread::Threads;
 /// What the program is to do.
 #[derive(Clone, Copy)]
 pub enum Act<'a> {
-    /// One connection under the configuration that a file holds.
-    Once(&'a str),
     /// What words say, where there is one file, which holds this.
     Run(&'a str, &'a [&'a str]),
     /// Whether the trace that a file holds agrees.
     Verify(&'a str),
     /// That a configuration is refused for this reason.
     End(Reason),
-    /// How it is called.
-    Usage,
 }
 
-/// The status, what is printed, or none for anything but nothing, and what is told on standard error.
-pub type Told<'a> = (u8, Option<&'static str>, &'a str);
+/// The status, what is printed, and what is told on standard error.
+pub type Told<'a> = (u8, &'static str, &'a str);
 
 /// Where the program reads, prints and tells.
 type Desk<'a> = Console<Counted<Pieces<'a>>, Counted<&'a mut Vec<u8>>, Counted<&'a mut Vec<u8>>>;
@@ -34,21 +30,17 @@ fn file(text: &str) -> Counted<Pieces<'_>> {
     in_pieces(text.as_bytes(), 4_096)
 }
 
-/// What is asked for, where there is one file; none where there is no memory or no moment.
+/// What is asked for, where there is one file; none where there is no memory.
 fn asked(alloc: Global, what: Act<'_>) -> Option<Command> {
     let path = String::from_str(alloc, "it").ok()?;
     match what {
-        Act::Once(_) => Some(Command::Once {
-            config: path,
-            now: now()?,
-        }),
         Act::Run(_, words) => command_of(alloc, words).ok(),
         Act::Verify(_) => Some(Command::Verify { trace: path }),
-        Act::End(_) | Act::Usage => Some(Command::Usage),
+        Act::End(_) => Some(Command::Usage),
     }
 }
 
-/// The status of a command, where there is one file, which holds this; none where there is no memory or no moment.
+/// The status of a command, where there is one file, which holds this; none where there is no memory.
 fn run_with<H: Ports + Threads + Wait + Sync>(
     rt: &H,
     alloc: Global,
@@ -60,7 +52,7 @@ fn run_with<H: Ports + Threads + Wait + Sync>(
     Some(run(rt, alloc, &Shelf { path: "it", text }, command, desk).status)
 }
 
-/// The status of what is done, or none where there is no memory or no moment.
+/// The status of what is done, or none where there is no memory.
 fn status_of<H: Ports + Threads + Wait + Sync>(
     rt: &H,
     alloc: Global,
@@ -68,11 +60,8 @@ fn status_of<H: Ports + Threads + Wait + Sync>(
     desk: &mut Desk<'_>,
 ) -> Option<u8> {
     match what {
-        Act::Once(text) | Act::Run(text, _) | Act::Verify(text) => {
-            run_with(rt, alloc, text, what, desk)
-        }
+        Act::Run(text, _) | Act::Verify(text) => { run_with(rt, alloc, text, what, desk) }
         Act::End(reason) => Some(ended(&mut desk.errors, Err(reason))),
-        Act::Usage => Some(usage(&mut desk.errors)),
     }
 }
 
@@ -95,11 +84,7 @@ fn done<H: Ports + Threads + Wait + Sync>(
 
 /// Whether this status, what is printed and what is told on standard error are those wanted.
 fn is_told(status: Option<u8>, output: &[u8], errors: &[u8], told: Told<'_>) -> bool {
-    let is_printed = match told.1 {
-        Some(text) => output == text.as_bytes(),
-        None => !output.is_empty(),
-    };
-    status == Some(told.0) && is_printed && errors == told.2.as_bytes()
+    status == Some(told.0) && output == told.1.as_bytes() && errors == told.2.as_bytes()
 }
 
 /// Whether what the program does with this input is told of so.

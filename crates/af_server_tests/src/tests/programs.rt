@@ -107,7 +107,7 @@ fn is_done<H: Ports + Threads + Wait + Sync>(
     call: &Call,
 ) -> Result<bool, AllocError> {
     let (text, words, status, written, told) = *call;
-    let told = (status, Some(written), told);
+    let told = (status, written, told);
     Ok(does(rt, alloc, Act::Run(text, words), VERSION, told))
 }
 

@@ -5,9 +5,6 @@ use af_http::Ended;
 use std::alloc::{AllocError, Global};
 use std::sync::Wait;
 
-/// A request, and what is told of it.
-pub type Exchange = (&'static str, &'static str);
-
 /// A method and a target, who asks (a token), and with which body; then the number of changes that is told, the end of the status
 /// line, and the body that is told. The policy is that of version 0.
 pub type Row = (
@@ -32,13 +29,9 @@ pub type Step = (
 /// What goes on in one connection.
 #[derive(Clone, Copy)]
 pub enum Story {
-    /// Requests and answers as they are on the wire.
-    Exchanges(&'static [Exchange]),
     /// Requests under the policy of version 0.
     Rows(&'static [Row]),
-    /// Requests under policies of any version.
-    Steps(&'static [Step]),
-    /// The same, the first ones and then the others.
+    /// Requests under policies of any version, the first ones and then the others.
     After(&'static [Step], &'static [Step]),
 }
 
@@ -130,25 +123,10 @@ fn add_rows(input: &mut String, told: &mut String, rows: &[Row]) -> Result<(), A
     Ok(())
 }
 
-/// Writes exchanges, one after another, as they stand.
-fn add_exchanges(
-    input: &mut String,
-    told: &mut String,
-    exchanges: &[Exchange],
-) -> Result<(), AllocError> {
-    for exchange in exchanges {
-        input.push_str(exchange.0)?;
-        told.push_str(exchange.1)?;
-    }
-    Ok(())
-}
-
 /// Adds what is asked in a story, and what is told of it.
 fn add_story(input: &mut String, told: &mut String, story: Story) -> Result<(), AllocError> {
     match story {
-        Story::Exchanges(exchanges) => add_exchanges(input, told, exchanges),
         Story::Rows(rows) => add_rows(input, told, rows),
-        Story::Steps(steps) => add_steps(input, told, steps),
         Story::After(first, then) => {
             add_steps(input, told, first)?;
             add_steps(input, told, then)
@@ -156,89 +134,28 @@ fn add_story(input: &mut String, told: &mut String, story: Story) -> Result<(), 
     }
 }
 
-/// The first of these sizes of pieces in which this is not what is told of an input under a configuration.
-fn first_size(
-    rt: &impl Wait,
-    alloc: Global,
-    config: &str,
-    input: &str,
-    told: &str,
-    sizes: &[usize],
-) -> Option<usize> {
-    for size in sizes {
-        if !is_told(
-            rt,
-            alloc,
-            config,
-            input.as_bytes(),
-            *size,
-            told,
-            Ended::Closed,
-        ) {
-            return Some(*size);
-        }
+/// How many bytes a read gives at most.
+const PIECES: usize = 4_096;
+
+/// That size of pieces, where this is not what is told of an input under a configuration.
+fn fault_of(rt: &impl Wait, alloc: Global, config: &str, input: &str, told: &str) -> Option<usize> {
+    let input = input.as_bytes();
+    if is_told(rt, alloc, config, input, PIECES, told, Ended::Closed) {
+        None
+    } else {
+        Some(PIECES)
     }
-    None
 }
 
-/// The first of these sizes of pieces in which a story does not go as it should, in one connection under a configuration.
-pub fn fault_in_pieces(
-    rt: &impl Wait,
-    alloc: Global,
-    config: &str,
-    story: Story,
-    sizes: &[usize],
-) -> Fault {
+/// The size of pieces in which a story does not go as it should, in one connection under a configuration.
+pub fn fault_in(rt: &impl Wait, alloc: Global, config: &str, story: Story) -> Fault {
     let mut input = String::new(alloc);
     let mut told = String::new(alloc);
     let fault = match add_story(&mut input, &mut told, story) {
-        Ok(()) => Ok(first_size(rt, alloc, config, input.as_str(), told.as_str(), sizes)),
+        Ok(()) => Ok(fault_of(rt, alloc, config, input.as_str(), told.as_str())),
         Err(error) => Err(error),
     };
     drop(input);
     drop(told);
     fault
-}
-
-/// The same, in pieces of 4,096 bytes.
-pub fn fault_in(rt: &impl Wait, alloc: Global, config: &str, story: Story) -> Fault {
-    fault_in_pieces(rt, alloc, config, story, &[4_096])
-}
-
-/// Whether this is told where it is asked alone, in a connection of its own.
-fn is_told_alone(
-    rt: &impl Wait,
-    alloc: Global,
-    parts: &[&str],
-    told: &str,
-) -> Result<bool, AllocError> {
-    let input = parts.concat(alloc)?;
-    let is_told = is_told(
-        rt,
-        alloc,
-        super::BASE,
-        input.as_bytes(),
-        4_096,
-        told,
-        Ended::Closed,
-    );
-    drop(input);
-    Ok(is_told)
-}
-
-/// The number of the first of these exchanges, each in a connection of its own, that does not go as it should; what is asked stands
-/// between these two.
-pub fn fault_alone(
-    rt: &impl Wait,
-    alloc: Global,
-    before: &'static str,
-    exchanges: &[Exchange],
-    after: &'static str,
-) -> Fault {
-    for (number, (asked, told)) in exchanges.iter().enumerate() {
-        if !is_told_alone(rt, alloc, &[before, *asked, after], *told)? {
-            return Ok(Some(number));
-        }
-    }
-    Ok(None)
 }

@@ -55,7 +55,7 @@ fn is_told<H: Ports + Threads + Wait + Sync>(
         "]}",
     ]
     .concat(alloc)?;
-    let wanted = (status, Some(printed), refused);
+    let wanted = (status, printed, refused);
     let is_told = does(rt, alloc, Act::Verify(trace.as_str()), "", wanted);
     drop(trace);
     Ok(is_told)

@@ -44,6 +44,13 @@ pub const MONTHLY: Due = Due {
     catchup: true,
 };
 
+/// Each day of 2024 and after, for the last point that has passed alone.
+const DAILY: Due = Due {
+    points: Points::Preset(Preset::Daily),
+    from: "2024-01-01T00:00:00Z",
+    catchup: false,
+};
+
 fn schedule(due: Due) -> Result<Schedule, Fail> {
     Ok(Schedule {
         points: due.points,
@@ -60,6 +67,8 @@ pub enum Dags {
     OnlyB,
     /// b, and one that is due so.
     AndDue(Due),
+    /// The three, and d, which is due each day.
+    AndDaily,
 }
 
 fn dag_spec(
@@ -91,9 +100,9 @@ fn add(alloc: Global, state: &mut State, id: &str, is_paused: bool) -> Result<()
 }
 
 /// Adds a DAG of one task that is due so.
-fn add_due(alloc: Global, state: &mut State, due: Due) -> Result<(), Fail> {
+fn add_due(alloc: Global, state: &mut State, id: &str, due: Due) -> Result<(), Fail> {
     let schedule = schedule(due)?;
-    let row = DagRow::opened(dag(alloc, "due", Some(schedule), due.catchup)?, false);
+    let row = DagRow::opened(dag(alloc, id, Some(schedule), due.catchup)?, false);
     Ok(state.add_dag(row)?)
 }
 
@@ -111,16 +120,18 @@ fn add_rows(alloc: Global, state: &mut State, rows: &[Row]) -> Result<(), Fail> 
     Ok(())
 }
 
-fn add_b_and_due(alloc: Global, state: &mut State, due: Due) -> Result<(), Fail> {
-    add_rows(alloc, state, ONLY_B)?;
-    add_due(alloc, state, due)
+/// Adds DAGs without a schedule, and one that is due so.
+fn add_all(alloc: Global, state: &mut State, rows: &[Row], id: &str, due: Due) -> Result<(), Fail> {
+    add_rows(alloc, state, rows)?;
+    add_due(alloc, state, id, due)
 }
 
 fn fill(alloc: Global, state: &mut State, dags: Dags) -> Result<(), Fail> {
     match dags {
         Dags::Three => add_rows(alloc, state, THREE),
         Dags::OnlyB => add_rows(alloc, state, ONLY_B),
-        Dags::AndDue(due) => add_b_and_due(alloc, state, due),
+        Dags::AndDue(due) => add_all(alloc, state, ONLY_B, "due", due),
+        Dags::AndDaily => add_all(alloc, state, THREE, "d", DAILY),
     }
 }
 

@@ -5,7 +5,7 @@ ghost use Rattle.af_plane.specs.Names.{IsOfName};
 use crate::tests::BASE;
 use crate::tests::asserts::holds;
 use af_plane::{Control, Named, Parts};
-use af_server::{Attendance, Configuration, Gate, Leave, Machine, Port, Server, Shared, Workers};
+use af_server::{Attendance, Configuration, Gate, Leave, Machine, Port, Shared, Workers};
 use std::alloc::Global;
 use std::marker::Brand;
 use std::process::Abort;
@@ -78,9 +78,14 @@ fn serve<
 
 /// What the sample configuration opens with.
 fn parts(alloc: Global) -> Result<Parts, Fail> {
-    let configuration = Configuration::read(alloc, BASE.as_bytes())?;
-    let Server { parts, scripted } = Server::open(alloc, configuration)?;
-    drop(scripted);
+    let Configuration {
+        policy,
+        state,
+        scripts,
+        limits,
+    } = Configuration::read(alloc, BASE.as_bytes())?;
+    drop(scripts);
+    let parts = Parts::open(alloc, policy, limits.versions, state, limits.history)?;
     Ok(parts)
 }
 

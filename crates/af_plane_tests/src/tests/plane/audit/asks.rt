@@ -21,6 +21,11 @@ const RUN_X: &str = "{\"dag_run_id\":\"x\"}";
 
 const RUN_Y: &str = "{\"dag_run_id\":\"y\",\"logical_date\":\"2024-01-02T00:00:00Z\"}";
 
+const SPRING: &str =
+    "{\"start_date\":\"2024-03-01T00:00:00Z\",\"end_date\":\"2024-06-01T00:00:00Z\"}";
+
+const NO_END: &str = "{\"start_date\":\"2024-03-01T00:00:00Z\"}";
+
 /// Changes of DAGs and of their runs, some of which change nothing where they come twice; readings; and what is refused.
 pub const ASKS: &[Ask] = &[
     (Endpoint::PauseDag, &["b"], PAUSED),
@@ -50,6 +55,9 @@ pub const ASKS: &[Ask] = &[
     (Endpoint::ClearInstances, &["wide"], FAILED),
     (Endpoint::ClearInstances, &["b"], FAILED),
     (Endpoint::ClearInstances, &["monthly"], FAILED),
+    (Endpoint::BackfillDag, &["monthly"], SPRING),
+    (Endpoint::BackfillDag, &["monthly"], NO_END),
+    (Endpoint::BackfillDag, &["b"], SPRING),
     (Endpoint::AddPool, &[], "{\"name\":\"p\",\"slots\":2}"),
     (Endpoint::ChangePool, &["p"], "{\"slots\":3}"),
     (Endpoint::ChangePool, &["default_pool"], "{\"slots\":2}"),

@@ -80,9 +80,9 @@ fn who(seed: &mut u64) -> &'static str {
 
 /// What is asked for.
 fn what(seed: &mut u64) -> Result<Ask, Fail> {
-    match ASKS.get(next_of(seed) % 40) {
+    match ASKS.get(next_of(seed) % 43) {
         Some(ask) => Ok(*ask),
-        None => Err(Fail::new("fewer than forty requests")),
+        None => Err(Fail::new("fewer than forty-three requests")),
     }
 }
 

@@ -13,12 +13,15 @@ use std::process::Abort;
 use std::sync::Wait;
 use std::test::*;
 
-/// A change, what is told after it where it is made, and what is told where there was no memory for it.
+/// A change of a server over these DAGs: what is told before it, what is told after it where it is made, and what is told where there was
+/// no memory for it.
 #[derive(Clone, Copy)]
-struct Change {
-    row: Row,
-    made: &'static [Row],
-    not_made: &'static [Row],
+pub struct Change {
+    pub dags: Dags,
+    pub before: &'static [Row],
+    pub row: Row,
+    pub made: &'static [Row],
+    pub not_made: &'static [Row],
 }
 
 const TRIGGER: Asked = ("abc", Endpoint::TriggerRun, &["b"], "{}");
@@ -35,12 +38,14 @@ const LOGS: &str =
 const RUN_EXISTS: &str =
     r#"{"detail":"run exists: manual__2024-01-01T00:00:00.000001+00:00","status":409,"title":"Conflict","type":"about:blank"}"#;
 
-const LIST_RUNS: Asked = ("admin", Endpoint::ListRuns, &["~"], "");
+pub const LIST_RUNS: Asked = ("admin", Endpoint::ListRuns, &["~"], "");
 
-const LIST_LOGS: Asked = ("admin", Endpoint::ListEntries, &[], "");
+pub const LIST_LOGS: Asked = ("admin", Endpoint::ListEntries, &[], "");
 
 /// uma triggers a run of b, which has the id of its moment.
 const TRIGGERED: Change = Change {
+    dags: Dags::Three,
+    before: &[],
     row: (TRIGGER, Status::Ok, (Some(0), Some(1)), RUN),
     made: &[
         (LIST_RUNS, Status::Ok, (Some(0), Some(1)), RUNS),
@@ -79,6 +84,8 @@ const GET_ROLE: Asked = ("admin", Endpoint::GetRole, &["X"], "");
 
 /// adam makes a role.
 const ROLE_ADDED: Change = Change {
+    dags: Dags::Three,
+    before: &[],
     row: (ADD_ROLE, Status::Ok, (Some(1), None), ROLE),
     made: &[
         (
@@ -112,9 +119,9 @@ const ROLE_ADDED: Change = Change {
     ],
 };
 
-/// A server over the sample configuration.
-fn solo(alloc: Global) -> Result<Solo, Fail> {
-    let (policy, state) = opened(alloc, OF_SAMPLE, Dags::Three)?;
+/// A server over the sample configuration with these DAGs.
+fn solo(alloc: Global, dags: Dags) -> Result<Solo, Fail> {
+    let (policy, state) = opened(alloc, OF_SAMPLE, dags)?;
     Ok(Solo::open(alloc, policy, 9, state, 9)?)
 }
 
@@ -126,16 +133,17 @@ fn tried(rt: &impl Wait, alloc: Global, solo: &mut Solo, row: Row) -> Result<Out
     Ok(outcome)
 }
 
-/// Whether the entries make the state.
-fn is_made_again(alloc: Global, solo: &Solo) -> Result<bool, Fail> {
-    is_replay(alloc, solo.plane(), Dags::Three)
-}
-
 /// Whether the entries make the state, these rows go as they say, and the entries then make the state too.
-fn stands(rt: &impl Wait, alloc: Global, solo: &mut Solo, rows: &[Row]) -> Result<bool, Fail> {
-    let before = is_made_again(alloc, solo)?;
+fn stands(
+    rt: &impl Wait,
+    alloc: Global,
+    solo: &mut Solo,
+    dags: Dags,
+    rows: &[Row],
+) -> Result<bool, Fail> {
+    let before = is_replay(alloc, solo.plane(), dags)?;
     let told = answered(rt, alloc, solo, rows)?;
-    let after = is_made_again(alloc, solo)?;
+    let after = is_replay(alloc, solo.plane(), dags)?;
     Ok(before && told == rows.len() && after)
 }
 
@@ -147,19 +155,30 @@ fn goes(
     change: Change,
 ) -> Result<bool, Fail> {
     match tried(rt, alloc, solo, change.row)? {
-        Outcome::Told => stands(rt, alloc, solo, change.made),
+        Outcome::Told => stands(rt, alloc, solo, change.dags, change.made),
         Outcome::NothingDone => {
-            let stands = stands(rt, alloc, solo, change.not_made);
+            let stands = stands(rt, alloc, solo, change.dags, change.not_made);
             once_refused(rt, true, stands)
         }
         Outcome::Other => Ok(false),
     }
 }
 
+/// Whether what comes before a change goes as it says, and then the change.
+fn goes_after(
+    rt: &(impl Abort + Wait),
+    alloc: Global,
+    solo: &mut Solo,
+    change: Change,
+) -> Result<bool, Fail> {
+    let told = answered(rt, alloc, solo, change.before)?;
+    Ok(told == change.before.len() && goes(rt, alloc, solo, change)?)
+}
+
 /// Ends the test where a change is made in part.
-fn is_whole(rt: &(impl Abort + Wait), alloc: Global, change: Change) -> Result<(), Fail> {
-    let mut solo = solo(alloc)?;
-    let goes = goes(rt, alloc, &mut solo, change);
+pub fn is_whole(rt: &(impl Abort + Wait), alloc: Global, change: Change) -> Result<(), Fail> {
+    let mut solo = solo(alloc, change.dags)?;
+    let goes = goes_after(rt, alloc, &mut solo, change);
     drop(solo);
     holds(rt, goes?, "what stands after a change");
     Ok(())

@@ -13,7 +13,8 @@ const STATES: &[(&str, Option<RunState>)] = &[
 const TYPES: &[(&str, Option<RunType>)] = &[
     ("manual", Some(RunType::Manual)),
     ("scheduled", Some(RunType::Scheduled)),
-    ("backfill", None),
+    ("backfill", Some(RunType::Backfill)),
+    ("Backfill", None),
 ];
 
 const FAULTS: &[(RunFault, &str)] = &[(

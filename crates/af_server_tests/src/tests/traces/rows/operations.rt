@@ -2,7 +2,7 @@
 use super::{Row, agrees};
 use crate::tests::asserts::{all_go, first_fault};
 
-const ROWS: [Row; 6] = [
+const ROWS: [Row; 7] = [
     // All DAGs are listed, or the one that the user reads; who reads none is told so, and who is nobody.
     (
         "",
@@ -110,6 +110,25 @@ const ROWS: [Row; 6] = [
             r#"[{"act":0,"token":"admin","method":"DELETE","target":"/api/v1/pools/p","body":"","now":"2024-01-01T00:00:00Z"},{"status":204,"version":0,"seq":2,"body":""}]"#,
             r#"[{"look":0},null]"#,
             r#"[{"act":0,"token":"admin","method":"POST","target":"/api/v1/variables","body":"{\"key\":\"k\",\"value\":\"v\"}","now":"2024-01-01T00:00:00Z"},{"status":200,"version":0,"seq":3,"body":"{\"key\":\"k\",\"value\":\"v\"}"}]"#,
+        ],
+    ),
+    // Of three days one has a run already: the others get theirs, and then no day is left. A range of 101 days is refused.
+    (
+        r#",{"dag_id":"d","schedule":"@daily","start_date":"2024-01-01T00:00:00Z","catchup":false,"tasks":[{"task_id":"t"}]}"#,
+        "",
+        &[
+            r#"[{"look":0},null]"#,
+            r#"[{"act":0,"token":"abc","method":"POST","target":"/api/v1/dags/d/dagRuns","body":"{\"dag_run_id\":\"m\",\"logical_date\":\"2024-01-02T00:00:00Z\"}","now":"2024-01-01T00:00:00Z"},{"status":200,"version":0,"seq":1,"body":"{\"dag_id\":\"d\",\"dag_run_id\":\"m\",\"data_interval_end\":\"2024-01-02T00:00:00+00:00\",\"data_interval_start\":\"2024-01-02T00:00:00+00:00\",\"end_date\":null,\"logical_date\":\"2024-01-02T00:00:00+00:00\",\"run_type\":\"manual\",\"start_date\":null,\"state\":\"queued\"}"}]"#,
+            r#"[{"look":0},null]"#,
+            r#"[{"act":0,"token":"abc","method":"POST","target":"/own/dags/d/backfills","body":"{\"start_date\":\"2023-12-30T00:00:00Z\",\"end_date\":\"2024-01-03T00:00:00Z\"}","now":"2024-01-01T00:00:00Z"},{"status":200,"version":0,"seq":2,"body":"{\"dag_runs\":[{\"dag_id\":\"d\",\"dag_run_id\":\"backfill__2024-01-01T00:00:00+00:00\",\"data_interval_end\":\"2024-01-02T00:00:00+00:00\",\"data_interval_start\":\"2024-01-01T00:00:00+00:00\",\"end_date\":null,\"logical_date\":\"2024-01-01T00:00:00+00:00\",\"run_type\":\"backfill\",\"start_date\":null,\"state\":\"queued\"},{\"dag_id\":\"d\",\"dag_run_id\":\"backfill__2024-01-03T00:00:00+00:00\",\"data_interval_end\":\"2024-01-04T00:00:00+00:00\",\"data_interval_start\":\"2024-01-03T00:00:00+00:00\",\"end_date\":null,\"logical_date\":\"2024-01-03T00:00:00+00:00\",\"run_type\":\"backfill\",\"start_date\":null,\"state\":\"queued\"}],\"total_entries\":2}"}]"#,
+            r#"[{"look":0},null]"#,
+            r#"[{"act":0,"token":"abc","method":"POST","target":"/own/dags/d/backfills","body":"{\"start_date\":\"2023-12-30T00:00:00Z\",\"end_date\":\"2024-01-03T00:00:00Z\"}","now":"2024-01-01T00:00:00Z"},{"status":200,"version":0,"seq":2,"body":"{\"dag_runs\":[],\"total_entries\":0}"}]"#,
+            r#"[{"look":0},null]"#,
+            r#"[{"act":0,"token":"abc","method":"POST","target":"/own/dags/d/backfills","body":"{\"start_date\":\"2023-12-30T00:00:00Z\",\"end_date\":\"2024-04-10T00:00:00Z\"}","now":"2024-01-01T00:00:00Z"},{"status":409,"version":0,"seq":2,"body":"{\"detail\":\"too many\",\"status\":409,\"title\":\"Conflict\",\"type\":\"about:blank\"}"}]"#,
+            r#"[{"look":0},null]"#,
+            r#"[{"act":0,"token":"abc","method":"POST","target":"/own/dags/b/backfills","body":"{\"start_date\":\"2023-12-30T00:00:00Z\",\"end_date\":\"2024-01-03T00:00:00Z\"}","now":"2024-01-01T00:00:00Z"},{"status":409,"version":0,"seq":2,"body":"{\"detail\":\"no schedule\",\"status\":409,\"title\":\"Conflict\",\"type\":\"about:blank\"}"}]"#,
+            r#"[{"look":0},null]"#,
+            r#"[{"act":0,"token":"test","method":"POST","target":"/own/dags/d/backfills","body":"{\"start_date\":\"2023-12-30T00:00:00Z\",\"end_date\":\"2024-01-03T00:00:00Z\"}","now":"2024-01-01T00:00:00Z"},{"status":403,"version":0,"seq":2,"body":"{\"detail\":\"missing permission DAG:d.can_edit\",\"status\":403,\"title\":\"Forbidden\",\"type\":\"about:blank\"}"}]"#,
         ],
     ),
 ];
