@@ -8,8 +8,8 @@ It is written from the words that say what afplane does, not from its code: it r
 (oracle_config.py), then the HTTP/1.1 requests of standard input, and answers them one after another (oracle_table.py has
 the operations, oracle_verdict.py the order of the rules, oracle_state.py and oracle_policy.py what is done). Its exit
 status and its words on standard error are the program's own. `--has` names the operations that there are: `landed` (where
-nothing is said), which is all that the program has, or fewer of them: `dags`, `pools`, `variables`, `limits`, `pages`,
-`audit`, `policy`, `verify`, `serve`, `baseline`, or single ones. Traces are verified too (oracle_world.py). Of `serve` it judges the arguments and the
+nothing is said), which is all that the program has, or fewer of them: `dags`, `backfill`, `pools`, `variables`, `limits`,
+`pages`, `audit`, `policy`, `verify`, `serve`, `baseline`, or single ones. Traces are verified too (oracle_world.py). Of `serve` it judges the arguments and the
 configuration alone.
 """
 import re

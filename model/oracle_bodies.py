@@ -76,6 +76,13 @@ def trigger_body(members):
     return run_id, date
 
 
+def backfill_body(members):
+    start, end = (instant_of(take(members, it, is_instant)) for it in ("start_date", "end_date"))
+    if end < start:
+        raise BadInput("bad member: end_date")
+    return start, end
+
+
 def mark_body(members):
     return take(members, "state", lambda it: it in ("success", "failed", "queued"))
 

@@ -126,10 +126,11 @@ class Limits(unittest.TestCase):
             self.assertEqual((plane.most_entries, plane.last_version), (1_000_000, 2**32 - 1))
 
     def fills(self, plane, path, body, total):
-        """One row more fills the list; of a row that is there and the list full, that it is there is told."""
+        """One row more fills the list; of a row that is there and the list full, that it is there is told. What is too many is not added."""
         for name, wanted in (("x", (200,)), ("x", (409, "exists: x")), ("y", (409, "too many"))):
             got = one_answer(plane, request("adam", f"POST /{path}", body(name)))
             self.assertEqual(got[: len(wanted)], wanted)
+        self.assertEqual(one_answer(plane, request("adam", f"GET /{path}/y"))[:2], (404, f"no such {path[:-1]}: y"))
         _, told, *_ = one_answer(plane, request("adam", f"GET /{path}"))
         self.assertEqual((len(json.loads(told)[path]), json.loads(told)["total_entries"]), (100, total))
 

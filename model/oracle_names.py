@@ -91,3 +91,12 @@ def point_from(schedule, start, at):
 
 def point_after(schedule, start, at):
     return point_from(schedule, start, at + 1)
+
+
+def points_within(schedule, start, first, last, most):
+    """The first so many points from `first` to `last`, both included, each with the next one; a point without a next one is none of them."""
+    found, at = [], point_from(schedule, start, max(start, first))
+    while at is not None and at <= last and len(found) < most:
+        after = point_after(schedule, start, at)
+        found, at = [*found, (at, after)] if after is not None else found, after
+    return found

@@ -75,6 +75,12 @@ def trigger_run(call):
     return state, states.show_run(run)
 
 
+def backfill(call):
+    """All new runs are answered at once: this is no page."""
+    state, made = states.backfill(call.state, *call.names, *call.input)
+    return state, {"dag_runs": [states.show_run(it) for it in made], "total_entries": len(made)}
+
+
 def show_run(call):
     return call.state, states.show_run(states.the_run(call.state, *call.names))
 

@@ -4,10 +4,10 @@ A state is replaced whole by each change, and never altered, so a change is a st
 """
 from dataclasses import dataclass, replace
 
-from oracle_names import isoformat
+from oracle_names import isoformat, points_within
 from oracle_policy import Fault
 
-MOST_RUNS = 65536
+MOST_RUNS, MOST_POINTS, LAST_NUMBER = 65536, 100, 2**64 - 1
 FINISHED = ("success", "failed", "skipped", "upstream_failed")
 
 
@@ -185,6 +185,29 @@ def trigger(state, dag_id, run_id, date):
     if len(runs) >= MOST_RUNS:
         raise Fault("too many", None)
     return new_run(state, dag, run_id, "manual", date, date)
+
+
+def backfill(state, dag_id, start, end):
+    """The state with a queued run for each point of a range whose id and logical date are free, and these runs, in order of date.
+
+    Points that are taken count towards the most that one request may ask for. The cursor stays, and whether the DAG is paused does not matter.
+    """
+    dag, runs = the_dag(state, dag_id), runs_of(state, dag_id)
+    if dag.schedule is None:
+        raise Fault("no schedule", None)
+    points = points_within(dag.schedule, dag.start, start, end, MOST_POINTS + 1)
+    if len(points) > MOST_POINTS:
+        raise Fault("too many", None)
+    ids, dates = {it.run_id for it in runs}, {it.date for it in runs}
+    free = [(f"backfill__{isoformat(date)}", date, after) for date, after in points]
+    free = [it for it in free if it[0] not in ids and it[1] not in dates]
+    if len(runs) + len(free) > MOST_RUNS or state.next_run + len(free) - 1 > LAST_NUMBER:
+        raise Fault("too many", None)
+    made = []
+    for run_id, date, after in free:
+        state, run = new_run(state, dag, run_id, "backfill", date, after)
+        made.append(run)
+    return state, made
 
 
 def mark_instance(instance, to, now):

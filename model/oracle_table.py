@@ -81,6 +81,7 @@ def table():
         row("list_instances", f"GET {run}/taskInstances", [READ_DAG, READ_RUNS, READ_INSTANCES], ops.list_instances, is_listing=True),
         row("show_instance", f"GET {run}/taskInstances/{{task_id}}", [READ_DAG, READ_RUNS, READ_INSTANCES], ops.show_instance),
         row("clear_instances", f"POST {dag}/clearTaskInstances", [EDIT_DAG, READ_RUNS, (EDIT, INSTANCES)], ops.clear_instances, bodies.clear_body, "clear_task_instances"),
+        row("backfill", "POST /own/dags/{dag_id}/backfills", [EDIT_DAG, (CREATE, RUNS)], ops.backfill, bodies.backfill_body, "backfill"),
         *rows_of("pool", "pools", "/api/v1/pools", "{pool_name}", POOLS, bodies.pool_body, bodies.new_pool_body),
         *rows_of("variable", "variables", "/api/v1/variables", "{variable_key}", VARIABLES, bodies.variable_body, bodies.new_variable_body),
         row("list_entries", "GET /api/v1/eventLogs", [(READ, LOGS)], ops.list_entries, is_listing=True),
@@ -103,7 +104,8 @@ def required_on(resource):
 # and `offset`; `full_history` and `full_versions`, that the limits of the configuration are obeyed; `verify`, that traces are verified; `serve`,
 # that the words of a server are known.
 GROUPS = {
-    "dags": required_on(DAGS),
+    "dags": required_on(DAGS) - {"backfill"},
+    "backfill": {"backfill"},
     "pools": required_on(POOLS),
     "variables": required_on(VARIABLES) | {"variables"},
     "limits": {"history_limit", "version_limit"},
@@ -111,7 +113,7 @@ GROUPS = {
     "audit": {"list_entries", "full_history"},
     "policy": {it.name for it in OPERATIONS if it.on_policy} | {"access_control", "full_versions"},
 }
-GROUPS["baseline"] = set().union(*(GROUPS[it] for it in GROUPS if it != "policy"))
+GROUPS["baseline"] = set().union(*(GROUPS[it] for it in GROUPS if it not in ("backfill", "policy")))
 GROUPS.update({it: {it} for it in ("verify", "serve")})
 GROUPS["all"] = set().union(*GROUPS.values())
 LANDED = GROUPS["landed"] = GROUPS["all"]
