@@ -12,14 +12,16 @@ import policy_cases
 import request_cases
 import state_cases
 import trace_cases
+import worked_calls
 import worked_cases
+import worked_messages
 import worked_policies
 from oracle_table import having
 from worked_rows import exchanges
 
 ROOT = os.path.dirname(os.path.dirname(os.path.realpath(__file__)))
 NOW = "2024-01-01T00:00:00Z"
-ON_BASE = ("viewer", "pause")  # the examples over base.json; the others are over team.json
+CONFIGS = {"viewer": "base.json", "pause": "base.json", "backfill": "daily.json"}  # the examples that are not over team.json
 CUT_SHORT = ("refusals",)  # the examples whose last message is refused, so that the program ends with status 1
 MOMENTS = [
     *["2024-01-01T00:00:00.000001+00:00", "2024-01-01 00:00:00z", "20240101T000000Z", "2024-01-01T00Z", "2024-02-29T00:00Z", "2023-02-29T00:00Z"],
@@ -39,16 +41,39 @@ def examples():
             data = file.read()
         with open(os.path.join(folder, "expected", stem + ".out"), "rb") as file:
             expected = file.read()
-        yield stem, ["once", os.path.join(folder, "base.json" if stem in ON_BASE else "team.json"), NOW], data, expected
+        yield stem, ["once", os.path.join(folder, CONFIGS.get(stem, "team.json")), NOW], data, expected
 
 
 def worked():
-    """Of each connection that was worked out by hand its title, what the program has, its configuration, its moment, its requests and its answers."""
+    """Of each connection that was worked out by hand its title, what the program has, its configuration, its moment, its input, and how the program ends: its
+    exit status, standard output and standard error."""
     with open(os.path.join(ROOT, "examples", "base.json"), "rb") as file:
         base = json.load(file)
     for title, has, now, members, steps in worked_cases.CONNECTIONS + worked_policies.CONNECTIONS:
         asked, wanted = (b"".join(texts) for texts in zip(*exchanges(steps)))
-        yield title, has, json.dumps({**base, **members}).encode(), now, asked, wanted
+        yield title, has, json.dumps({**base, **members}).encode(), now, asked, (0, wanted, b"")
+    for title, asked, status, wanted in worked_messages.CASES:
+        yield f"message: {title}", "landed", json.dumps(base).encode(), NOW, asked, (status, wanted, b"")
+    for title, config, asked, wanted in worked_calls.CONFIGURATIONS:
+        yield f"configuration: {title}", "landed", config, NOW, asked, wanted
+
+
+def played(folder):
+    """Of all that was worked out by hand, each configuration or trace in a file of its own in this folder: the title, what the program has, the words, the
+    input, and how the program ends."""
+
+    def written(data):
+        path = os.path.join(folder, f"worked{len(os.listdir(folder))}.json")
+        with open(path, "wb") as file:
+            file.write(data)
+        return path
+
+    for title, has, config, now, asked, wanted in worked():
+        yield f"worked: {title}", has, ["once", written(config), now], asked, wanted
+    for title, trace, wanted in worked_calls.TRACES:
+        yield f"worked: trace: {title}", "landed", ["verify", written(trace)], b"", wanted
+    for words, wanted in worked_calls.WORDS:
+        yield f"worked: words {words}", "landed", words, b"", wanted
 
 
 def check_examples(it):
@@ -59,13 +84,12 @@ def check_examples(it):
         it.case(f"example {stem}", words, data)
 
 
-def check_worked(it, write):
-    """The connections that were worked out by hand, against the bytes that were."""
-    for title, has, config, now, asked, wanted in worked():
-        words = [*write(config)[:2], now]
-        if oracle.run(words, asked, having(has)) != (0, wanted, b""):
+def check_worked(it, folder):
+    """What was worked out by hand, against the bytes that were."""
+    for title, has, words, asked, wanted in played(folder):
+        if oracle.run(words, asked, having(has)) != wanted:
             sys.exit(f"differential.py: the oracle does not write what was worked out: {title}")
-        it.case(f"worked: {title}", words, asked)
+        it.case(title, words, asked)
 
 
 def check_calls(it, folder, write):
@@ -95,7 +119,7 @@ def fixed_cases(it, folder, write):
         base = json.load(file)
     for n, data in enumerate(request_cases.fixed_inputs(b"test")):
         it.case(f"limit of requests {n}", words, data)
-    check_worked(it, write)
+    check_worked(it, folder)
     for n, data in enumerate(state_cases.fixed()):
         it.case(f"each operation {n}", words, data)
     for n, data in enumerate(state_cases.fixed_rows()):

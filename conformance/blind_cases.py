@@ -82,21 +82,26 @@ def triggered(dag, n):
     return f"POST /dags/{dag}/dagRuns", json.dumps({"dag_run_id": f"r{n}", "logical_date": TIMES[n - 1]})
 
 
-# The changes, each with its DAG; the ids and the dates of the runs of all DAGs are the same.
+def backfilled(dag, end):
+    return f"POST /own/dags/{dag}/backfills", json.dumps({"start_date": NOW, "end_date": end})
+
+
+# The changes, each with its DAG; the ids and the dates of the runs that are triggered are the same in all DAGs.
 CHANGES = [
     *[("a", *triggered("a", 1)), ("b", *triggered("b", 1)), ("c", *triggered("c", 1)), ("a", *triggered("a", 2)), ("d", *triggered("d", 1))],
     *[("c", "PATCH /dags/c/dagRuns/r1", '{"state":"success"}'), ("b", *triggered("b", 2)), ("c", *triggered("c", 3)), ("a", "DELETE /dags/a/dagRuns/r2", "")],
     *[("b", "PATCH /dags/b/dagRuns/r1", '{"state":"failed"}'), ("c", "PATCH /dags/c", '{"is_paused":true}'), ("d", *triggered("d", 3))],
     *[("a", "PATCH /dags/a", '{"is_paused":false}'), ("c", "POST /dags/c/dagRuns/r1/clear", '{"dry_run":false}'), ("b", *triggered("b", 3))],
+    *[("c", *backfilled("c", "2024-01-02T00:00:00Z")), ("d", *backfilled("d", "2024-01-01T00:01:00Z"))],
 ]
 QUERIES = ["", "?limit=0", "?limit=1", "?limit=2&offset=1", "?offset=2", "?offset=9", "?limit=1000", "?limit=x", "?offset="]
 
 
 def everything(dags, runs, tasks):
-    """What the seven operations are asked for: each listing by each query, and each id."""
+    """What the seven operations are asked for: each listing by each query, and each id. And a backfill of each DAG, which none of the readers may ask for."""
     asked = [f"GET {path}{it}" for path in ("/dags", "/dags/~/dagRuns") for it in QUERIES]
     for dag in dags:
-        asked += [f"GET /dags/{dag}", f"GET /dags/{dag}/tasks", *(f"GET /dags/{dag}/dagRuns{it}" for it in QUERIES)]
+        asked += [f"GET /dags/{dag}", f"GET /dags/{dag}/tasks", *(f"GET /dags/{dag}/dagRuns{it}" for it in QUERIES), f"POST /own/dags/{dag}/backfills"]
         for run in runs:
             path = f"GET /dags/{dag}/dagRuns/{run}"
             asked += [path, f"{path}/taskInstances", f"{path}/taskInstances?limit=1&offset=1", *(f"{path}/taskInstances/{it}" for it in tasks)]
@@ -105,7 +110,7 @@ def everything(dags, runs, tasks):
 
 def with_and_without():
     """A pair for each kind of reader."""
-    asked = everything([*"abcd", "gone"], ["r1", "r2", "r3", "gone"], ["t", "u", "v", "gone"])
+    asked = everything([*"abcd", "gone"], ["r1", "r2", "r3", "backfill__2024-01-01T00:01:00+00:00", "gone"], ["t", "u", "v", "gone"])
     for title, permissions in KINDS.items():
         members = {"roles": [role("Reader", permissions)], "users": [user(ADMIN, "Admin"), user("bob", "Reader")], "dags": DAGS}
         whole, visible = [it[1:] for it in CHANGES], [it[1:] for it in CHANGES if it[0] not in HIDDEN]

@@ -9,12 +9,15 @@ have those of runs that are read.
 """
 import json
 
+import with_model  # noqa: F401
 from blind_cases import ADMIN, NOW, Pair, Side, role, user
+from oracle_names import DAY, MICROS, instant_of, isoformat, points_within
 from worked_rows import digest
 
 DAGS = ["A", "a", "a.1", "b", "b-2", "b.", "c", "c_3", "d", "zz"]
 ABSENT = "gone"
-RUN_IDS = ["r1", "r2", "r3", "r4", "x", "scheduled__2024-01-01T00:00:00+00:00", "a~b:+"]
+RUN_IDS = ["r1", "r2", "r3", "r4", "x", "scheduled__2024-01-01T00:00:00+00:00", "backfill__2024-01-02T00:00:00+00:00", "a~b:+"]
+UNITS = {"@daily": DAY * MICROS, "@monthly": 31 * DAY * MICROS, 60: 60 * MICROS}
 DATES = [NOW, "2024-01-01T00:00:00.5Z", "2024-01-02T00:00:00Z", "2024-01-03T00:00:00Z", "2024-01-04T00:00:00+01:00", "1970-01-01T00:00:00Z"]
 TASKS = ["t", "u", "v", "w"]
 READER = "bob"
@@ -27,11 +30,13 @@ class Changes:
     """Changes of some DAGs, of which each is done and leaves another state; what was done before is known."""
 
     def __init__(self, rng, rows):
-        self.rng, self.paused, self.runs = rng, {it["dag_id"]: it["is_paused"] for it in rows}, {it["dag_id"]: {} for it in rows}
+        self.rng, self.rows = rng, {it["dag_id"]: it for it in rows}
+        self.paused, self.runs = {it["dag_id"]: it["is_paused"] for it in rows}, {it["dag_id"]: {} for it in rows}
 
     def one(self):
         dag = self.rng.choice(sorted(self.paused))
-        makers = [self.trigger] * 4 + [self.pause] + [self.mark, self.mark, self.clear, self.clear, self.delete] * bool(self.runs[dag])
+        makers = [self.trigger] * 4 + [self.backfill, self.backfill, self.pause]
+        makers += [self.mark, self.mark, self.clear, self.clear, self.delete] * bool(self.runs[dag])
         return self.rng.choice(makers)(dag) or self.pause(dag)
 
     def pause(self, dag):
@@ -40,13 +45,33 @@ class Changes:
 
     def trigger(self, dag):
         """A run whose id and date are free; nothing where there is none."""
-        taken = {it["date"] for it in self.runs[dag].values()}
-        ids, dates = [it for it in RUN_IDS if it not in self.runs[dag]], [it for it in DATES if it not in taken]
+        taken = self.taken(dag)
+        ids, dates = [it for it in RUN_IDS if it not in self.runs[dag]], [it for it in DATES if instant_of(it) not in taken]
         if not ids or not dates:
             return None
         made, date = self.rng.choice(ids), self.rng.choice(dates)
-        self.runs[dag][made] = {"date": date, "state": "queued", "fresh": True}
+        self.add(dag, made, instant_of(date))
         return f"POST /dags/{dag}/dagRuns", json.dumps({"dag_run_id": made, self.rng.choice(["logical_date", "execution_date"]): date})
+
+    def taken(self, dag):
+        return {it["date"] for it in self.runs[dag].values()}
+
+    def add(self, dag, run_id, date):
+        self.runs[dag][run_id] = {"date": date, "state": "queued", "fresh": True}
+
+    def backfill(self, dag):
+        """The runs of a range of a few points, of which one at least is free; nothing where there is none."""
+        row, taken = self.rows[dag], self.taken(dag)
+        if row.get("schedule") is None:
+            return None
+        start = instant_of(self.rng.choice(DATES))
+        end = start + self.rng.choice([0, 1, 2, 5]) * UNITS[row["schedule"]]
+        points = points_within(row["schedule"], instant_of(row["start_date"]), start, end, 101)
+        made = {f"backfill__{isoformat(at)}": at for at, _ in points if at not in taken}
+        free = {run_id: at for run_id, at in made.items() if run_id not in self.runs[dag]}
+        for run_id, at in free.items():
+            self.add(dag, run_id, at)
+        return (f"POST /own/dags/{dag}/backfills", json.dumps({"start_date": isoformat(start), "end_date": isoformat(end)})) if free else None
 
     def some_run(self, dag):
         run_id = self.rng.choice(sorted(self.runs[dag]))
@@ -151,10 +176,10 @@ class Maker:
         return "?" + "&".join(rng.sample(page, len(page))) if page else ""
 
     def asked(self):
-        """Each DAG by its id, that which is nowhere too; and then what stands below them, by any ids."""
+        """Each DAG by its id, that which is nowhere too, and a backfill of each, which the reader is denied; and then what stands below them, by any ids."""
         rng, found = self.rng, []
         for dag in [*self.read, *self.hidden, ABSENT]:
-            found += [f"GET /dags/{dag}", f"GET /dags/{dag}/tasks{self.query()}", f"GET /dags/{dag}/dagRuns{self.query()}"]
+            found += [f"GET /dags/{dag}", f"GET /dags/{dag}/tasks{self.query()}", f"GET /dags/{dag}/dagRuns{self.query()}", f"POST /own/dags/{dag}/backfills"]
         found += [f"GET /dags{self.query()}" for _ in range(3)] + [f"GET /dags/~/dagRuns{self.query()}" for _ in range(5)]
         for _ in range(24):
             dag = rng.choice([*self.read * 3, *self.hidden, ABSENT])

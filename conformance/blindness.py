@@ -5,7 +5,7 @@
   python3 conformance/blindness.py --model          the reference model in place of the program
 
 Each pair is two runs of the program (blind_pairs.py; first, once each, the two configurations of blind_cases.py for readers of several kinds). On each side an
-admin makes changes, each of which is to be done; then the reader asks for DAGs, tasks, runs and instances, and then the admin for all DAGs and runs. The
+admin makes changes, each of which is to be done; then the reader asks for DAGs, tasks, runs, instances and backfills, and the admin for all DAGs and runs. The
 answers to the reader are to be the same on both sides, byte for byte but for the numbers in X-Policy-Version and X-Plane-Seq. The first that are not are shown,
 and both sides are left in conformance/out/. Where fewer than three of four pairs differ in what the admin sees, the pairs are no test, and that fails too.
 The last line is `N passed, M failed`, and the status 1 where M is not 0.

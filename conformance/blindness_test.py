@@ -71,13 +71,13 @@ def run_by_number(call):
     return call.state, states.show_run(call.state.runs[place])
 
 
-def absence_first():
-    """A DAG that is not there is told before a denial."""
+def absence_first(*names):
+    """A DAG that is not there is told before a denial; of some operations, or of all."""
     permitted = oracle_verdict.permitted
 
     def leaky(plane, operation, parts, token):
         user, granted, denied = permitted(plane, operation, parts, token)
-        if denied and user and "{dag_id}" in operation.path and parts[0] not in plane.state.dags:
+        if denied and user and operation.name in (names or [operation.name]) and "{dag_id}" in operation.path and parts[0] not in plane.state.dags:
             denied = oracle_verdict.told(404, f"no such dag: {parts[0]}")
         return user, granted, denied
 
@@ -114,6 +114,7 @@ LEAKS = {
     "a run that is looked up across DAGs": operations(show_run=run_of_any_dag),
     "a run that is looked up by its number": operations(show_run=run_by_number),
     "absence before a denial": absence_first(),
+    "absence before a denial, of a backfill": absence_first("backfill"),
     "a requirement on some DAG that any action meets": met_by_any_action(),
     "a length of the uncut list": length_of_the_uncut_list(),
 }

@@ -1,22 +1,24 @@
 """What the clients of many_clients.py ask for: the configuration, and of each client its requests, made from a seed and from what it was answered.
 
 Names come from few, those of state_cases.py, so that clients meet on the same rows: two administrators on roles, users and tokens, the others on DAGs, runs, pools
-and variables. Runs that the scheduler made are learned from listings, and then shown, marked, cleared and deleted. Some clients may do little, some nothing.
+and variables. So do the ranges of backfills: the scheduler comes to some of them before, and to others after. Runs that the scheduler made are learned from
+listings, and then shown, marked, cleared and deleted. Some clients may do little, some nothing.
 """
 import json
 import random
 
 import with_model  # noqa: F401
 import request_cases
+from body_cases import needed
 from config_cases import role_row, user_row
-from oracle_names import MICROS, isoformat
+from oracle_names import MICROS, instant_of, isoformat
 from oracle_table import LANDED
-from state_cases import Asker
+from state_cases import BAD_DATES, Asker
 
 # How often each operation is asked for by clients of each kind.
 LISTS = dict.fromkeys(["list_dags", "list_tasks", "list_runs", "list_instances", "list_pools", "list_variables", "me"], 2)
 READINGS = {**LISTS, **dict.fromkeys(["show_dag", "show_run", "show_instance", "show_pool", "show_variable"], 1)}
-ON_RUNS = {"trigger_run": 6, "patch_dag": 2, "mark_run": 2, "delete_run": 2, "clear_run": 2, "clear_instances": 2, "show_run": 2, "list_instances": 2, "list_runs": 2}
+ON_RUNS = {"trigger_run": 6, "backfill": 3, "patch_dag": 2, "mark_run": 2, "delete_run": 2, "clear_run": 2, "clear_instances": 2, "show_run": 2, "list_instances": 2, "list_runs": 2}
 ON_ROWS = {"add_pool": 4, "set_pool": 2, "delete_pool": 1, "add_variable": 4, "set_variable": 2, "delete_variable": 1, "show_pool": 1, "show_variable": 1, **LISTS}
 ON_POLICY = {"add_role": 2, "set_role": 4, "drop_role": 1, "add_user": 2, "set_user": 4, "drop_user": 1, "sync": 4, **dict.fromkeys(["list_roles", "show_role", "list_users", "show_user"], 1)}
 # Users whose roles and tokens the administrators change, and others that keep theirs.
@@ -25,6 +27,8 @@ LASTING = {"adam": "Admin", "zoe": "Admin", "kim": "User", "ida": "Auditor", "pa
 WEAK = [b"vi-token", b"o0-token", b"o1-token", b"o2-token", b"pat-token", b"fresh", b"later", b"nope"]
 OPERATORS = [b"root-token", b"op-token", b"uma-token", b"kim-token"]
 MOST_AT_ONCE = 6
+# Where the ranges of backfills begin, in seconds after the schedules, and how long they are; the last are too long for each schedule.
+BEGINS, LENGTHS = [-2, 0, 10, 20, 40, 60, 90], [0, 2, 4, 4, 10, 10, 86400]
 FEW_RUNS, MANY_RUNS = 40, 120
 
 
@@ -63,6 +67,7 @@ class Guest:
     def __init__(self, seed, made, tokens, weights, wild):
         self.rng, self.made, self.wild = random.Random(seed), json.loads(made), wild
         self.asker = Asker(self.rng, self.made, tokens, LANDED)
+        self.asker.makers = [(name, form, self.range_body if name == "backfill" else body) for name, form, body in self.asker.makers]
         self.asker.weights = [weights.get(name, 0) for name, _, _ in self.asker.makers]
 
     def requests(self):
@@ -72,6 +77,12 @@ class Guest:
 
     def request(self):
         return self.asker.request(self.wild)
+
+    def range_body(self, rng, wild, focus):
+        """The body of a backfill: a range of few, so that clients ask for the same one at once."""
+        start = instant_of(self.made["dags"][0]["start_date"]) + rng.choice(BEGINS) * MICROS
+        dates = [isoformat(it) for it in (start, start + rng.choice(LENGTHS) * MICROS)]
+        return needed(rng, wild, start_date=(dates[:1], BAD_DATES), end_date=(dates[1:], BAD_DATES))
 
     def learn(self, exchanges):
         pass

@@ -17,7 +17,7 @@ from exchanges import number_in
 from request_cases import head
 from serving import EMPTY, Broken, Client
 
-# What an entry, and a version of the policy of crowd_cases.py, may take at most: about twice what was measured (bench/results/2026-11-28-serve.md). An entry
+# What an entry, and a version of the policy of crowd_cases.py, may take at most: about twice what was measured on 2026-11-28 (bench/README.md). An entry
 # takes 275 bytes. In the load of four minutes, which is of this policy, a version took 2 KB; one of 1,000 users and 28 roles takes twice that. And what else
 # memory may grow by: runs that are kept, texts of variables, and what the allocator holds back.
 ENTRY_BYTES, VERSION_BYTES, SPARE_BYTES = 600, 4200, 4 << 20

@@ -16,14 +16,14 @@ class Random(unittest.TestCase):
     def test_right_histories(self):
         """They meet every kind of entry, denials, versions and changes that were passed."""
         events, statuses, versions = set(), set(), 0
-        for seed in range(12):
+        for seed in range(20):
             it = random_history(random.Random(seed), 250)
             self.assertIsNone(it.fault(), seed)
             events |= {entry["event"] for entry in it.plane.entries}
             statuses |= {(exchange.answer[9:12], b"policy moved" in exchange.answer) for session in it.sessions for exchange in session}
             versions += it.plane.version()
         self.assertGreater(versions, 100)
-        self.assertEqual(len(events), 15)
+        self.assertEqual(len(events), 16)
         for status in (b"200", b"204", b"400", b"401", b"403", b"404", b"405", b"409"):
             self.assertIn((status, False), statuses)
         self.assertIn((b"409", True), statuses)

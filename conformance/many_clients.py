@@ -6,8 +6,8 @@
   python3 conformance/many_clients.py --seconds 600 --clients 16 --workers 12
   python3 conformance/many_clients.py --program 'PATH/PROGRAM'
 
-The clients (crowd_cases.py) list, show, pause, trigger, mark, clear and delete, change pools and variables, and read event logs. Two of them change roles and
-users. Three more connections send many changes of the policy at the same moment, until one of them is told that the policy has moved.
+The clients (crowd_cases.py) list, show, pause, trigger, backfill, mark, clear and delete, change pools and variables, and read event logs. Two of them change
+roles and users. Three more connections send many changes of the policy at the same moment, until one of them is told that the policy has moved.
 Meanwhile the server ticks each second, claims and reports. At the end all event logs are read, and history.py says whether every answer is the model's under
 the version and at the number that it names, each change of the policy in order of version, and each of the state in order of number. The server
 has to listen at 127.0.0.1 alone. Ten times the memory of the server is looked at, and how many entries and versions there are: it may grow by what
@@ -37,7 +37,7 @@ from serving import EMPTY, PROGRAM, Broken, Client, Serving
 
 SECONDS, PAUSE = 120, 0.045  # the mean pause of a client between two writes, in seconds
 LENGTHS = [1, 4, 25, 100, 400, 1000]  # after how many requests a client opens another connection
-NEEDED = ["tick", "claim", "report", "trigger_dag_run", "clear_dag_run", "patch_pool"]  # entries without which so many seconds show little
+NEEDED = ["tick", "claim", "report", "trigger_dag_run", "backfill", "clear_dag_run", "patch_pool"]  # entries without which so many seconds show little
 LONG = 30
 MOVED = b'"policy moved to version '
 VERSION, MOVE = "a version", "an answer that the policy has moved"  # what it has to bring besides

@@ -12,6 +12,7 @@ import state_cases
 from body_cases import BAD_BODIES, OTHERS, part
 from config_cases import RESOURCES, role_row
 from oracle import MOST_REQUESTS
+from oracle_names import isoformat
 from oracle_policy import DEFAULT_ROLES
 from oracle_table import OPERATIONS
 from oracle_verdict import decide, permitted
@@ -31,7 +32,7 @@ BAD_ACCESS = [[], "x", 1, False, {"Viewer": None}, {"Viewer": "can_read"}, {"Vie
 # How often each operation is asked for; once where nothing is said.
 WEIGHTS = {
     **{"add_role": 4, "set_role": 4, "drop_role": 4, "add_user": 5, "set_user": 8, "drop_user": 3, "sync": 6, "me": 6, "list_entries": 6},
-    **{"list_roles": 2, "show_role": 3, "list_users": 2, "show_user": 3, "list_dags": 5, "show_dag": 3, "patch_dag": 5, "trigger_run": 4, "list_runs": 2, "mark_run": 2},
+    **{"list_roles": 2, "show_role": 3, "list_users": 2, "show_user": 3, "list_dags": 5, "show_dag": 3, "patch_dag": 5, "trigger_run": 4, "backfill": 2, "list_runs": 2, "mark_run": 2},
 }
 
 
@@ -89,8 +90,9 @@ class Mixer:
 
     def focus(self):
         """What the bodies of operations on the state name."""
-        rng = self.rng
-        return {"R": rng.choice(state_cases.RUN_IDS), "P": rng.choice(state_cases.POOLS), "K": rng.choice(state_cases.KEYS)}
+        rng, dags = self.rng, self.plane.state.dags.values()
+        schedules = [(it.schedule, isoformat(it.start)) for it in dags if it.schedule is not None] or [None]
+        return {"R": rng.choice(state_cases.RUN_IDS), "P": rng.choice(state_cases.POOLS), "K": rng.choice(state_cases.KEYS), "S": rng.choice(schedules)}
 
     def spoiled(self, body, bad):
         """The body; now and then with a member, or two, of a wrong kind or value, or gone."""
@@ -228,7 +230,9 @@ class Mixer:
         """What was changed, or the event logs' end, or what somebody may do then."""
         rng = self.rng
         last = b"/api/v1/eventLogs?offset=%d" % max(0, len(self.plane.entries) - rng.randint(0, 3))
-        shown = {"sync": b"/api/v1/roles", "clear_run": path.rpartition(b"/")[0], "clear_instances": path.rpartition(b"/")[0] + b"/dagRuns"}.get(operation.name, path)
+        above = path.rpartition(b"/")[0]
+        shown = {"sync": b"/api/v1/roles", "clear_run": above, "clear_instances": above + b"/dagRuns"}
+        shown = {**shown, "backfill": b"/api/v1" + above[len(b"/own") :] + b"/dagRuns"}.get(operation.name, path)
         target = rng.choice([shown, shown, shown, last, b"/own/me", b"/api/v1/dags", b"/api/v1/roles", b"/api/v1/users"])
         return self.ask(b"GET", target, rng.choice(self.known("Admin") * 2 + self.known() or [b"nope"]), None)
 

@@ -17,9 +17,9 @@ from oracle_verdict import decide
 
 FAULTS = [
     *["bad body", "bad action", "pair not allowed", "unknown role", "bad parameter", "authentication required", "missing permission"],
-    *[f"bad member: {it}" for it in ("name", "actions", "username", "roles", "token_sha256", "access_control", "is_paused", "state", "dag_run_id", "slots", "value")],
+    *[f"bad member: {it}" for it in ("name", "actions", "username", "roles", "token_sha256", "access_control", "is_paused", "state", "dag_run_id", "start_date", "end_date", "slots", "value")],
     *[f"no such {it}" for it in ("path", "dag", "run", "task", "pool", "variable", "role", "user")],
-    *["exists", "run exists", "date taken", "default pool", "pool in use", "default role", "role in use", "last admin", "history full", "versions full"],
+    *["exists", "run exists", "date taken", "no schedule", "too many", "default pool", "pool in use", "default role", "role in use", "last admin", "history full", "versions full"],
 ]
 
 

@@ -12,9 +12,10 @@ import shlex
 import shutil
 import sys
 import tempfile
+from concurrent.futures import ThreadPoolExecutor
 
 import with_model  # noqa: F401
-from all_cases import CUT_SHORT, examples, worked
+from all_cases import CUT_SHORT, examples, played as worked
 from differential import PROGRAM, first_difference, ran
 
 
@@ -22,11 +23,7 @@ def cases(folder):
     """Of each connection its name, the words of the program, its requests, and how the program is to end."""
     for stem, words, data, expected in examples():
         yield f"examples/{stem}.http", words, data, (int(stem in CUT_SHORT), expected, b"")
-    path = os.path.join(folder, "config.json")
-    for title, _, config, now, asked, wanted in worked():
-        with open(path, "wb") as file:
-            file.write(config)
-        yield f"worked: {title}", ["once", path, now], asked, (0, wanted, b"")
+    yield from ((title, words, asked, wanted) for title, _, words, asked, wanted in worked(folder))
 
 
 def main():
@@ -37,8 +34,10 @@ def main():
         sys.exit(f"play.py: there is no program {program[0]}; ./afplane build makes it")
     passed = failed = 0
     with tempfile.TemporaryDirectory(prefix="afplane-play-") as folder:
-        for name, words, data, wanted in cases(folder):
-            got = ran(program, words, data)
+        with ThreadPoolExecutor(os.cpu_count()) as lanes:
+            played = [(name, wanted, lanes.submit(ran, program, words, data)) for name, words, data, wanted in cases(folder)]
+        for name, wanted, ending in played:
+            got = ending.result()
             passed, failed = passed + (got == wanted), failed + (got != wanted)
             if got != wanted:
                 print(f"{name}: status {got[0]}, standard error {got[2][:200]!r}; {first_difference(wanted[1], got[1])}")

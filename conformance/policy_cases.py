@@ -134,6 +134,6 @@ def fixed_full():
         add = [request_cases.with_body(b"POST %s HTTP/1.1" % path.encode(), b"test", it) for it in bodies]
         fields = [b"Host: h", b"Authorization: Bearer test"]
         gone = request_cases.head(b"DELETE %s/x HTTP/1.1" % path.encode(), fields)
-        listing = request_cases.head(b"GET %s HTTP/1.1" % path.encode(), fields)
-        requests = b"".join([*add, listing, gone, *add, listing])
+        absent, listing = (request_cases.head(b"GET %s%s HTTP/1.1" % (path.encode(), it), fields) for it in (b"/y", b""))
+        requests = b"".join([*add, absent, listing, gone, *add, listing])
         yield config, requests + request_cases.list_request(b"test")

@@ -7,11 +7,11 @@ from request_cases import head, with_body
 ROOT = os.path.dirname(os.path.dirname(os.path.realpath(__file__)))
 EXAMPLES, OUT = os.path.join(ROOT, "examples"), os.path.join(ROOT, "conformance", "out")
 INPUTS = [("base.json", "viewer.http"), ("team.json", "one-team.http"), ("team.json", "denied.http"), ("team.json", "wrong-token.http"), ("base.json", "pause.http"), ("team.json", "morning.http")]
-INPUTS += [("team.json", it) for it in ("everything.http", "pools.http", "variables.http", "audit.http", "policies.http")]
+INPUTS += [("daily.json", "backfill.http")] + [("team.json", it) for it in ("everything.http", "pools.http", "variables.http", "audit.http", "policies.http")]
 PAIRS = [("DAGs", "can_read"), ("DAG:b", "can_edit"), ("DAG:not.there", "can_delete"), ("DAG Runs", "can_create"), ("DAGs", "can_read")]
 ROLE_Y = '{"name":"Y","actions":[%s]}' % ",".join('{"action":{"name":"%s"},"resource":{"name":"%s"}}' % (action, resource) for resource, action in PAIRS)
 # Changes over base.json, of each kind one or more, after what has to stand before them; what they do is looked at, and they are asked for again. Of
-# one kind the last is the one that is done before others.
+# one kind the last is the one that is done before others. Where a DAG is to be backfilled, b runs each day.
 CHANGES = [
     ("patch_dag", "PATCH /dags/b", '{"is_paused":true}', "/dags/b"),
     ("patch_dag", "PATCH /dags/a", '{"is_paused":false}', "/dags"),
@@ -20,6 +20,8 @@ CHANGES = [
     ("trigger_run", "POST /dags/b/dagRuns", '{"dag_run_id":"r2","logical_date":"2024-02-29T12:00:00.5Z","conf":{}}', "/dags/~/dagRuns"),
     ("trigger_run", "POST /dags/b/dagRuns", '{"execution_date":"2024-02-29T12:00:00+01:00"}', "/dags/b/dagRuns"),
     ("trigger_run", "POST /dags/b/dagRuns", '{"dag_run_id":"r1"}', "/dags/b/dagRuns/r1"),
+    ("backfill", "POST /own/dags/b/backfills", '{"start_date":"2023-12-30T00:00:00Z","end_date":"2024-01-03T00:00:00Z"}', "/dags/b/dagRuns"),
+    ("backfill", "POST /own/dags/b/backfills", '{"start_date":"2023-12-30T00:00:00Z","end_date":"2023-12-31T00:00:00Z"}', "/dags/b/dagRuns"),
     ("mark_run", "PATCH /dags/b/dagRuns/r1", '{"state":"failed"}', "/dags/b/dagRuns/r1"),
     ("delete_run", "DELETE /dags/b/dagRuns/r1", "", "/dags/b/dagRuns"),
     ("clear_run", "POST /dags/b/dagRuns/r1/clear", '{"dry_run":false}', "/dags/b/dagRuns/r1"),
@@ -147,5 +149,6 @@ def inputs(has):
     for name, asked, body, look in CHANGES:
         if name in has:
             change = request(asked, body)
-            yield f"{asked} {body}", "base.json", done_before(name) + change + request(f"GET {look}") + change
+            config = changed_base("daily.json", {}, schedule="@daily", start_date="2024-01-01T00:00:00Z") if name == "backfill" else "base.json"
+            yield f"{asked} {body}", config, done_before(name) + change + request(f"GET {look}") + change
     yield from readings(has)

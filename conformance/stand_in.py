@@ -8,6 +8,7 @@ and so it can meet that the policy moved. `StandIn` is the same inside a process
 """
 import contextlib
 import copy
+import errno
 import re
 import socket
 import sys
@@ -25,6 +26,7 @@ from oracle_verdict import decide, told
 
 ALL = frozenset(LANDED)
 PATIENCE, PERIOD, BACKLOG, MOST_WAITING = 10, 1, 128, 65536
+WHY = {errno.EADDRINUSE: "the port is in use", errno.EADDRNOTAVAIL: "the address is not available", errno.EACCES: "permission denied"}
 ROOM, MOST_READS, LINGER = 65536, 100, 0.1
 
 
@@ -228,7 +230,11 @@ def main(words):
         sys.exit(2)
     with open(words[1], "rb") as file:
         server = StandIn(file.read())
-    with server.listens(int(words[3]), int(words[2])) as port:
+    with contextlib.ExitStack() as stack:
+        try:
+            port = stack.enter_context(server.listens(int(words[3]), int(words[2])))
+        except OSError as why:
+            sys.exit(f"afplane: cannot listen on 127.0.0.1:{words[2]}: {WHY.get(why.errno, 'the system gives no listener')}")
         sys.stdout.write(f"listening on 127.0.0.1:{port}\n")
         sys.stdout.flush()
         server.ended.wait()

@@ -6,7 +6,8 @@ import config_cases
 import policy_cases
 import request_cases
 from body_cases import members, needed, part, spelled
-from config_cases import KEYS, VALUES
+from config_cases import KEYS, SCHEDULES, STARTS, VALUES
+from oracle_names import DAY, HOUR, LAST, MICROS, instant_of, isoformat
 from request_cases import odd
 
 NOWS = [
@@ -19,7 +20,7 @@ DATES = [
     *["20240104T000000Z", "2024-01-05 00:00:00z", "2024-12-31T23:59:60Z"],
 ]
 BAD_DATES = ["", "2024-01-01", "2024-01-01T00:00:00", "2024-13-01T00:00:00Z", "1969-12-31T23:59:59Z", "9999-01-01T00:00:00Z", "2023-02-29T00:00:00Z", "now", 0, True, [], {}, 1704067200]
-RUN_IDS = ["r1", "r2", "r3", "x", "a~b", "R:1+2", "manual__2024-01-01T00:00:00+00:00", "scheduled__2024-01-01T00:00:00+00:00", "-", "u" * 250]
+RUN_IDS = ["r1", "r2", "r3", "x", "a~b", "R:1+2", "-", "u" * 250, *(f"{it}__2024-01-01T00:00:00+00:00" for it in ("manual", "scheduled", "backfill"))]
 BAD_RUN_IDS = ["", "~", "a b", "a/b", "\u00e9", "u" * 251, 1, True, [], {}, "r%31", "\x7f"]
 TASK_IDS = ["t", "x", "y", "z", "w", "t.1", "A-b_c", "gone"]
 POOLS = ["p", "default_pool", "q r", "~", "new", "a/b", 'q"\\', "%zz", "P" * 250]
@@ -34,6 +35,20 @@ def trigger_body(rng, wild, focus):
     if rng.random() < 0.5:
         found.pop("execution_date", None)
     return found
+
+
+# The lengths of intervals, in seconds, and how many of them a backfill may span: few, or about as many as it has points at most.
+INTERVALS, SPANS = {"@hourly": HOUR, "@daily": DAY, "@weekly": 7 * DAY, "@monthly": 31 * DAY}, [0, 0, 1, 1, 2, 3, 5, 98, 99, 100, 101]
+BEGINS = [it for it in STARTS if instant_of(it) is not None]
+
+
+def backfill_body(rng, wild, focus):
+    """A range that begins about where a schedule of the configuration does, or another one; by the schedule it has no point, some, or too many."""
+    schedule, begin = focus["S"] if focus["S"] and rng.random() < 0.75 else (rng.choice(SCHEDULES), rng.choice(BEGINS))
+    unit, inside = INTERVALS.get(schedule, schedule) * MICROS, lambda at: isoformat(max(0, min(LAST, at)))
+    start = instant_of(begin) + rng.choice([0, 0, 0, -1, 1, 2, 50]) * unit + rng.choice([0, 0, 0, -1, 1])
+    end = start + rng.choice(SPANS) * unit + rng.choice([0, 0, 0, 1, unit - 1])
+    return needed(rng, wild, start_date=([inside(start)], BAD_DATES), end_date=([inside(end)], [*BAD_DATES, inside(start - 1)]))
 
 
 def clear_body(rng, wild, focus):
@@ -58,6 +73,7 @@ MAKERS = [
     ("list_runs", "GET /dags/D/dagRuns", None),
     ("list_runs", "GET /dags/~/dagRuns", None),
     ("trigger_run", "POST /dags/D/dagRuns", trigger_body),
+    ("backfill", "POST /own/dags/D/backfills", backfill_body),
     ("show_run", "GET /dags/D/dagRuns/R", None),
     ("list_instances", "GET /dags/D/dagRuns/R/taskInstances", None),
     ("show_instance", "GET /dags/D/dagRuns/R/taskInstances/T", None),
@@ -78,7 +94,7 @@ MAKERS = [
     ("list_entries", "GET /eventLogs", None),
     *policy_cases.MAKERS,
 ]
-HEAVY = {"trigger_run": 6, "mark_run": 3, "show_run": 2, "clear_instances": 2, "patch_dag": 2, "add_pool": 3, "add_variable": 3, "set_pool": 2, "set_variable": 2}
+HEAVY = {"trigger_run": 6, "mark_run": 3, "show_run": 2, "clear_instances": 2, "patch_dag": 2, "backfill": 2, "add_pool": 3, "add_variable": 3, "set_pool": 2, "set_variable": 2}
 METHODS = [b"GET", b"POST", b"PATCH", b"DELETE", b"PUT", b"HEAD", b"post"]
 
 
@@ -88,6 +104,7 @@ class Asker:
     def __init__(self, rng, config, tokens, has):
         self.rng, self.tokens = rng, tokens
         self.dags = [it["dag_id"] for it in config["dags"]] or ["a"]
+        self.schedules = {it["dag_id"]: (it["schedule"], it["start_date"]) for it in config["dags"] if it.get("schedule") is not None}
         self.makers = [it for it in MAKERS if it[0] in has]
         self.others = [it for it in MAKERS if it[0] not in has]
         self.focus = self.look_elsewhere()
@@ -126,7 +143,8 @@ class Asker:
         first = method + b" " + self.path(form, wild) + odd([b" HTTP/1.0"], rng, wild / 50, b" HTTP/1.1")
         token = odd([b"nope", b"", b"x"], rng, wild / 2, rng.choice(self.tokens))
         if body or rng.random() < 0.03:
-            value = spelled(rng, body(rng, wild, self.focus) if body else {"x": 1}, wild)
+            focus = {**self.focus, "S": self.schedules.get(self.focus["D"])}
+            value = spelled(rng, body(rng, wild, focus) if body else {"x": 1}, wild)
             return request_cases.with_body(first, token, value)
         return request_cases.head(first, [b"Host: h", b"Authorization: Bearer " + token])
 
@@ -180,7 +198,9 @@ def config(rng, has):
         ids = rng.sample(config_cases.DAG_IDS, rng.randint(1, 5))
         made["dags"] = [{"dag_id": it, "tasks": config_cases.task_rows(rng, ["default_pool"])} for it in ids]
         for it in made["dags"]:
-            it.update(rng.choice([{}, {"is_paused": True}, {"schedule": "@daily", "start_date": "2024-01-01T00:00:00Z"}]))
+            daily = {"schedule": "@daily", "start_date": "2024-01-01T00:00:00Z"}
+            other = {**daily, "schedule": rng.choice(["@hourly", "@weekly", 60]), "is_paused": rng.random() < 0.5}
+            it.update(rng.choice([{}, {"is_paused": True}, daily, other]))
         made["pools"] = [{"name": it, "slots": rng.randint(0, 3)} for it in rng.sample(["p", "q r", "~"], rng.randint(0, 2))]
         if made["pools"]:
             rng.choice(made["dags"])["tasks"][0]["pool"] = made["pools"][0]["name"]
@@ -230,7 +250,8 @@ def fixed():
     tokens = [b"admin", b"test", b"foo", b"bar", b"hello", b"abc", b"secret", b"nope"]
     names = {"D": ["b", "gone", "~", "a b"], "R": ["r1", "gone", "~"], "T": ["t", "gone"], "P": ["default_pool", "p", "gone", ""], "K": ["k", "gone", ""]}
     names.update({"O": ["OnlyB", "Viewer", "gone"], "U": ["bob", "gone"]})
-    good = b'{"is_paused":true,"name":"n","slots":1,"key":"k","value":"v","state":"success","actions":[],"username":"n","roles":[],"token_sha256":"%s"}' % (b"0" * 64)
+    good = b'{"is_paused":true,"name":"n","slots":1,"key":"k","value":"v","state":"success","actions":[],"username":"n","roles":[],"token_sha256":"%s",' % (b"0" * 64)
+    good += b'"start_date":"2024-01-01T00:00:00Z","end_date":"2024-01-02T00:00:00Z"}'
     for _, form, _ in MAKERS:
         method, path = form.split(" ")
         paths = [("" if path.startswith("/own/") else "/api/v1") + path]

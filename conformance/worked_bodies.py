@@ -4,7 +4,7 @@ it is wrong. Their form is that of worked_cases.py.
 A wrong member stands beside good ones, so that it is the one that is named. Then it stands beside others that are wrong too, and the first in the order
 of the operation is named. Last comes a good body: the number of entries of its answer says that none of the others changed anything.
 """
-from worked_rows import ENDED, MIDNIGHT, NOW, dag_row, listed, pool_row, run_row, variable_row
+from worked_rows import ENDED, MIDNIGHT, NOW, backfill_row, dag_row, listed, pool_row, run_row, variable_row
 
 UNREAD = ["", "{", "[]", "null", '"x"', "1", "{'a':1}", '{"a":1}}', '{"a":1,}', '{"a":"\\ud800"}']
 NO_BOOLEAN = ["0", "1", '"true"', "[]", "{}"]
@@ -29,6 +29,11 @@ OF_CLEAR = [("dry_run", "false"), ("only_failed", "false"), ("task_ids", '["t"]'
 OF_CLEAR += [("start_date", f'"{SECOND}"'), ("end_date", f'"{SECOND}"')]
 GOOD_CLEAR = [f'"{name}":{good}' for name, good in OF_CLEAR]
 ALL_NULL = "{" + ",".join(f'"{name}":null' for name, _ in OF_CLEAR) + "}"
+
+BACKFILL, FROM_SECOND = "POST /own/dags/b/backfills", f'"start_date":"{SECOND}"'
+DAILY = [{"dag_id": "b", "schedule": "@daily", "start_date": NOW, "tasks": [{"task_id": "t"}]}]
+BEFORE_SECOND = ['"2024-01-01T23:59:59.999999Z"', '"2024-01-02T00:59:59+01:00"', '"1970-01-01T00:00:00Z"']
+SAME_MOMENT = f'{{"end_date":"2024-01-02T01:00:00.0000009+01:00",{FROM_SECOND},"max_active_runs":0}}'
 
 
 def unread(user, asked, seq):
@@ -74,6 +79,14 @@ BODIES = [
         *each_before_the_next("uma", RUNS, 0, ("dag_run_id", '"r3"', "0"), ("execution_date", f'"{SECOND}"', "0"), ("conf", "{}", "0")),
         ("uma", RUNS, f'{{{GOOD_ID},{GOOD_DATE},"execution_date":"now","conf":{{}}}}', 200, run_row("b", "r3", SECOND), 1),
         ("uma", RUNS, '{"dag_run_id":null,"logical_date":null,"execution_date":null,"conf":null}', 200, run_row("b", f"manual__{MIDNIGHT}", MIDNIGHT), 2),
+    ]),
+    ("the body that backfills a DAG", "baseline,backfill", NOW, {"dags": DAILY}, [
+        *unread("uma", BACKFILL, 0),
+        *needed("uma", BACKFILL, 0, "start_date", NO_INSTANT, f'"end_date":"{SECOND}"'),
+        *needed("uma", BACKFILL, 0, "end_date", NO_INSTANT, FROM_SECOND),
+        *wrong("uma", BACKFILL, 0, "end_date", BEFORE_SECOND, FROM_SECOND),
+        *each_before_the_next("uma", BACKFILL, 0, ("start_date", f'"{SECOND}"', "0"), ("end_date", f'"{SECOND}"', "0")),
+        ("uma", BACKFILL, SAME_MOMENT, 200, listed("dag_runs", 1, backfill_row("b", SECOND, "2024-01-03T00:00:00+00:00")), 1),
     ]),
     ("the body that marks a run", "baseline", NOW, {}, [
         AT_R2,

@@ -1,12 +1,19 @@
 """Connections over examples/base.json whose answers were worked out by hand, for oracle_test.py and differential.py: operations on the state.
 
 A connection is its title, what the program has to have, the moment, members that the configuration has in place of its own, and the steps
-(worked_rows.exchanges). Those of bodies stand in worked_bodies.py and those of denials at a DAG in worked_denials.py, which are among these; those of
-event logs in worked_logs.py, and those of roles and users in worked_policies.py and worked_faults.py.
+(worked_rows.exchanges). Those of bodies stand in worked_bodies.py, those of denials at a DAG in worked_denials.py and those of backfills in
+worked_backfills.py, which are among these; those of event logs in worked_logs.py, and those of roles and users in worked_policies.py and worked_faults.py.
+Rows that are added, changed and deleted are in worked_stories.py and worked_accounts.py, lists in worked_lists.py, and paths in worked_paths.py; these are
+among them too.
 """
+from worked_accounts import ACCOUNTS
+from worked_backfills import BACKFILLS
 from worked_bodies import BODIES
 from worked_denials import DENIALS
+from worked_lists import LISTS
+from worked_paths import PATHS
 from worked_rows import ENDED, MIDNIGHT, NOW, T1, dag_row, instance_row, listed, pool_row, run_row, variable_row
+from worked_stories import STORIES
 
 
 def on_day(dag, n):
@@ -194,4 +201,4 @@ OPERATIONS = [
     ]),
 ]  # fmt: skip
 
-CONNECTIONS = OPERATIONS + BODIES + DENIALS
+CONNECTIONS = OPERATIONS + BODIES + DENIALS + BACKFILLS + STORIES + LISTS + ACCOUNTS + PATHS

@@ -25,6 +25,7 @@ READINGS = [
 CHANGES = [
     ("PATCH /dags/%s", '{"is_paused":true}', None),
     ("POST /dags/%s/dagRuns", "{}", "DAG Runs.can_create"),
+    ("POST /own/dags/%s/backfills", f'{{"start_date":"{SECOND}","end_date":"{SECOND}"}}', "DAG Runs.can_create"),
     ("PATCH /dags/%s/dagRuns/r2", '{"state":"failed"}', "DAG Runs.can_edit"),
     ("DELETE /dags/%s/dagRuns/r2", "", "DAG Runs.can_delete"),
     ("POST /dags/%s/dagRuns/r2/clear", '{"dry_run":false}', "DAG Runs.can_edit"),
@@ -76,7 +77,7 @@ def denied_changes():
 
 DENIALS = [
     ("readings of a DAG: a denial at it, then each further one", "baseline,pages", NOW, {}, [AT_R2, *denied_readings()]),
-    ("changes of a DAG: a denial at it, then each further one", "baseline", NOW, {}, [AT_R2, *denied_changes()]),
+    ("changes of a DAG: a denial at it, then each further one", "baseline,backfill", NOW, {}, [AT_R2, *denied_changes()]),
     ("a clear of a DAG's instances by one who may not read runs", "landed", NOW, {}, [
         AT_R2,
         ("adam", "PATCH /users/pat", roles_alone("EditB"), 200, user_row("pat", "EditB"), None, 1),

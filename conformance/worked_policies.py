@@ -70,7 +70,7 @@ POLICIES = [
         ("bob", "PATCH /dags/not.there", ON, 404, "no such dag: not.there", 0),
         ("adam", "POST /own/dags/~/sync", "{}", 404, "no such path", None, None),
         ("adam", "GET /own/dags/b/sync", "", 405, "POST", None, None),
-        ("adam", "POST /own/dags/b/backfills", "{}", 404, "no such path", None, None),
+        ("adam", "POST /own/dags/b/syncs", "{}", 404, "no such path", None, None),
     ]),
     ("sync of many roles", "landed", NOW, {}, [
         ("adam", SYNC, MANY % '"OnlyB":["can_edit"],"Admin":[]', 200, synced(1), None, 1),

@@ -72,9 +72,17 @@ def run_row(dag, run_id, date, state="queued", end="null"):
     )
 
 
-def instance_row(state="null", end="null"):
+def backfill_row(dag, date, end, state="queued", ended="null"):
+    """A run that a backfill made, of the interval from a date to the next point."""
     return (
-        f'{{"dag_id":"b","dag_run_id":"r2","end_date":{end},"pool":"default_pool","pool_slots":1,"priority_weight":1,'
+        f'{{"dag_id":"{dag}","dag_run_id":"backfill__{date}","data_interval_end":"{end}","data_interval_start":"{date}","end_date":{ended},'
+        f'"logical_date":"{date}","run_type":"backfill","start_date":null,"state":"{state}"}}'
+    )
+
+
+def instance_row(state="null", end="null", dag="b", run="r2"):
+    return (
+        f'{{"dag_id":"{dag}","dag_run_id":"{run}","end_date":{end},"pool":"default_pool","pool_slots":1,"priority_weight":1,'
         f'"start_date":null,"state":{state},"task_id":"t","try_number":0}}'
     )
 

@@ -1,15 +1,21 @@
 #!/usr/bin/env python3
 """What the connections that were worked out by hand meet: a 400 of each member of each body of an operation on the state, and of each operation on a DAG a
-denial at that DAG; and the form of a fault, written out. That the model gives their answers is oracle_test.py's to say.
+denial at that DAG; and the form of a fault, written out. And that the model ends as each of them is to end; that it does so under fewer operations too is
+oracle_test.py's to say.
 
   python3 conformance/worked_test.py
 """
 import json
+import tempfile
 import unittest
 
 import with_model  # noqa: F401
+import oracle
+import worked_calls
 import worked_cases
+import worked_messages
 import worked_policies
+from all_cases import played
 from oracle_table import OPERATIONS, having, route
 from worked_rows import answer, exchanges
 
@@ -17,6 +23,7 @@ from worked_rows import answer, exchanges
 MEMBERS = {
     "patch_dag": ["is_paused"],
     "trigger_run": ["dag_run_id", "logical_date", "execution_date", "conf"],
+    "backfill": ["start_date", "end_date"],
     "mark_run": ["state"],
     "clear_run": ["dry_run"],
     "clear_instances": ["dry_run", "only_failed", "task_ids", "dag_run_id", "start_date", "end_date"],
@@ -29,7 +36,7 @@ PARSED = {"dag_run_id", "logical_date", "execution_date", "state", "start_date",
 READS, EDITS = "can_read", "can_edit"
 ON_A_DAG = {
     **dict.fromkeys(["show_dag", "list_tasks", "list_runs", "show_run", "list_instances", "show_instance"], READS),
-    **dict.fromkeys(["patch_dag", "trigger_run", "mark_run", "delete_run", "clear_run", "clear_instances"], EDITS),
+    **dict.fromkeys(["patch_dag", "trigger_run", "backfill", "mark_run", "delete_run", "clear_run", "clear_instances"], EDITS),
 }
 
 
@@ -46,6 +53,29 @@ def steps():
 
 def detail_of(wanted):
     return json.loads(wanted.partition(b"\r\n\r\n")[2])["detail"]
+
+
+class Played(unittest.TestCase):
+    def test_by_the_model(self):
+        """Connections, messages, configurations and words: the exit status, and each byte of both outputs."""
+        with tempfile.TemporaryDirectory(prefix="afplane-worked-") as folder:
+            for title, _, words, asked, wanted in played(folder):
+                with self.subTest(title=title):
+                    self.assertEqual(oracle.run(words, asked), wanted)
+
+    def test_titles(self):
+        """No two have the same one, and no two ask the same."""
+        with tempfile.TemporaryDirectory(prefix="afplane-worked-") as folder:
+            titles = [title for title, *_ in played(folder)]
+        self.assertEqual(len(set(titles)), len(titles))
+        self.assertEqual(len({asked for _, asked, *_ in worked_messages.CASES}), len(worked_messages.CASES))
+        self.assertEqual(len({config for _, config, *_ in worked_calls.CONFIGURATIONS}), len(worked_calls.CONFIGURATIONS))
+
+    def test_each_reason(self):
+        """Each reason for which a configuration or a trace is refused, but that there is no memory for it."""
+        lines = {it for *_, (_, _, it) in worked_calls.CONFIGURATIONS} | {it for _, (_, _, it) in worked_calls.WORDS}
+        reasons = "unreadable syntax shape name duplicate role action pair admin pool graph schedule limit trace".split()
+        self.assertEqual(sorted(lines - {b"", worked_calls.USAGE}), sorted(f"afplane: configuration refused: {it}\n".encode() for it in reasons))
 
 
 class Worked(unittest.TestCase):

@@ -1,0 +1,217 @@
+"""Calls of the program that were written out by hand: its words, its configuration or a trace; its exit status, and what it writes.
+
+A configuration is refused for the first fault in the order of docs/CONFIGURATION.md, and a row names its reason, or `taken`. The rows of a table stand in
+one frame.
+"""
+import json
+import os
+
+from worked_rows import MIDNIGHT, run_row
+
+TOP = os.path.dirname(os.path.dirname(os.path.realpath(__file__)))
+BASE = os.path.join(TOP, "examples", "base.json")
+NOW, TASK = "2024-01-01T00:00:00Z", '{"task_id":"t"}'
+USAGE = b"usage: afplane once CONFIG NOW | serve CONFIG PORT WORKERS | verify TRACE\n"
+ADMIN = (
+    '"users":[{"username":"u","roles":[{"name":"Admin"}],'
+    '"token_sha256":"8c6976e5b5410415bde908bd4dee15dfb167a9c873fc4bb8a81f6f2ab448a918"}]'
+)
+
+WHOLE = [
+    ("syntax", "{"),
+    ("shape", "[]"),
+    ("admin", "{}"),
+    ("pair", '{"roles":[{"name":"R","actions":[{"action":{"name":"can_read"},"resource":{"name":"Nothing"}}]}]}'),
+]
+# The members of a DAG of one task, each before those that are read after it.
+OF_A_DAG = [
+    ("taken", '"schedule":null,"start_date":7,"catchup":null,"max_active_runs":null,"is_paused":null'),
+    ("taken", '"schedule":"@daily","start_date":"2024-01-01T00:00:00Z"'),
+    ("taken", '"schedule":31536000,"start_date":"2024-01-01T00:00:00Z"'),
+    ("taken", '"max_active_runs":1000'),
+    ("shape", '"schedule":true,"start_date":"2024-01-01T00:00:00Z"'),
+    ("shape", '"schedule":1.5,"start_date":"2024-01-01T00:00:00Z"'),
+    ("schedule", '"schedule":"@yearly","start_date":"2024-01-01T00:00:00Z"'),
+    ("limit", '"schedule":0,"start_date":7'),
+    ("limit", '"schedule":31536001,"start_date":"2024-01-01T00:00:00Z"'),
+    ("limit", '"schedule":-1,"start_date":"2024-01-01T00:00:00Z"'),
+    ("schedule", '"schedule":"@daily"'),
+    ("schedule", '"schedule":"@daily","start_date":7,"catchup":7'),
+    ("schedule", '"schedule":"@daily","start_date":"2024-01-01"'),
+    ("schedule", '"schedule":"@daily","start_date":"1969-12-31T23:59:59Z"'),
+    ("shape", '"catchup":7,"max_active_runs":0'),
+    ("limit", '"max_active_runs":0,"is_paused":7'),
+    ("limit", '"max_active_runs":1001'),
+    ("limit", '"max_active_runs":-1'),
+    ("shape", '"max_active_runs":1.0'),
+    ("limit", '"max_active_runs":18446744073709551615'),
+    ("shape", '"is_paused":0'),
+]
+# The tasks of one DAG, beside a pool `p`.
+TASKS = [
+    ("taken", '{"task_id":"t","upstream":null,"pool":null,"pool_slots":1000000,"priority_weight":-2147483648,"retries":1000,"retry_delay":31536000,'
+     '"trigger_rule":"none_failed_min_one_success","script":["success","failed","skipped"]}'),
+    ("taken", '{"task_id":"t","upstream":["u","u"]},{"task_id":"u"}'),
+    ("taken", '{"task_id":"t","pool":"p","script":[]}'),
+    ("shape", '7'),
+    ("name", '{"task_id":""}'),
+    ("shape", '{"task_id":"t","upstream":["a b",7]}'),
+    ("name", '{"task_id":"t","upstream":["a b"],"pool":7}'),
+    ("shape", '{"task_id":"t","upstream":"u"}'),
+    ("shape", '{"task_id":"t","pool":7}'),
+    ("name", '{"task_id":"t","pool":""}'),
+    ("pool", '{"task_id":"t","pool":"q","pool_slots":"1"}'),
+    ("shape", '{"task_id":"t","pool_slots":"1","priority_weight":2147483648}'),
+    ("limit", '{"task_id":"t","priority_weight":2147483648,"retries":"1"}'),
+    ("limit", '{"task_id":"t","priority_weight":18446744073709551615}'),
+    ("limit", '{"task_id":"t","priority_weight":-2147483649}'),
+    ("shape", '{"task_id":"t","priority_weight":1.0}'),
+    ("limit", '{"task_id":"t","retries":1001,"retry_delay":"1"}'),
+    ("limit", '{"task_id":"t","retry_delay":31536001,"trigger_rule":7}'),
+    ("shape", '{"task_id":"t","trigger_rule":"dummy"}'),
+    ("shape", '{"task_id":"t","script":["success","lost"]}'),
+    ("shape", '{"task_id":"t","script":"success"}'),
+    ("shape", '{"task_id":"t","pool_slots":0},7'),
+    ("graph", '{"task_id":"t","pool_slots":0}'),
+    ("graph", '{"task_id":"t","pool_slots":-1}'),
+    ("graph", '{"task_id":"t","pool_slots":1000001}'),
+    ("graph", '{"task_id":"t"},{"task_id":"t"}'),
+    ("graph", '{"task_id":"t","upstream":["u"]}'),
+    ("graph", '{"task_id":"t","upstream":["u"]},{"task_id":"u","upstream":["t"]}'),
+]
+# The access control of one DAG, beside a role `R`.
+ACCESS = [
+    ("taken", 'null'),
+    ("taken", '{}'),
+    ("taken", '{"R":[]}'),
+    ("taken", '{"R":["can_read","can_edit","can_delete","can_read"],"Admin":["can_read"]}'),
+    ("taken", '{"R":7,"R":["can_read"]}'),
+    ("shape", '7'),
+    ("shape", '[]'),
+    ("shape", '{"R":null}'),
+    ("shape", '{"R":"can_read"}'),
+    ("shape", '{"R":{}}'),
+    ("shape", '{"R":["can_read",7]}'),
+    ("shape", '{"R":["can_read"],"R":7}'),
+    ("shape", '{"":["can_fly"],"R":[7]}'),
+    ("name", '{"":["can_fly"]}'),
+    ("name", r'{"R":["can_fly"],"\u00e9":[]}'),
+    ("name", '{"RRRRRRRRRRRRRRRRRRRRRRRRRRRRRRRRRRRRRRRRRRRRRRRRRRRRRRRRRRRRRRRRR":[]}'),
+    ("role", '{"RRRRRRRRRRRRRRRRRRRRRRRRRRRRRRRRRRRRRRRRRRRRRRRRRRRRRRRRRRRRRRRR":[]}'),
+    ("action", '{"R":["can_create"]}'),
+    ("action", '{"R":["Can_read"]}'),
+    ("action", '{"Nobody":["can_read"],"R":["can_fly"]}'),
+    ("role", '{"Nobody":["can_read"]}'),
+    ("role", '{"Nobody":[]}'),
+]
+# What is in the other members is found before, and the limits after; DAGs are taken in the order of the file.
+ORDER = [
+    ("graph", '"dags":[{"dag_id":"a","access_control":7,"tasks":[{"task_id":"t"}]},{"dag_id":"b"}]'),
+    ("role", '"dags":[{"dag_id":"a","access_control":{"Nobody":[]},"tasks":[{"task_id":"t"}]},{"dag_id":"b","access_control":7,"tasks":[{"task_id":"t"}]}]'),
+    ("name", '"dags":[{"dag_id":"b","access_control":{"":[]},"tasks":[{"task_id":"t"}]},{"dag_id":"a","access_control":7,"tasks":[{"task_id":"t"}]}]'),
+    ("name", '"history_limit":0,"dags":[{"dag_id":"a","access_control":{"":[]},"tasks":[{"task_id":"t"}]}]'),
+    ("limit", '"history_limit":0,"dags":[{"dag_id":"a","access_control":{},"tasks":[{"task_id":"t"}]}]'),
+]
+VARIABLES = [
+    ("taken", '"variables":null'),
+    ("taken", '"variables":[]'),
+    ("taken", r'"variables":[{"key":"k","value":""},{"key":"a b","value":"\u00e9","description":7}]'),
+    ("shape", '"variables":{}'),
+    ("shape", '"variables":[7]'),
+    ("shape", '"variables":[{"value":"v"}]'),
+    ("name", '"variables":[{"key":"","value":7}]'),
+    ("shape", '"variables":[{"key":"k"}]'),
+    ("shape", '"variables":[{"key":"k","value":null}]'),
+    ("shape", '"variables":[{"key":"k","value":7}]'),
+    ("shape", '"variables":[{"key":"k","value":"v"},{"key":"k","value":7}]'),
+    ("duplicate", '"variables":[{"key":"k","value":"v"},{"key":"k","value":"w"}]'),
+    ("name", r'"variables":[{"key":"k\u00e9","value":"v"}],"dags":7'),
+    ("name", '"variables":7,"pools":[{"name":""}]'),
+]
+LIMITS = [
+    ("taken", '"history_limit":null,"version_limit":null'),
+    ("taken", '"history_limit":1,"version_limit":1'),
+    ("taken", '"history_limit":4294967294,"version_limit":4294967295'),
+    ("limit", '"history_limit":0'),
+    ("limit", '"history_limit":4294967295'),
+    ("limit", '"history_limit":-1'),
+    ("limit", '"history_limit":18446744073709551615'),
+    ("shape", '"history_limit":"1"'),
+    ("shape", '"history_limit":1.0'),
+    ("limit", '"version_limit":0'),
+    ("limit", '"version_limit":4294967296'),
+    ("shape", '"version_limit":true'),
+    ("limit", '"version_limit":true,"history_limit":0'),
+    ("shape", '"history_limit":0,"dags":7'),
+]
+
+FRAMES = [
+    ("a configuration", "%s", WHOLE),
+    ("a DAG", f'{{{ADMIN},"dags":[{{"dag_id":"a",%s,"tasks":[{TASK}]}}]}}', OF_A_DAG),
+    ("tasks", f'{{{ADMIN},"pools":[{{"name":"p","slots":1}}],"dags":[{{"dag_id":"a","tasks":[%s]}}]}}', TASKS),
+    ("access control", f'{{"roles":[{{"name":"R","actions":[]}}],{ADMIN},"dags":[{{"dag_id":"a","access_control":%s,"tasks":[{TASK}]}}]}}', ACCESS),
+    ("DAGs in order", f"{{{ADMIN},%s}}", ORDER),
+    ("variables", f"{{{ADMIN},%s}}", VARIABLES),
+    ("limits", f"{{{ADMIN},%s}}", LIMITS),
+]
+
+
+def ended(reason):
+    """The exit status of a call in which nothing is answered, and what it writes."""
+    return (0, b"", b"") if reason == "taken" else (3, b"", f"afplane: configuration refused: {reason}\n".encode())
+
+
+# The name, the text of a configuration, what is asked under it, and how the program ends. Under one that is refused no input is answered.
+CONFIGURATIONS = [
+    (f"{kind} {n}", (frame % text).encode(), b"" if reason == "taken" else b"GET", ended(reason))
+    for kind, frame, rows in FRAMES
+    for n, (reason, text) in enumerate(rows)
+]
+
+WRONG_WORDS = [
+    *[[], ["verify"], ["once", BASE], ["check", "trace.json"], ["verify", "trace.json", NOW], ["verify", "trace.json", "more", "words"]],
+    *[["once", BASE, "today"], ["once", BASE, NOW, "more"], ["once", BASE, "0", "1"], ["twice", BASE, NOW]],
+    *[["serve", BASE, "0"], ["serve", BASE, "0", "1", "more"], ["serve", BASE, "65536", "1"], ["serve", BASE, "4294967376", "1"]],
+    *[["serve", BASE, "+80", "1"], ["serve", BASE, "", "1"], ["serve", BASE, "0", "0"], ["serve", BASE, "0", "17"], ["serve", BASE, "0", "-1"]],
+]
+# Words, and how the program ends that is called with them. Of a server under no file only the words count.
+WORDS = [
+    *((it, (2, b"", USAGE)) for it in WRONG_WORDS),
+    (["once", BASE, NOW], ended("taken")),
+    (["once", BASE + "x", NOW], ended("unreadable")),
+    *((["serve", BASE + "x", *it], ended("unreadable")) for it in (["0", "1"], ["65535", "16"], ["008080", "04"])),
+    (["verify", BASE], ended("trace")),
+]
+
+
+def act(token, asked, body, told, seq):
+    """The steps in which the only session of a trace looks, and then sends a request."""
+    method, path = asked.split(" ")
+    step = {"act": 0, "token": token, "method": method, "target": "/api/v1" + path, "body": body, "now": NOW}
+    return [[{"look": 0}, None], [step, {"status": 200, "version": 0, "seq": seq, "body": told}]]
+
+
+def moment(kind, told, seq):
+    return [[{kind: NOW}, {"status": 200, "version": 0, "seq": seq, "body": told}]]
+
+
+def of_the_default_pool(queued, running):
+    """The row of a pool of 128 slots, of which an instance holds one."""
+    return f'{{"name":"default_pool","occupied_slots":1,"open_slots":127,"queued_slots":{queued},"running_slots":{running},"slots":128}}'
+
+
+def slots_of_an_instance(queued, running):
+    """A trace in which the only instance of a run is queued, and then runs; and the slots of the pool at both moments."""
+    steps = act("abc", "POST /dags/b/dagRuns", '{"dag_run_id":"r"}', run_row("b", "r", MIDNIGHT), 1) + moment("tick", "changed", 2)
+    steps += act("admin", "GET /pools/default_pool", "", of_the_default_pool(*queued), 2) + moment("claim", "1 t 1", 3)
+    steps += act("admin", "GET /pools/default_pool", "", of_the_default_pool(*running), 3)
+    with open(BASE, "rb") as file:
+        return json.dumps({"config": json.load(file), "sessions": 1, "steps": steps}).encode()
+
+
+# Traces, and how the program ends that verifies one.
+TRACES = [
+    ("a queued instance's slot, and a running one's", slots_of_an_instance((1, 0), (0, 1)), (0, b"agrees\n", b"")),
+    ("a queued instance's slot as a running one's", slots_of_an_instance((0, 1), (0, 1)), (1, b"differs\n", b"")),
+    ("a running instance's slot as a queued one's", slots_of_an_instance((1, 0), (1, 0)), (1, b"differs\n", b"")),
+]
