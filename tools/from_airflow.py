@@ -6,9 +6,9 @@
     airflow dags list --output json > dags.json
     tools/from_airflow.py --roles roles.json --users users.json --dags dags.json --tokens tokens.txt afplane.json
 
-Each file may be left out. Every user gets a fresh token, which is told once, as lines of name, tab and token: on
-standard output, or in the file of --tokens, which only its owner reads. The configuration keeps their SHA-256 alone.
-What has no place in the configuration is left out and told on standard error, with the reason.
+Each file is optional. Every user gets a new token. The tokens are written once, one line of name, tab and token per user: to
+standard output, or to the file of --tokens, which only its owner can read. The configuration has only their SHA-256.
+What has no counterpart here is left out, and standard error says so with the reason.
 """
 import argparse
 import hashlib
@@ -108,7 +108,7 @@ class Draft:
         if len(self.dags) > MOST_DAGS:
             raise Unusable(f"{len(self.dags)} DAGs are too many: there is room for {MOST_DAGS}; take some out")
         if self.dags:
-            self.tell(f"each DAG has one task, {PLACEHOLDER!r}, and no schedule, since Airflow's list tells of none: write in its own")
+            self.tell(f"Each DAG gets one task, {PLACEHOLDER!r}, and no schedule: `airflow dags list` exports neither. Add the real ones by hand.")
 
     def text(self):
         """The configuration, a row a line."""
@@ -168,17 +168,17 @@ def words_of(words):
         usage=usage,
         description=__doc__,
         formatter_class=argparse.RawDescriptionHelpFormatter,
-        epilog="Status: 0 CONFIG is written, 1 nothing is written and standard error says why, 2 wrong words.\n"
-        "A FILE that is - is standard input. Airflow's export does not tell who is inactive: take such users out.",
+        epilog="Status: 0 CONFIG is written, 1 nothing is written and standard error says why, 2 usage error.\n"
+        "FILE can be - for standard input. Airflow's export does not say who is inactive, so remove such users from the file first.",
     )
     parser.add_argument("config", metavar="CONFIG", help="the configuration to write")
     parser.add_argument("--roles", metavar="FILE", help="what 'airflow roles export FILE' wrote, --pretty or not")
     parser.add_argument("--users", metavar="FILE", help="what 'airflow users export FILE' wrote")
     parser.add_argument("--dags", metavar="FILE", help="what 'airflow dags list --output json' wrote")
-    parser.add_argument("--admin", metavar="NAME", help="this user, of the file or a new one, has the role Admin")
-    parser.add_argument("--tokens", metavar="FILE", help="write the tokens there, for its owner alone (mode 600)")
-    parser.add_argument("--force", action="store_true", help="replace CONFIG and the file of --tokens if they are there")
-    parser.add_argument("--strict", action="store_true", help="status 1, and nothing written, where a role, user or DAG is left out")
+    parser.add_argument("--admin", metavar="NAME", help="give this user the role Admin; a user who is not in the file is added")
+    parser.add_argument("--tokens", metavar="FILE", help="write the tokens to this file, which only its owner can read (mode 600)")
+    parser.add_argument("--force", action="store_true", help="replace CONFIG and the file of --tokens if they exist")
+    parser.add_argument("--strict", action="store_true", help="write nothing, with status 1, if a role, user or DAG is left out")
     asked = parser.parse_args(words)
     asked.tokens = None if asked.tokens == "-" else asked.tokens
     files = [it for it in (asked.roles, asked.users, asked.dags) if it is not None]
@@ -189,7 +189,7 @@ def words_of(words):
     if asked.admin is not None and not is_label(asked.admin):
         parser.error(f"--admin: {LABEL}")
     if asked.tokens is not None and os.path.realpath(asked.tokens) == os.path.realpath(asked.config):
-        parser.error("--tokens: the tokens do not belong into the configuration")
+        parser.error("--tokens: this is CONFIG; write the tokens to another file")
     return asked
 
 
@@ -205,7 +205,7 @@ def convert(asked, tell, token):
     if asked.dags is not None:
         draft.add_dags(read_dags(asked.dags, tell))
     if asked.strict and draft.left_out:
-        raise Unusable(f"{draft.left_out} left out, as told above, and --strict allows none")
+        raise Unusable(f"{draft.left_out} left out, as reported above, and --strict allows none")
     text = draft.text()
     counts = ((draft.roles, "roles"), (draft.users, "users"), (draft.dags, "DAGs"))
     tell(f"{asked.config}: {', '.join(f'{len(rows)} {name}' for rows, name in counts)}; left out: {draft.left_out}")
@@ -221,14 +221,14 @@ def main(words, token=lambda: secrets.token_urlsafe(32)):
     try:
         for path in (asked.config, asked.tokens):
             if path is not None and os.path.lexists(path) and not asked.force:
-                raise Unusable(f"{path}: is there already; --force replaces it, and gives every user a new token")
+                raise Unusable(f"{path}: already exists; --force replaces it, and gives every user a new token")
         text, tokens = convert(asked, tell, token)
         write(asked, text, tokens)
     except Unusable as fault:
         tell(fault)
         return 1
     where = "standard output" if asked.tokens is None else asked.tokens
-    tell(f"{len(tokens)} tokens are told once, on {where}: {asked.config} keeps their SHA-256 alone")
+    tell(f"Wrote {len(tokens)} token{'s' * (len(tokens) != 1)} to {where}. This is the only copy; the configuration has their SHA-256.")
     return 0
 
 

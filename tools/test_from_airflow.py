@@ -72,7 +72,20 @@ class Samples(Case):
     def test_what_the_page_shows_is_told(self):
         _, _, err = self.read(roles="roles.json", users="users.json", dags="dags.json")
         told = [it.strip() for it in README.splitlines() if it.startswith("    from_airflow: ")]
-        self.assertEqual(told[:-2], err.splitlines()[:-2])
+        # (by the page, both files are below /tmp)
+        here = [it.replace("/tmp/afplane.json", str(self.config)).replace("/tmp/tokens.txt", "standard output") for it in told]
+        self.assertEqual(here, err.splitlines())
+
+    def test_one_token(self):
+        _, _, err = self.convert(users=[ADMIN])
+        self.assertEqual(err.splitlines()[-1], "from_airflow: Wrote 1 token to standard output. This is the only copy; the configuration has their SHA-256.")
+
+    def test_help(self):
+        status, out, err = self.call("--help")
+        self.assertEqual((status, err), (0, ""))
+        for it in ("Every user gets a new token", "2 usage error", "remove such users from the file", "--tokens FILE", "(mode 600)", "--strict"):
+            self.assertIn(it, out)
+        self.assertNotRegex(out, r"\btold\b")
 
     def test_older_roles_are_names(self):
         config, _, err = self.read(roles="roles-names.json", users="users.json")

@@ -21,6 +21,7 @@ import trace_of  # noqa: E402
 
 TOP = pathlib.Path(__file__).resolve().parents[1]
 EXAMPLES = TOP / "examples"
+CONFIGS = {"viewer": "base.json", "pause": "base.json", "backfill": "daily.json"}  # of the examples that are not over team.json
 PROGRAM = pathlib.Path(os.environ.get("AFPLANE_PROGRAM", TOP / "crates/afplane/out/afplane"))
 NOW = "2024-01-01T00:00:00Z"
 DENIED = '{"detail":"missing permission DAGs.can_read","status":403,"title":"Forbidden","type":"about:blank"}'
@@ -144,6 +145,7 @@ class Traces(Case):
         state += [("GET", run + "/taskInstances"), ("GET", run + "/taskInstances/t"), ("POST", "/api/v1/dags/b/clearTaskInstances")]
         state += [("GET", "/api/v1/pools"), ("POST", "/api/v1/pools"), ("GET", pool), ("PATCH", pool), ("DELETE", pool), ("GET", "/api/v1/eventLogs")]
         state += [(it, "/api/v1/variables/k" if it in ("PATCH", "DELETE") else "/api/v1/variables") for it in ("GET", "POST", "PATCH", "DELETE")]
+        state += [("POST", "/own/dags/b/backfills")]
         policy = [("GET", "/own/me"), ("POST", "/own/dags/b/sync")]
         policy += [(it, f"/api/v1/{rows}{'/x' if it in ('PATCH', 'DELETE') else ''}") for rows in ("roles", "users") for it in ("GET", "POST", "PATCH", "DELETE")]
         for method, path in state + policy:
@@ -278,7 +280,7 @@ class Examples(Case):
         if not PROGRAM.exists():
             self.skipTest("the program is not built")
         for path in sorted((EXAMPLES / "expected").glob("*.out")):
-            trace = self.trace(path.stem, "base.json" if path.stem in ("viewer", "pause") else "team.json")
+            trace = self.trace(path.stem, CONFIGS.get(path.stem, "team.json"))
             changed = trace.replace('"version":0', '"version":1', 1)
             for text, status, said in ((trace, 0, "agrees\n"), *[(changed, 1, "differs\n")] * (changed != trace)):
                 ran = subprocess.run([PROGRAM, "verify", self.file("t.json", text)], capture_output=True, text=True)

@@ -20,7 +20,7 @@ any beside one connection. ANSWER is null where the step gives none, and else {"
 of X-Policy-Version and X-Plane-Seq, null where there is no such field, and TEXT is empty where there is no body. A request whose path or
 method is no operation's, that of the version, and one that was refused as a message are no steps.
 
-Status: 0 the trace is written, 1 a file can not be read or does not fit the others, 2 wrong words. What is left out is told on standard error.
+Status: 0 the trace is written, 1 a file can not be read or does not fit the others, 2 usage error. Standard error says what is left out.
 """
 import json
 import re
@@ -55,6 +55,7 @@ STATE = {
     "/api/v1/variables": "GET POST",
     "/api/v1/variables/{variable_key}": "GET PATCH DELETE",
     "/api/v1/eventLogs": "GET",
+    "/own/dags/{dag_id}/backfills": "POST",
 }
 POLICY = {
     "/api/v1/roles": "GET POST",

@@ -19,7 +19,7 @@ TOP = pathlib.Path(__file__).resolve().parents[2]
 EXAMPLES = TOP / "examples"
 NOW = "2024-01-01T00:00:00Z"
 CHECK = "afplane: 'afplane check CONFIG' says which row and member is wrong, and what was expected\n"
-PORT = "afplane: the port cannot be listened on (it may be taken), or no worker can take connections any more\n"
+PORT = "afplane: cannot listen on 127.0.0.1:8080: the port is in use\n"
 COMMANDS = "sh awk basename cat chmod date dirname env find grep mkdir mktemp mv python3 readlink rm sed sleep tail touch tr wc"
 ENDED = "\nchecked: ended status={0}\nraces: not looked for\nrun=ended status={0} runners=1 races=unchecked proved=no\n"
 
@@ -46,7 +46,7 @@ esac
 # Stands in for a server that `rt try` runs: a process below it listens, and what that prints comes once it has ended. If there is a file `leaves`,
 # it ends before that process does.
 SERVER = r"""
-import os, pathlib, signal, socket, sys
+import os, pathlib, signal, socket, sys, time
 room = pathlib.Path(os.environ["ROOM"])
 with open(room / "calls", "a") as file:
     print(os.path.basename(os.getcwd()), *sys.argv[1:], file=file)
@@ -54,6 +54,7 @@ with open(room / "calls", "a") as file:
 ends, begins = os.pipe()
 child = os.fork()
 if child == 0:
+    time.sleep(float((room / "slow").read_text()) if (room / "slow").exists() else 0)
     listener = socket.create_server(("127.0.0.1", int(sys.argv[-2])))
     os.close(begins)
     while (room / "leaves").exists():
@@ -83,7 +84,8 @@ class Case(unittest.TestCase):
         self.top.mkdir()
         for it in ("model", "examples"):
             (self.top / it).symlink_to(TOP / it)
-        for it in ("afplane", "crates.txt"):
+        (self.top / "tools").mkdir()
+        for it in ("afplane", "crates.txt", "tools/build.py"):
             shutil.copy(TOP / it, self.top / it)
         for it in self.crates():
             (self.top / "crates" / it / "src").mkdir(parents=True)
@@ -103,6 +105,12 @@ class Case(unittest.TestCase):
         for name, text in (("status", status), ("out", out), ("said", ENDED.format(status) if said is None else said)):
             (self.room / name).write_text(str(text))
 
+    def with_short_sleep(self):
+        """Fifteen seconds are 0.3, and one is 0.1."""
+        (self.bin / "sleep").unlink()
+        (self.bin / "sleep").write_text(f'#!/bin/sh\ncase $1 in 15) set 0.3 ;; 1) set 0.1 ;; *) exit 1 ;; esac\nexec "{shutil.which("sleep")}" "$1"\n')
+        (self.bin / "sleep").chmod(0o755)
+
     def call(self, *words, data=b"", script=None):
         """Exit status, standard output and standard error."""
         env = {"PATH": str(self.bin), "ROOM": str(self.room), "TMPDIR": str(self.room)}
@@ -120,12 +128,12 @@ class Words(Case):
     def test_help_and_version(self):
         status, out, err = self.call("--help")
         self.assertEqual((status, err), (0, ""))
-        for it in ("serve CONFIG PORT WORKERS", "once CONFIG NOW", "verify TRACE", "check CONFIG", "model once CONFIG NOW", "build", f"cd {self.top}"):
+        for it in ("serve CONFIG PORT WORKERS", "once CONFIG NOW", "verify TRACE", "check CONFIG", "model once CONFIG NOW", "ui PORT SERVER-PORT", "build", "test", f"cd {self.top}"):
             self.assertIn(it, out)
         self.assertEqual(self.call("--version"), (0, "afplane 1\n", ""))
 
     def test_help_on_a_command(self):
-        for it in ("serve", "once", "verify", "check", "model", "build"):
+        for it in ("serve", "once", "verify", "check", "model", "ui", "build", "test"):
             self.assertEqual(self.call(it, "--help"), self.call("--help"))
 
     def test_now(self):
@@ -144,7 +152,7 @@ class Words(Case):
 
     def test_usage(self):
         serves = [("serve",), ("serve", "c", "8080"), ("serve", "c", "8080", "4", "x"), ("model", "serve", "c", "1"), ("model", "serve", "c", "8080", "4", "x")]
-        for words in ((), ("once",), ("once", "c"), ("once", "c", NOW, "x"), ("verify",), ("build", "x"), ("check",), ("model",), ("help",), *serves):
+        for words in ((), ("once",), ("once", "c"), ("once", "c", NOW, "x"), ("verify",), ("build", "x"), ("test", "x"), ("check",), ("model",), ("help",), *serves):
             with self.subTest(words):
                 status, out, err = self.call(*words)
                 self.assertEqual((status, out), (2, ""))
@@ -181,7 +189,7 @@ class Model(Case):
         self.assertTrue(err.startswith("afplane: configuration refused: unreadable: "), err)
 
     def test_model(self):
-        said = "afplane: answered by the reference model, not by the proved program\n"
+        said = "afplane: the reference model answers, not the proved program\n"
         data = (EXAMPLES / "viewer.http").read_bytes()
         expected = (EXAMPLES / "expected/viewer.out").read_bytes().decode()
         self.assertEqual(self.call("model", "once", EXAMPLES / "base.json", NOW, data=data), (0, expected, said))
@@ -189,7 +197,7 @@ class Model(Case):
         self.assertEqual(self.call("model", "once", EXAMPLES / "base.json", "now")[0], 2)
 
     def test_server(self):
-        said = "afplane: answered by the reference model, not by the proved program\n"
+        said = "afplane: the reference model answers, not the proved program\n"
         (self.top / "conformance").mkdir()
         (self.top / "conformance/other.py").write_text("SAID = 'listening'")
         server = self.top / "conformance/stand_in.py"
@@ -207,9 +215,18 @@ class Model(Case):
 
     def test_no_python(self):
         (self.bin / "python3").unlink()
-        status, out, err = self.call("check", EXAMPLES / "base.json")
-        self.assertEqual((status, out), (70, ""))
-        self.assertIn("python3", err)
+        for words in (("check", EXAMPLES / "base.json"), ("test",)):
+            status, out, err = self.call(*words)
+            self.assertEqual((status, out), (70, ""))
+            self.assertIn("python3", err)
+        said = "afplane: the command python3, which serves the page, is not on PATH\n"
+        self.assertEqual(self.call("ui", "0", "8080"), (70, "", said))
+
+    def test_the_tests(self):
+        """What needs no toolchain is a part of gate-program, whose output and status are the script's."""
+        (self.top / "tools/dev").mkdir()
+        (self.top / "tools/dev/gate-program").write_text("import sys\nprint(sys.argv[1:], '3 passed, 1 failed')\nsys.exit(1)\n")
+        self.assertEqual(self.call("test"), (1, "['--without-program'] 3 passed, 1 failed\n", ""))
 
 
 class Unproved(Case):
@@ -226,6 +243,17 @@ class Unproved(Case):
         self.assertRegex(call, rf"\Aafplane try --data given=\S.*/given -- once given {NOW}\Z")
         self.assertEqual((self.room / "data").read_text(), "{}")
         self.assertEqual((self.room / "input").read_bytes(), b"GET / HTTP/1.1\r\n\r\n")
+
+    def test_signs_of_life(self):
+        """While the program is compiled, a line each 15 seconds, which a fake `sleep` makes shorter."""
+        self.with_rt(out="HTTP/1.1 200 OK\n")
+        (self.bin / "rt").write_text(RT.replace("cat >", f"'{shutil.which('sleep')}' 1\n    cat >", 1))
+        self.with_short_sleep()
+        status, out, err = self.once()
+        self.assertEqual((status, out), (0, "HTTP/1.1 200 OK\n"))
+        signs = err.splitlines()[1:]
+        self.assertEqual(signs[:2], ["afplane: no answer yet, after 15 s", "afplane: no answer yet, after 30 s"])
+        self.assertEqual(signs, [f"afplane: no answer yet, after {15 * (n + 1)} s" for n in range(len(signs))])
 
     def test_verify(self):
         self.with_rt(out="agrees\n")
@@ -335,14 +363,28 @@ class Serving(Case):
         server.terminate()
         self.assertEqual(self.ended(server)[0], 143)
 
+    def test_signs_of_life(self):
+        """There are some until it listens, and none from then on."""
+        self.with_server()
+        self.with_short_sleep()
+        (self.room / "slow").write_text("1")
+        server = self.begun(0)
+        first, *signs = os.read(server.stderr.fileno(), 65536).decode().splitlines()
+        self.assertIn("compiling from source", first)
+        self.assertIn("afplane: not listening yet, after 15 s", signs)
+        self.assertEqual(signs, [f"afplane: not listening yet, after {15 * (n + 1)} s" for n in range(len(signs))])
+        time.sleep(1)
+        server.terminate()
+        self.assertEqual((*server.communicate(timeout=30), server.returncode), ("", "", 143))
+
     def test_it_ends_by_itself(self):
         self.with_server(1, "listening on 127.0.0.1:9\n", "afplane: no more\ninterpreter: no-answer: x\n" + ENDED.format(1))
         server = self.begun(0)
         (self.room / "over").touch()
-        self.assertEqual(self.ended(server), (1, "", "afplane: no more\n" + PORT))
+        self.assertEqual(self.ended(server), (1, "", "afplane: no more\n"))
 
     def test_it_does_not_begin(self):
-        for status, said, more in ((1, "", PORT), (3, "afplane: configuration refused: shape\n", CHECK)):
+        for status, said, more in ((1, PORT, ""), (3, "afplane: configuration refused: shape\n", CHECK)):
             self.with_rt(status, "", said + ENDED.format(status))
             (self.bin / "rt").write_text(RT.replace("${3#given=}", "${5#given=}"))
             found, out, err = self.call("serve", EXAMPLES / "demo.json", "0", "4")
@@ -359,6 +401,8 @@ class Serving(Case):
 
 
 class Build(Case):
+    """build, on the machine as it is; test_build.py tests what it does on others."""
+
     def steps(self, err):
         return [(int(n), int(of), crate, int(to_go)) for n, of, crate, to_go in re.findall(r"afplane: (\d+) of (\d+): (\w+) \(\d+ min so far, about (\d+) min to go\)", err)]
 
@@ -366,20 +410,29 @@ class Build(Case):
         self.with_rt()
         status, out, err = self.call("build")
         self.assertEqual((status, out), (0, ""), err)
-        crates = self.crates()
-        wanted = [f"{it} lib" for it in crates[:-1]] + [f"afplane run -- once {self.top}/examples/base.json {NOW}"]
-        self.assertEqual(self.calls(), wanted)
+        crates, calls = self.crates(), self.calls()
+        built = [it.split()[0] for it in calls]
+        self.assertEqual(sorted(built), sorted(crates))
+        below = dict(re.findall(r"(?m)^(\w+)[^:#\n]*:(.*)$", (TOP / "crates.txt").read_text(encoding="utf-8")))
+        for n, it in enumerate(built):
+            self.assertLessEqual({dep for dep in below[it].split() if dep in crates}, set(built[:n]), it)
+        for it in calls[:-1]:
+            self.assertRegex(it, r"\A\w+ lib --jobs [1-8]\Z")
+        self.assertRegex(calls[-1], rf"\Aafplane run --jobs [1-8] -- once {re.escape(str(self.top))}/examples/base\.json {NOW}\Z")
         steps = self.steps(err)
-        self.assertEqual([it[:3] for it in steps], [(n + 1, len(crates), it) for n, it in enumerate(crates)])
+        # (of two that start at once, either may be the first to note its call)
+        self.assertEqual([it[:2] for it in steps], [(n + 1, len(crates)) for n in range(len(crates))])
+        self.assertEqual(sorted(it[2] for it in steps), sorted(crates))
         to_go = [it[3] for it in steps]
-        self.assertEqual(to_go, sorted(to_go, reverse=True))
-        self.assertGreater(to_go[0], 60)
+        # (with other crates built, the same rules may give a longer schedule: from one step to the next it may rise)
+        self.assertLess(max(to_go[len(to_go) // 2 :]), to_go[0], to_go)
+        self.assertIn(to_go[0], range(10, 200))
         self.assertGreater(to_go[-1], 0)
         # from now on the program answers, and rt is not called
         self.assertEqual(self.call("once", "c", NOW, data=b"in"), (1, f"built once c {NOW}\nin", ""))
         self.assertEqual(self.call("serve", "c", "0", "4"), (1, "built serve c 0 4\n", ""))
         self.assertEqual(self.call("build")[0], 0)
-        self.assertEqual(self.calls(), wanted)
+        self.assertEqual(self.calls(), calls)
 
     def test_a_stale_build_answers_unproved(self):
         self.with_rt(out="tried")
@@ -405,13 +458,15 @@ class Build(Case):
 
     def test_a_build_that_fails_goes_on(self):
         self.with_rt()
-        first = self.crates()[:3]
-        (self.room / "fails").write_text(first[-1])
+        fails = "af_role"
+        (self.room / "fails").write_text(fails)
         status, out, err = self.call("build")
         self.assertEqual((status, out), (70, ""))
         self.assertIn("goal 7 is open", err)
-        self.assertIn(f"{first[-1]} is not proved or not built", err)
-        self.assertEqual(self.calls(), [f"{it} lib" for it in first])
+        self.assertIn(f"{fails} is not proved or not built; the whole report is in {self.top}/out/afplane-build/{fails}.log", err)
+        calls = [it.split()[0] for it in self.calls()]
+        self.assertIn(fails, calls)
+        self.assertNotIn("af_policy", calls)
         self.assertEqual(list((self.top / "out").glob("afplane-built*")), [])
         (self.room / "fails").unlink()
         self.assertEqual(self.call("build")[0], 0)
@@ -421,11 +476,20 @@ class Build(Case):
         self.with_rt()
         before = self.steps(self.call("build")[2])[0][3]
         path = self.top / "crates.txt"
-        path.write_text(re.sub(r"(?m)^(afplane[^:\n]*:)", r"af_new:\n\1 af_new", path.read_text()))
+        # it stands on the longest chain, so all its seconds count
+        path.write_text(re.sub(r"(?m)^(afplane[^:\n]*:)", r"af_new: af_server\n\1 af_new", path.read_text()))
         (self.top / "crates/af_new/src").mkdir(parents=True)
+        shutil.rmtree(self.top / "out/afplane-build")
         (number, of, crate, to_go) = self.steps(self.call("build")[2])[0]
         self.assertEqual((number, of), (1, len(self.crates()) + 1))
-        self.assertIn(to_go - before, (1, 2))
+        self.assertIn(to_go - before, (0, 1, 2))
+
+    def test_no_python(self):
+        self.with_rt()
+        (self.bin / "python3").unlink()
+        status, out, err = self.call("build")
+        self.assertEqual((status, out), (70, ""))
+        self.assertIn("python3", err)
 
 
 if __name__ == "__main__":

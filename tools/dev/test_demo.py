@@ -16,6 +16,7 @@ sys.path.insert(0, str(TOP / "model"))
 import check_config  # noqa: E402
 import oracle  # noqa: E402
 import oracle_sched  # noqa: E402
+import oracle_state  # noqa: E402
 from oracle_names import MICROS, instant_of  # noqa: E402
 from oracle_table import LANDED, route  # noqa: E402
 
@@ -104,6 +105,19 @@ class Demo(unittest.TestCase):
         self.assertEqual(self.played.runs("search.backfill"), ["success"] * 10)
         self.assertEqual(self.played.most_running["search.backfill"], 2)
 
+    def test_a_backfill_of_the_last_week(self):
+        """Of seven days the last has its run; the others run two at a time, and in so many seconds all have ended."""
+        played = Played(EXAMPLES / "demo.json", START, 5)
+        self.assertEqual([it.run_id for it in played.state.runs if it.dag_id == "payments.report"], ["scheduled__2026-11-27T00:00:00+00:00"])
+        range_ = [instant_of(f"2026-11-{it}T00:00:00Z") for it in (21, 27)]
+        played.state, made = oracle_state.backfill(played.state, "payments.report", *range_)
+        self.assertEqual([it.run_id for it in made], [f"backfill__2026-11-{it}T00:00:00+00:00" for it in range(21, 27)])
+        self.assertEqual(oracle_state.backfill(played.state, "payments.report", *range_)[1], [])
+        for _ in range(10):
+            played.second()
+        self.assertEqual(played.runs("payments.report"), ["success"] * 7)
+        self.assertEqual(played.most_running["payments.report"], 2)
+
     def test_what_does_not_run_by_itself(self):
         self.assertEqual(self.played.runs("search.purge"), [])
         self.assertEqual(self.played.runs("payments.refund"), [])
@@ -120,7 +134,7 @@ class Configurations(unittest.TestCase):
 
     def test_users_have_the_tokens_that_the_page_names(self):
         page = (EXAMPLES / "README.md").read_text(encoding="utf-8")
-        for name in ("base.json", "team.json", "demo.json"):
+        for name in ("base.json", "daily.json", "team.json", "demo.json"):
             table = re.search(rf"(?ms)^\| `{re.escape(name)}` \| Token \|.*?^\n", page)[0]
             told = {}
             for names, tokens in re.findall(r"(?m)^\| ([a-z, ]+) \| ((?:`[^`]+`(?:, )?)+) \|", table):

@@ -1,6 +1,6 @@
 #!/usr/bin/env python3
-"""Tests of the documents: links lead somewhere, definitions and clauses are where it is said, what is said twice has the same words, and
-no line and no sentence is too long.
+"""Tests of the documents: links lead somewhere, definitions are where it is said, what is said twice has the same words, and no line and no
+sentence is too long. What PROOFS.md says of clauses is in test_index.py.
 
     python3 tools/dev/test_documents.py
 """
@@ -18,14 +18,20 @@ import oracle  # noqa: E402
 CRATES = TOP / "crates"
 FOLDERS = ("model", "conformance", "bench", "examples")
 DOCUMENTS = [TOP / "README.md", *sorted((TOP / "docs").glob("*.md")), *sorted(page for it in FOLDERS for page in (TOP / it).rglob("*.md"))]
-MOST_LINES = 150
-HEAD = "| Plain name | Where | Carried by |"
 
 # All pages: those above, and those at the top but the first page. The tables of results are measured, not written.
 PAGES = [*DOCUMENTS, *sorted(it for it in TOP.glob("*.md") if it.name != "README.md")]
 RESULTS = TOP / "bench/results"
+
+# Written by tools/dev/index from the sources, with the sentences that stand there.
+INDEX = [TOP / "docs/INDEX.md", *sorted((TOP / "docs/index").glob("*.md"))]
 MOST_COLUMNS, MOST_WORDS = 160, 40
 ITEM = re.compile(r"(?:[-*]|\d+\.) ")
+# Names of zsh's own, which a command that is pasted into it must not set: `path`, say, is `PATH` as a list.
+OF_ZSH = """aliases argv cdpath commands fignore fpath functions histchars history jobstates mailpath manpath module_path options parameters path pipestatus
+    prompt psvar signals status watch""".split()
+ONE = f"(?:{'|'.join(OF_ZSH)})"
+SETS_ONE = re.compile(rf"(?:^|[\s;&|({{]){ONE}\+?=|\bfor\s+{ONE}\b|\bread\s+(?:[\w-]+\s+)*{ONE}\b")
 NOT_AN_END = {"e.g.", "i.e.", "etc.", "cf.", "vs.", "no."}
 
 
@@ -43,7 +49,8 @@ def quotations(text):
 
 
 def anchor_of(heading):
-    """The anchor that a reader of Markdown makes of a heading."""
+    """The anchor that a reader of Markdown makes of a heading, of a link in it by its text."""
+    heading = re.sub(r"\[([^\]]*)\]\([^)]*\)", r"\1", heading)
     return re.sub(r"[^\w\- ]", "", heading.strip().lower()).replace(" ", "-")
 
 
@@ -61,40 +68,6 @@ def rows_below(page, head):
         if within and line != head and not line.startswith("|---"):
             rows.append((crate, [it.strip() for it in line[1:].rstrip("| ").split("|")]))
     return rows
-
-
-def files_of(crate, cell):
-    """The files that a cell names: below specs/ of a crate, or below its src/, or below another crate."""
-    for it in cell.split(", "):
-        yield CRATES / it if it.startswith("af_") else CRATES / crate / it if it.startswith("src/") else CRATES / crate / "specs" / it
-
-
-def names_in(cell):
-    """The names that stand in brackets, each in backquotes."""
-    return [name for bracket in re.findall(r"\((`[^()]*`)\)", cell) for name in re.findall(r"`([^`]+)`", bracket)]
-
-
-def clauses_in(cell):
-    """The functions that a cell names, each with the clauses that follow it in brackets."""
-    return [(name, re.findall(r"\w+", clauses)) for name, clauses in re.findall(r"`([\w:]+)`(?: \((`[^()]*`)\))?", cell)]
-
-
-def contracts_of(crate):
-    """Of each function of a crate the names of the clauses that it ensures; and the crate's types and traits."""
-    clauses, types = {}, set()
-    for path in sorted((CRATES / crate / "src").rglob("*.rt")):
-        text = text_of(path)
-        types.update(re.findall(r"\b(?:struct|enum|trait|type) (\w+)", text))
-        name = None
-        for line in text.split("\n"):
-            begins = re.match(r" *(?:pub(?:\(\w+\))? )?(?:const )?fn (\w+)", line)
-            name = begins[1] if begins else name
-            ensured = re.match(r" *ensures (\w*) ?\{", line)
-            if begins:
-                clauses.setdefault(name, set())
-            elif ensured:
-                clauses[name].add(ensured[1])
-    return clauses, types
 
 
 def lines_of(text):
@@ -140,9 +113,6 @@ def sentences_of(piece):
 
 
 class Documents(unittest.TestCase):
-    def test_length_of_the_first_page(self):
-        self.assertLessEqual(text_of(TOP / "README.md").count("\n"), MOST_LINES)
-
     def test_the_promise_has_one_wording(self):
         explained = quotations(text_of(TOP / "docs/GUARANTEES.md"))
         promised = quotations(text_of(TOP / "README.md"))
@@ -151,15 +121,25 @@ class Documents(unittest.TestCase):
         for it in promised:
             self.assertIn(it, explained)
 
+    def test_operations_are_counted(self):
+        """The first page and that of the API say how many operations there are: those below /api/v1, which are Airflow's, and those of this project."""
+        paths = json.loads(text_of(TOP / "docs/openapi.json"))["paths"]
+        asked = [path for path, item in paths.items() for it in item if it in ("get", "post", "patch", "delete")]
+        own = [it for it in asked if it.startswith("/own/")]
+        words = ["no", "one", "two", "three", "four", "five"]
+        self.assertEqual({it.split("/")[1] for it in asked}, {"api", "own"})
+        counted = re.search(r"\[(\d+) of Airflow's operations\]\(docs/API.md\) under `/api/v1`, and (\d+) of its own", text_of(TOP / "README.md"))
+        self.assertEqual(counted.groups(), (str(len(asked) - len(own)), str(len(own))))
+        counted = re.search(r"implements (\d+) operations .*\n(\w+) more, below `/own`", text_of(TOP / "docs/API.md"))
+        self.assertEqual(counted.groups(), (str(len(asked) - len(own)), words[len(own)].capitalize()))
+
     def test_each_crate_has_a_row(self):
         crates = [it.name for it in sorted(CRATES.iterdir()) if (it / "src").is_dir() and not it.name.endswith(("_tests", "_bench")) and it.name != "afplane"]
         rows = [cells[0].strip("`") for _, cells in rows_below("docs/ARCHITECTURE.md", "| Crate | What it is for | What contracts see |")]
         self.assertEqual(sorted(rows), sorted([*crates, "afplane"]))
-        rows = re.findall(r"(?m)^## (af_\w+)$", text_of(TOP / "docs/PROOFS.md"))
-        self.assertEqual(sorted(rows), crates)
 
     def test_links_lead_somewhere(self):
-        for page in PAGES:
+        for page in {*PAGES, *INDEX}:
             for target in re.findall(r"\]\(([^)\s]+)\)", text_of(page)):
                 path, _, anchor = target.partition("#")
                 if "://" in path:
@@ -169,51 +149,38 @@ class Documents(unittest.TestCase):
                 if anchor:
                     self.assertIn(anchor, anchors_in(there), f"{page.name}: {target}")
 
-    def test_definitions_stand_where_it_is_said(self):
-        rows = rows_below("docs/DEFINITIONS.md", HEAD)
-        self.assertGreater(len(rows), 200)
-        for crate, row in rows:
-            self.assertEqual(len(row), 3, row)
-            plain, where, _ = row
-            if where == "std":
-                continue
-            with self.subTest(row=plain):
-                text = "\n".join(map(text_of, files_of(crate, where)))
-                for name in names_in(plain):
-                    self.assertRegex(text, rf"(?m)^\s*(?:[a-z]+ )*{re.escape(name)}(?!\w)")
-
-    def test_claims_name_clauses_that_are_there(self):
-        rows = rows_below("docs/PROOFS.md", "| Claim | Clause | Limit |")
-        self.assertGreater(len(rows), 200)
-        contracts = {crate: contracts_of(crate) for crate in {crate for crate, _ in rows}}
-        for crate, row in rows:
-            with self.subTest(crate=crate, claim=row[0]):
-                self.assertIn(len(row), (2, 3))
-                named = clauses_in(row[1])
-                self.assertTrue(named)
-                functions, types = contracts[crate]
-                for name, clauses in named:
-                    *of_type, function = name.split("::")
-                    self.assertLessEqual(set(of_type), types)
-                    self.assertIn(function, functions)
-                    self.assertLessEqual(set(clauses), functions[function], name)
-
     def test_rules_of_questions_stand_where_it_is_said(self):
-        sections = re.findall(r"(?ms)^### (.*?)\n(.*?)(?=^##|\Z)", text_of(TOP / "docs/QUESTIONS.md"))
-        self.assertGreater(len(sections), 20)
-        for question, answer in sections:
-            with self.subTest(question=question):
-                (rules,) = re.findall(r"(?m)^Decided by (.*)\.$", answer)
+        page = text_of(TOP / "docs/QUESTIONS.md")
+        notes = re.findall(r"(?m)^\[\^(\w+)\]: (.*)\.$", page)
+        self.assertGreater(len(notes), 15)
+        self.assertEqual(re.findall(r"\[\^(\w+)\](?!:)", page), [name for name, _ in notes])
+        for name, rules in notes:
+            with self.subTest(note=name):
                 found = re.findall(r"((?:`\w+`(?:, )?)+) in (af_\w+/specs/\w+\.antt)", rules)
                 self.assertEqual("; ".join(f"{names} in {path}" for names, path in found), rules)
                 for names, path in found:
                     for name in re.findall(r"\w+", names):
                         self.assertRegex(text_of(CRATES / path), rf"(?m)^\s*(?:[a-z]+ )*{name}(?!\w)")
 
+    def test_each_rule_of_questions_has_a_note(self):
+        rules = text_of(TOP / "docs/QUESTIONS.md").partition("\n## Rules\n")[2]
+        sections = re.findall(r"(?ms)^### (.*?)\n(.*?)(?=^##|^\[\^|\Z)", rules)
+        self.assertGreater(len(sections), 15)
+        for question, answer in sections:
+            with self.subTest(question=question):
+                self.assertRegex(answer.strip(), r"\[\^\w+\]$")
+
     def test_code_blocks_of_json_are_json(self):
         for page in PAGES:
             for block in re.findall(r"(?ms)^```json\n(.*?)^```", text_of(page)):
                 json.loads(block)
+
+    def test_commands_set_no_name_of_zsh(self):
+        for page in PAGES:
+            # (what is fenced is HTTP and JSON)
+            commands = [line for line, is_code in lines_of(text_of(page)) if is_code and line.startswith("    ")]
+            with self.subTest(page=str(page.relative_to(TOP))):
+                self.assertEqual([it for it in commands if SETS_ONE.search(it)], [])
 
     def test_no_line_is_too_long(self):
         for page in PAGES:
@@ -223,7 +190,7 @@ class Documents(unittest.TestCase):
 
     def test_no_sentence_is_too_long(self):
         for page in PAGES:
-            if RESULTS in page.parents:
+            if RESULTS in page.parents or page in INDEX:
                 continue
             with self.subTest(page=str(page.relative_to(TOP))):
                 sentences = [it for piece in pieces_of(text_of(page)) for it in sentences_of(piece)]
@@ -274,9 +241,22 @@ fenced. code
         self.assertEqual(pieces[1][:14], "One two three.")
         self.assertEqual(pieces[2:], ["an item that goes on", "one below", "still the item below", "a cell", "another. cell"])
 
+    def test_what_sets_a_name_of_zsh(self):
+        for it in ("ask() { who=$1 path=$2; }", "status=$?", "    path+=/bin", "for path in *; do", "while read -r x path; do", "a && (argv=1)"):
+            self.assertTrue(SETS_ONE.search(it), it)
+        for it in ("to=$1", "curl '/x?path=1'", "--path=x", "echo $path", "PATH=/bin", 'curl -d \'{"status":1}\'', "xpath=1", "export PATH=x"):
+            self.assertFalse(SETS_ONE.search(it), it)
+
     def test_sentences(self):
         counts = [len(it) for it in sentences_of(pieces_of(self.PAGE)[1])]
         self.assertEqual(counts, [3, 6, 1])
+
+
+class FirstPage(unittest.TestCase):
+    def test_the_answer_is_the_models(self):
+        request, answer = (it.replace("\n", "\r\n").encode() for it in re.findall(r"(?ms)^```http\n(.*?)\n```$", text_of(TOP / "README.md")))
+        plane = oracle.Plane((TOP / "examples/demo.json").read_bytes())
+        self.assertEqual(oracle.answers(plane, request), (answer, True))
 
 
 class Configuration(unittest.TestCase):
@@ -321,7 +301,7 @@ class Calls(unittest.TestCase):
         cls.words = set(re.findall(r"\w+", " ".join(sources))) | {it.stem for it in CRATES.glob("*/proofs/**/*.antt")}
 
     def test_names_are_there(self):
-        pages = ("ARCHITECTURE", "DECISIONS", "DEFINITIONS", "GUARANTEES", "PROOFS", "TOOLCHAIN")
+        pages = ("ARCHITECTURE", "DECISIONS", "GUARANTEES", "PROOFS", "TOOLCHAIN")
         for page in (TOP / "README.md", *(TOP / "docs" / f"{it}.md" for it in pages)):
             text = re.sub(r"(?ms)^```.*?^```", "", text_of(page))
             for name in re.findall(r"`([A-Za-z_][\w:]*)`", text):

@@ -3,6 +3,7 @@
 
     python3 tools/dev/test_gate_program.py
 """
+import fnmatch
 import hashlib
 import importlib.machinery
 import importlib.util
@@ -91,6 +92,12 @@ class Counts(Case):
         (self.room / "test_b.py").write_text("import nothing_of_this_name\n")
         status, lines = self.call(sys.executable, HERE / "run-tests", self.room, "test_*.py")
         self.assertEqual((status, lines[-1]), (1, "1 passed, 1 failed"))
+        (self.room / "test_b.py").write_text(TESTS.replace("no reason", "there/afplane is not built"))
+        rows = [((), "2 passed, 3 failed"), (("--without-program",), "2 passed, 2 failed")]
+        for words, last in rows:
+            status, lines = self.call(sys.executable, HERE / "run-tests", *words, self.room, "test_*.py")
+            self.assertEqual((status, lines[-1]), (1, last))
+        self.assertIn("skipped, which is not counted: test_skipped (test_b.A", "\n".join(lines))
         status, lines = self.call(sys.executable, HERE / "run-tests", self.room, "none_*.py")
         self.assertEqual((status, lines[-1]), (1, "0 passed, 0 failed"))
 
@@ -165,9 +172,53 @@ class Gate(Case):
             part.words = [str(self.script("part", text))]
             passed, failed, said = GATE.run(part, "none")
             self.assertEqual((passed, failed), wanted, said)
-        for ci, names in (("", ["refused memory", "openapi"]), ("true", ["openapi"])):
+        for ci, names in (("", ["refused memory", "the page in a browser", "openapi"]), ("true", ["openapi"])):
             with mock.patch.dict(os.environ, {"CI": ci}):
                 self.assertEqual([it.name for it in GATE.parts_for("program") if it.may_lack], names)
+
+    def test_each_file_of_tests_is_played_once(self):
+        for parts in (GATE.parts_for("program"), GATE.parts_without_program()):
+            played = []
+            for it in parts:
+                if "tools/dev/run-tests" in it.words:
+                    folder, pattern = it.words[-2:]
+                    played += [f"{folder}/{path.name}" for path in (TOP / folder).glob("*.py") if fnmatch.fnmatch(path.name, pattern)]
+            files = [path for path in TOP.glob("**/*.py") if re.fullmatch(r"test_.*|.*_test", path.stem) and not {"out", "ui"} & set(path.parts)]
+            self.assertEqual(sorted(played), sorted(str(it.relative_to(TOP)) for it in files if it.name != "test_tools.py"))
+
+    def test_without_a_program(self):
+        """What needs neither the program nor the toolchain is run, and no program is asked, whether one is built or not."""
+        parts = GATE.parts_without_program()
+        names = [it.name for it in parts]
+        self.assertEqual([it for it in names if not it.startswith("tests of ")], ["openapi", "examples and worked connections, by the model"])
+        self.assertFalse(any(it.asks for it in parts))
+        self.assertFalse(os.path.exists(GATE.NO_PROGRAM))
+        self.assertNotIn(GATE.PROGRAM, [word for it in parts for word in it.words])
+        for it in parts:
+            if it.name.startswith("tests of "):
+                self.assertIn("--without-program", it.words)
+        self.assertEqual(parts[-1].words[1:3], ["conformance/play.py", "--program"])
+        for it in parts[-2:]:
+            self.assertTrue(it.words[-1].endswith(" model/oracle.py"), it.words)
+        program = GATE.Part("some", asks=False)
+        program.words = [str(self.script("part", 'echo "asks $AFPLANE_PROGRAM"; echo "4 passed, 0 failed"; exit 1'))]
+        with mock.patch.object(GATE, "parts_without_program", lambda: [program]), mock.patch.object(sys, "argv", ["gate-program", "--without-program"]):
+            with mock.patch("builtins.print") as said:
+                self.assertEqual(GATE.main(), 1)
+        said = [str(it.args[0]) for it in said.call_args_list]
+        self.assertEqual(said[-1], "4 passed, 1 failed")
+        self.assertIn(f"asks {GATE.NO_PROGRAM}\n", said[-2])
+
+    def test_no_browser(self):
+        """Without a browser the page is not tested, and where CI is set that is a failure."""
+        program = self.script("program", "exit 2")
+        for ci, wanted, first in (("", (0, 0), "not run: "), ("true", (0, 1), "")):
+            with mock.patch.dict(os.environ, {"CI": ci, "PATH": str(self.room)}):
+                (part,) = [it for it in GATE.parts_for(str(program)) if it.name == "the page in a browser"]
+                self.assertEqual(part.words[1:], ["conformance/ui/run"])
+                passed, failed, said = GATE.run(part, str(program))
+            self.assertEqual((passed, failed), wanted)
+            self.assertTrue(said.startswith(f"{first}ui: chromium is not installed"), said)
 
     def test_no_program(self):
         status, lines = self.gate(self.room / "none", "--after", "0", "69 passed, 0 failed")
@@ -186,16 +237,38 @@ class Whole(Case):
         for it in ("repository/.ci", "repository/tools/dev", "bin"):
             (self.room / it).mkdir(parents=True)
         shutil.copy(TOP / ".ci/run", self.room / "repository/.ci/run")
+        (self.room / "repository/tools/build.py").write_text("import sys\nprint(5 if sys.argv[1:] == ['--checks'] else 'other words')\n")
+        self.script("repository/tools/dev/install-gate", "exit 3")
         (self.room / "repository/tools/dev/gate-program").write_text("import os, sys\nprint(sys.argv[1:], os.getcwd())\nsys.exit(5)\n")
         self.script("bin/rt", 'echo "$* $RT_JOBS $PWD"; echo "3 passed, 4 failed"; exit 1')
         path = f"{self.room}/bin:{os.environ['PATH']}"
         top = str((self.room / "repository").resolve())
-        by_processors = "2" if len(os.sched_getaffinity(0)) < 4 else "3"
-        for given, jobs in (({}, by_processors), ({"RT_JOBS": "7"}, "7")):
+        for given, jobs in (({}, "5"), ({"RT_JOBS": "7"}, "7")):
             given = {"PATH": path, "RT_JOBS": "", **given}
             status, lines = self.call("bash", self.room / "repository/.ci/run", **given)
             self.assertEqual(status, 5)
             self.assertEqual(lines, [f"ci {jobs} {top}", "3 passed, 4 failed", f"{['--after', '1', '3 passed, 4 failed']} {top}"])
+
+
+class Installing(Case):
+    """install-gate asks apt-get only where CI is set and the browser is missing, and never fails."""
+
+    def test_when_it_installs(self):
+        for it in ("sh", "env"):
+            (self.room / it).symlink_to(shutil.which(it))
+        asked = self.room / "asked"
+        self.script("apt-get", f'echo "$*" >>"{asked}"; exit 1')
+        def calls(**env):
+            asked.write_text("")
+            status, lines = self.call(HERE / "install-gate", PATH=self.room, **env)
+            self.assertEqual((status, lines), (0, [""]))
+            return asked.read_text().splitlines()
+        self.assertEqual(calls(CI=""), [])
+        self.assertEqual(calls(CI="true"), ["update -qq"])
+        self.script("apt-get", f'echo "$*" >>"{asked}"')
+        self.assertEqual(calls(CI="true"), ["update -qq", "install -y -qq chromium chromium-driver python3-selenium"])
+        (self.room / "apt-get").unlink()
+        self.assertEqual(calls(CI="true"), [])
 
 
 if __name__ == "__main__":

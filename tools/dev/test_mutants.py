@@ -5,6 +5,7 @@
 """
 import os
 import pathlib
+import re
 import shutil
 import subprocess
 import sys
@@ -17,6 +18,8 @@ from edits import Unusable, applied, edits_in  # noqa: E402
 HERE = pathlib.Path(__file__).resolve().parent
 TOP = HERE.parents[1]
 CRATES = TOP / "crates"
+# The crates whose mutants the gate tries. A crate with one is proved once more for it, so they are the ones that are cheap to prove.
+IN_THE_GATE = {"af_board", "af_listing", "af_mask", "af_role", "af_word"}
 
 
 def text_of(path):
@@ -42,6 +45,21 @@ class Repository(unittest.TestCase):
         self.assertTrue(files)
         for path in files:
             self.check(str(path.relative_to(TOP)), text_of(path), path.parents[1])
+
+    def test_the_gate_tries_those_of_cheap_crates(self):
+        files = sorted(CRATES.glob("*/must-fail/*"))
+        self.assertEqual({it.parts[-3] for it in files}, IN_THE_GATE)
+        self.assertIn(len(files), range(24, 31))
+        pages = [TOP / "CONTRIBUTING.md", *sorted((TOP / "docs").glob("*.md"))]
+        said = [(page, it) for page in pages for it in re.split(r"\n\n|\n- ", text_of(page)) if "The gate tries" in it]
+        self.assertIn(pages[0], [page for page, _ in said])
+        for page, it in said:
+            self.assertEqual(set(re.findall(r"`(af_\w+)`", it)), IN_THE_GATE, page.name)
+
+    def test_no_mutant_is_in_both_places(self):
+        for path in CRATES.glob("*/must-fail/*.edit"):
+            others = TOP / "mutants" / f"{path.parts[-3]}.edits"
+            self.assertNotIn(path.stem, edits_in(text_of(others)) if others.exists() else {}, path.parts[-3])
 
     def check(self, where, edit, folder):
         with self.subTest(where):
