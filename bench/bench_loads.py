@@ -60,8 +60,8 @@ def config(users=10, dags=3, tasks=1, asking=0, role="Viewer", variables=0):
 # ---- Requests ----------------------------------------------------------------------------------------------
 
 
-def ask(path, method="GET", body=None, asking=0):
-    head = f"{method} /api/v1{path} HTTP/1.1\r\nHost: h\r\nAuthorization: Bearer token{asking}\r\n"
+def ask(path, method="GET", body=None, asking=0, top="/api/v1"):
+    head = f"{method} {top}{path} HTTP/1.1\r\nHost: h\r\nAuthorization: Bearer token{asking}\r\n"
     if body is None:
         return f"{head}\r\n".encode()
     text = json.dumps(body, separators=(",", ":"))
