@@ -6,7 +6,7 @@ one frame.
 import json
 import os
 
-from worked_rows import MIDNIGHT, run_row
+from worked_rows import MIDNIGHT, listed, new_role, role_row, roles_alone, run_row, user_row
 
 TOP = os.path.dirname(os.path.dirname(os.path.realpath(__file__)))
 BASE = os.path.join(TOP, "examples", "base.json")
@@ -22,6 +22,14 @@ WHOLE = [
     ("shape", "[]"),
     ("admin", "{}"),
     ("pair", '{"roles":[{"name":"R","actions":[{"action":{"name":"can_read"},"resource":{"name":"Nothing"}}]}]}'),
+]
+# A role, before a user with the role Admin.
+OF_A_ROLE = [
+    *(("taken", f'"{action}"}},"resource":{{"name":"DAG Run:{rest}"') for action in ("can_create", "can_read", "can_edit", "can_delete") for rest in ("a", "not.there")),
+    ("taken", f'"can_create"}},"resource":{{"name":"DAG Run:{"d" * 250}"'),
+    ("action", '"can_fly"},"resource":{"name":"DAG Run:a b"'),
+    *(("pair", f'"can_read"}},"resource":{{"name":"{it}"') for it in ("DAG Run:", "DAG Run:a b", "DAG Run:~", "DAG Run:" + "d" * 251, "DAG run:a", "DAG Runs:a", "DAG Run")),
+    ("pair", '"can_create"},"resource":{"name":"DAG:a"'),
 ]
 # The members of a DAG of one task, each before those that are read after it.
 OF_A_DAG = [
@@ -90,7 +98,17 @@ ACCESS = [
     ("shape", '[]'),
     ("shape", '{"R":null}'),
     ("shape", '{"R":"can_read"}'),
-    ("shape", '{"R":{}}'),
+    ("taken", '{"R":{}}'),
+    ("taken", '{"R":{"DAGs":null,"DAG Runs":null}}'),
+    ("taken", '{"R":{"DAGs":["can_read","can_edit","can_delete"],"DAG Runs":["can_create","can_read","can_edit","can_delete","can_read"]},"Admin":["can_read"]}'),
+    ("taken", '{"R":{"DAGs":7,"DAGs":[]}}'),
+    ("shape", '{"R":{"Pools":["can_read"]}}'),
+    ("shape", '{"R":{"Pools":null}}'),
+    ("shape", '{"R":{"DAGs":[],"dag runs":[]}}'),
+    ("shape", '{"R":{"DAGs":"can_read"}}'),
+    ("shape", '{"R":{"DAG Runs":{}}}'),
+    ("shape", '{"R":{"DAG Runs":["can_read",null]}}'),
+    ("shape", '{"":[],"R":{"DAG Runs":["can_fly",7]}}'),
     ("shape", '{"R":["can_read",7]}'),
     ("shape", '{"R":["can_read"],"R":7}'),
     ("shape", '{"":["can_fly"],"R":[7]}'),
@@ -101,6 +119,12 @@ ACCESS = [
     ("action", '{"R":["can_create"]}'),
     ("action", '{"R":["Can_read"]}'),
     ("action", '{"Nobody":["can_read"],"R":["can_fly"]}'),
+    ("action", '{"R":{"DAGs":["can_create"]}}'),
+    ("action", '{"R":{"DAG Runs":["can_create","Can_read"]}}'),
+    ("action", '{"Nobody":{},"R":{"DAG Runs":["can_fly"]}}'),
+    ("name", '{"":{"DAG Runs":["can_fly"]}}'),
+    ("role", '{"Nobody":{"DAG Runs":["can_create"]}}'),
+    ("role", '{"Nobody":{}}'),
     ("role", '{"Nobody":["can_read"]}'),
     ("role", '{"Nobody":[]}'),
 ]
@@ -147,6 +171,7 @@ LIMITS = [
 
 FRAMES = [
     ("a configuration", "%s", WHOLE),
+    ("a role", f'{{"roles":[{{"name":"R","actions":[{{"action":{{"name":%s}}}}]}}],{ADMIN}}}', OF_A_ROLE),
     ("a DAG", f'{{{ADMIN},"dags":[{{"dag_id":"a",%s,"tasks":[{TASK}]}}]}}', OF_A_DAG),
     ("tasks", f'{{{ADMIN},"pools":[{{"name":"p","slots":1}}],"dags":[{{"dag_id":"a","tasks":[%s]}}]}}', TASKS),
     ("access control", f'{{"roles":[{{"name":"R","actions":[]}}],{ADMIN},"dags":[{{"dag_id":"a","access_control":%s,"tasks":[{TASK}]}}]}}', ACCESS),
@@ -209,8 +234,38 @@ def slots_of_an_instance(queued, running):
         return json.dumps({"config": json.load(file), "sessions": 1, "steps": steps}).encode()
 
 
+RUN_X = run_row("b", "x", MIDNIGHT)
+
+
+def published(at, asked, body, told):
+    """The step in which the only session of a trace changes the policy."""
+    method, path = asked.split(" ")
+    step = {"publish": 0, "at": at, "token": "admin", "method": method, "target": "/api/v1" + path, "body": body}
+    return [[step, {"status": 200, "version": at + 1, "seq": None, "body": told}]]
+
+
+def runs_of_one_dag(told, missing="DAG Runs.can_edit"):
+    """A trace in which bob is given the runs of b, to create and to read, and DAG a to read; what he is told of all runs, and what he is missing."""
+    pairs = "DAG:a.can_read,DAG:b.can_read,DAG:b.can_edit,DAG Run:b.can_create,DAG Run:b.can_read"
+    steps = published(0, "POST /roles", new_role("RunB", pairs), role_row("RunB", pairs))
+    steps += published(1, "PATCH /users/bob", roles_alone("RunB"), user_row("bob", "RunB"))
+    for token, asked, body, answer, seq in (
+        ("abc", "POST /dags/a/dagRuns", '{"dag_run_id":"y"}', run_row("a", "y", MIDNIGHT), 1),
+        ("foo", "POST /dags/b/dagRuns", '{"dag_run_id":"x"}', RUN_X, 2),
+        ("foo", "GET /dags/~/dagRuns", "", told, 2),
+        ("foo", "PATCH /dags/b/dagRuns/x", '{"state":"failed"}', f'{{"detail":"missing permission {missing}","status":403,"title":"Forbidden","type":"about:blank"}}', 2),
+    ):
+        look, (step, given) = act(token, asked, body, answer, seq)
+        steps += [look, [step, {**given, "status": 403 if "detail" in answer else 200, "version": 2}]]
+    with open(BASE, "rb") as file:
+        return json.dumps({"config": json.load(file), "sessions": 1, "steps": steps}).encode()
+
+
 # Traces, and how the program ends that verifies one.
 TRACES = [
+    ("the runs of one DAG", runs_of_one_dag(listed("dag_runs", 1, RUN_X)), (0, b"agrees\n", b"")),
+    ("the runs of one DAG, and a total of all", runs_of_one_dag(listed("dag_runs", 2, RUN_X)), (1, b"differs\n", b"")),
+    ("the runs of one DAG, and a denial that names it", runs_of_one_dag(listed("dag_runs", 1, RUN_X), "DAG Run:b.can_edit"), (1, b"differs\n", b"")),
     ("a queued instance's slot, and a running one's", slots_of_an_instance((1, 0), (0, 1)), (0, b"agrees\n", b"")),
     ("a queued instance's slot as a running one's", slots_of_an_instance((0, 1), (0, 1)), (1, b"differs\n", b"")),
     ("a running instance's slot as a queued one's", slots_of_an_instance((1, 0), (1, 0)), (1, b"differs\n", b"")),

@@ -30,7 +30,7 @@ FAULTS = [
         ("adam", "POST /roles", '{"name":"Viewer","actions":[{"action":{"name":"x"},"resource":{"name":null}}]}', 400, "bad member: actions", None),
         ("adam", "POST /roles", new_role("Viewer", "x.can_read,DAGs.can_fly,Pools.y"), 400, "bad action: can_fly", None),
         ("adam", "POST /roles", new_role("Viewer", "DAGs.can_read,DAG:b.can_create,x.can_read"), 400, "pair not allowed: DAG:b.can_create", None),
-        ("adam", "POST /roles", new_role("Viewer", "DAG Run:b.can_read"), 400, "pair not allowed: DAG Run:b.can_read", None),
+        ("adam", "POST /roles", new_role("Viewer", "DAG Run:a b.can_read"), 400, "pair not allowed: DAG Run:a b.can_read", None),
         ("adam", "POST /roles", new_role("Viewer", "DAG:a b.can_read"), 400, "pair not allowed: DAG:a b.can_read", None),
         ("adam", "POST /roles", new_role("Viewer", "dags.can_read"), 400, "pair not allowed: dags.can_read", None),
         ("adam", "POST /roles", new_role("Viewer", "DAG:.can_read"), 400, "pair not allowed: DAG:.can_read", None),

@@ -1,4 +1,5 @@
-"""Connections over examples/base.json whose answers were worked out by hand: roles, users, who am I, sync; and all of this kind, with event logs and faults.
+"""Connections over examples/base.json whose answers were worked out by hand: roles, users, who am I, sync; and all of this kind, with event logs, faults and
+permissions on the runs of one DAG.
 
 Their form is that of worked_cases.py.
 """
@@ -6,6 +7,7 @@ from worked_faults import FAULTS
 from worked_logs import LOGS
 from worked_rows import ADMIN, NOW, OP, USER, VIEWER
 from worked_rows import dag_row, listed, me_row, new_role, role_row, roles_alone, synced, user_row
+from worked_run_pairs import RUN_PAIRS
 
 ON = '{"is_paused":true}'
 SYNC = "POST /own/dags/b/sync"
@@ -49,7 +51,7 @@ POLICIES = [
         ("adam", SYNC, '{"access_control":{"Abe":["can_read"],"OnlyB":["can_read","x","y"]}}', 400, "bad action: x", None),
         ("adam", SYNC, '{"access_control":{"OnlyB":null}}', 400, "bad member: access_control", None),
         ("adam", SYNC, '{"access_control":{"OnlyB":"can_read"}}', 400, "bad member: access_control", None),
-        ("adam", SYNC, '{"access_control":{"OnlyB":{"DAGs":["can_read"]}}}', 400, "bad member: access_control", None),
+        ("adam", SYNC, '{"access_control":{"OnlyB":{"Pools":["can_read"]}}}', 400, "bad member: access_control", None),
         ("adam", SYNC, '{"access_control":{"OnlyB":["x"],"":["can_read"]}}', 400, "bad member: access_control", None),
         ("adam", SYNC, '{"access_control":["OnlyB"]}', 400, "bad member: access_control", None),
         ("adam", SYNC, "[]", 400, "bad body", None),
@@ -134,4 +136,4 @@ POLICIES = [
     ]),
 ]  # fmt: skip
 
-CONNECTIONS = LOGS + POLICIES + FAULTS
+CONNECTIONS = LOGS + POLICIES + FAULTS + RUN_PAIRS

@@ -74,9 +74,11 @@ class Check(unittest.TestCase):
         actions = "one of can_create, can_read, can_edit, can_delete"
         self.refused({"roles": 5}, "shape", "roles: expected a list, found an integer")
         self.refused({"roles": [role]}, "action", f'roles[0].actions[1].action.name (role "r"): expected {actions}, found "can_fly"')
-        resources = "one of DAGs, DAG Runs, Task Instances, Pools, Variables, Audit Logs, Roles, Users, or 'DAG:' and the id of a DAG (not for can_create)"
-        pair = {**PAIR, "resource": {"name": "dags"}}
-        self.refused({"roles": [{"name": "r", "actions": [pair]}]}, "pair", f'roles[0].actions[0].resource.name (role "r"): expected {resources}, found "dags"')
+        kinds = "DAGs, DAG Runs, Task Instances, Pools, Variables, Audit Logs, Roles, Users"
+        resources = f"one of {kinds}, or 'DAG:' (not for can_create) or 'DAG Run:' and the id of a DAG"
+        for resource in ("dags", "DAG Run:a b"):
+            pair = {**PAIR, "resource": {"name": resource}}
+            self.refused({"roles": [{"name": "r", "actions": [pair]}]}, "pair", f'roles[0].actions[0].resource.name (role "r"): expected {resources}, found "{resource}"')
         self.refused({"roles": [{"name": "r", "actions": [{"action": {}}]}]}, "shape", 'roles[0].actions[0].action.name (role "r"): expected a string, found nothing')
         twice = [USER, {**USER, "username": "x"}]
         self.refused({"users": twice}, "duplicate", 'users[1].token_sha256 (user "x"): expected a token that no earlier user has')
@@ -96,8 +98,16 @@ class Check(unittest.TestCase):
         self.refused(dag(retries=1.0, dag_id="a b"), "name", f'dags[1].dag_id (DAG "a b"): expected {ID}, found "a b"')
         form = "a timestamp with its offset, as 2024-01-01T00:00:00Z, from 1970 to 9998"
         self.refused(dag(schedule="@daily"), "schedule", f'dags[1].start_date (DAG "b"): expected {form}, found nothing')
-        self.refused(dag(access_control={"Viewer": "x"}), "shape", 'dags[1].access_control["Viewer"] (DAG "b"): expected a list of strings')
         self.refused(dag(access_control={"Boss": []}), "role", 'dags[1].access_control (DAG "b"): expected roles of this file or default ones, found "Boss"')
+
+    def test_access_control(self):
+        place = 'dags[1].access_control["Viewer"]'
+        self.refused(dag(access_control={"Viewer": "x"}), "shape", f'{place} (DAG "b"): expected a list of strings, or an object of DAGs and DAG Runs')
+        self.refused(dag(access_control={"Viewer": {"Pools": []}}), "shape", f'{place} (DAG "b"): expected no members but DAGs and DAG Runs, found "Pools"')
+        self.refused(dag(access_control={"Viewer": {"DAG Runs": [1]}}), "shape", f'{place}.DAG Runs (DAG "b"): expected a list of strings')
+        actions = "only can_read, can_edit, can_delete, and can_create for DAG Runs"
+        for value in (["can_create"], {"DAGs": ["can_create"], "DAG Runs": ["can_create"]}):
+            self.refused(dag(access_control={"Viewer": value}), "action", f'dags[1].access_control (DAG "b"): expected {actions}, found "can_create"')
 
     def test_tasks(self):
         self.refused(dag({"task_id": "x", "pool": "p"}), "pool", 'dags[1].tasks[0].pool (DAG "b", task "x"): expected a pool of this file or default_pool, found "p"')

@@ -6,6 +6,7 @@ them. The first that is missing though needed, or of a wrong kind or value, is t
 from oracle_config import MOST_SLOTS
 from oracle_json import read_json
 from oracle_names import instant_of, is_label, is_pool_name, is_run_id, is_task_id, is_variable_key
+from oracle_policy import OF_ONE_DAG
 
 
 class BadInput(Exception):
@@ -55,9 +56,16 @@ def is_pair(value):
     return type(value) is dict and all(is_named(lambda it: True)(value.get(it)) for it in ("action", "resource"))
 
 
+def is_listed(value):
+    """What is listed for a role: a list of texts; or an object of the two kinds and no other member, each a list of texts, null or absent."""
+    if type(value) is dict:
+        return all(kind in OF_ONE_DAG and (actions is None or list_of(is_text)(actions)) for kind, actions in value.items())
+    return list_of(is_text)(value)
+
+
 def is_access(value):
-    """An object with, for names of roles, lists of texts: neither null nor anything else stands in place of a list."""
-    return type(value) is dict and all(is_label(it) for it in value) and all(list_of(is_text)(it) for it in value.values())
+    """An object with, for names of roles, what is listed for them: neither null nor anything else stands in its place."""
+    return type(value) is dict and all(is_label(it) for it in value) and all(is_listed(it) for it in value.values())
 
 
 def instant_or_none(members, name):

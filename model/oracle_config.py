@@ -4,7 +4,7 @@ import re
 from oracle_json import json_fault, read_json
 from oracle_members import KINDS, FOUND, Refused, at, each, listed, member, name_of, need, number, quoted, read_texts
 from oracle_names import PRESETS, instant_of, is_dag_id, is_label, is_pool_name, is_task_id, is_variable_key, point_from
-from oracle_policy import ACTIONS, DAG_ACTIONS, DEFAULT_ROLES, MOST_ROLES, MOST_USERS, RESOURCES, Fault, Policy, User, is_allowed, sync_dag
+from oracle_policy import ACTIONS, DEFAULT_ROLES, MOST_ROLES, MOST_USERS, OF_ONE_DAG, ONE_DAG_ACTIONS, RESOURCES, Fault, Policy, User, is_allowed, sync_dag
 from oracle_rows import MOST_POOLS, MOST_VARIABLES
 from oracle_state import Dag, State, Task
 
@@ -19,7 +19,7 @@ RULES = [
 OUTCOMES = ["success", "failed", "skipped"]
 PRINTABLE = "1 to {} printable ASCII characters"
 DAG_ID = "1 to 250 of A-Z, a-z, 0-9, '_', '-' and '.'"
-RESOURCE = f"one of {', '.join(RESOURCES)}, or 'DAG:' and the id of a DAG (not for can_create)"
+RESOURCE = f"one of {', '.join(RESOURCES)}, or 'DAG:' (not for can_create) or 'DAG Run:' and the id of a DAG"
 
 
 # ---- Roles and users -----------------------------------------------------------------------------------------
@@ -29,22 +29,23 @@ def pair_of(row):
     return at("action", name_of, member(row, "action", dict)), at("resource", name_of, member(row, "resource", dict))
 
 
-def read_role(roles, row):
+def read_role(roles, row, having):
     name = member(row, "name", str)
     need(is_label(name), "name", "name", PRINTABLE.format(64), quoted(name))
     pairs = listed(row, "actions", pair_of)
     for n, (action, _) in enumerate(pairs):
         need(action in ACTIONS, "action", f"actions[{n}].action.name", f"one of {', '.join(ACTIONS)}", quoted(action))
     for n, (action, resource) in enumerate(pairs):
-        need(is_allowed(action, resource), "pair", f"actions[{n}].resource.name", RESOURCE, quoted(resource))
+        is_there = "run_pairs" in having or not resource.startswith("DAG Run:")
+        need(is_there and is_allowed(action, resource), "pair", f"actions[{n}].resource.name", RESOURCE, quoted(resource))
     need(name not in roles, "duplicate", "name", "a name that no default role and no earlier role has", quoted(name))
     need(len(roles) < MOST_ROLES, "limit", "", f"at most {MOST_ROLES:,} roles, the default ones counted")
     roles[name] = frozenset(pairs)
 
 
-def read_roles(config):
+def read_roles(config, having):
     roles = {name: frozenset(pairs) for name, pairs in DEFAULT_ROLES.items()}
-    each(config, "roles", "name", lambda row: read_role(roles, row))
+    each(config, "roles", "name", lambda row: read_role(roles, row, having))
     return roles
 
 
@@ -73,11 +74,23 @@ def read_users(config, roles):
     return users
 
 
+def check_listed(name, value):
+    """What is listed for a role: a list of texts, or an object of two kinds, each a list of texts, null or absent."""
+    lists = {"": value}
+    if type(value) is dict:
+        for kind in value:
+            need(kind in OF_ONE_DAG, "shape", f"access_control[{quoted(name)}]", f"no members but {' and '.join(OF_ONE_DAG)}", quoted(kind))
+        lists = {f".{kind}": actions for kind, actions in value.items() if actions is not None}
+    for kind, actions in lists.items():
+        expected = "a list of strings" if kind else f"a list of strings, or an object of {' and '.join(OF_ONE_DAG)}"
+        need(type(actions) is list and all(type(it) is str for it in actions), "shape", f"access_control[{quoted(name)}]{kind}", expected)
+
+
 def sync_row(policy, row):
     """The policy after the `access_control` of a DAG."""
     access = member(row, "access_control", dict, required=False)
-    for name, actions in (access or {}).items():
-        need(type(actions) is list and all(type(it) is str for it in actions), "shape", f"access_control[{quoted(name)}]", "a list of strings")
+    for name, value in (access or {}).items():
+        check_listed(name, value)
     for it in access or {}:
         need(is_label(it), "name", "access_control", f"names of roles, {PRINTABLE.format(64)} each", quoted(it))
     try:
@@ -85,7 +98,7 @@ def sync_row(policy, row):
     except Fault as why:
         fault, it = why.args
         if fault == "bad action":
-            raise Refused("action", "access_control", f"only {', '.join(DAG_ACTIONS)}", quoted(it)) from why
+            raise Refused("action", "access_control", f"only {', '.join(ONE_DAG_ACTIONS['DAGs'])}, and can_create for DAG Runs", quoted(it)) from why
         raise Refused("role", "access_control", "roles of this file or default ones", quoted(it)) from why
 
 
@@ -93,8 +106,8 @@ def read_access(config, policy):
     """The policy after the `access_control` of each DAG, which is version 0.
 
     It is read after all DAGs, and they are taken in the order of the file, each as if it were synced: of one, that it is an object, and each of its
-    members a list of texts (`shape`), comes before the names of its roles (`name`), these before the actions (`action`), and these before the roles that
-    are not there (`role`). The roles are those of the policy, so a default one may stand here too.
+    members a list of texts or an object of such lists (`shape`), comes before the names of its roles (`name`), these before the actions (`action`), and
+    these before the roles that are not there (`role`). The roles are those of the policy, so a default one may stand here too.
     """
     after = [policy]
     each(config, "dags", "dag_id", lambda row: after.append(sync_row(after[-1], row)))
@@ -233,7 +246,7 @@ def read_config(data, having):
 def read_value(config, having):
     """The same of a value that was read already."""
     need(type(config) is dict, "shape", "", KINDS[dict], FOUND[type(config)])
-    roles = read_roles(config)
+    roles = read_roles(config, having)
     policy = Policy(roles, read_users(config, roles))
     pools = read_pools(config)
     variables = read_variables(config) if "variables" in having else {}

@@ -31,7 +31,11 @@ class Call:
     input: object = None
 
     def reads(self, dag_id):
-        return policies.meets(self.granted, READ, DAGS, dag_id, [])
+        return policies.reads(self.granted, dag_id)
+
+    def reads_runs(self, dag_id):
+        """Whether the user may see rows of the DAG's runs, and of their instances: who reads the runs and not the DAG sees none."""
+        return self.reads(dag_id) and policies.meets(self.granted, READ, RUNS, dag_id, [])
 
     def page(self, name, rows, show):
         """A listing of the rows that the user may see: so many are passed over, then so many shown, and all are counted."""
@@ -66,7 +70,7 @@ def list_runs(call):
 
 
 def list_all_runs(call):
-    return call.state, call.page("dag_runs", [it for it in call.state.runs if call.reads(it.dag_id)], states.show_run)
+    return call.state, call.page("dag_runs", [it for it in call.state.runs if call.reads_runs(it.dag_id)], states.show_run)
 
 
 def trigger_run(call):

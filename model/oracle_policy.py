@@ -5,7 +5,7 @@ of role names by name. No two users have one digest, every role that a user name
 
 The faults of a change are tested in this order, whatever the order of the body's members, and the first that applies is told:
 
-1. an action that there is not, the first in the body (of a sync by name of role, and then in the role's list);
+1. an action that there is not, the first in the body (of a sync by name of role, then by name of kind, and then in the list);
 2. a pair that no role may have, the first in the body;
 3. a role that is named and is not there, the first in the body (of a sync by name);
 4. the role or the user that is changed or deleted is not there;
@@ -21,8 +21,10 @@ from functools import cached_property
 from oracle_names import is_dag_id
 
 ACTIONS = ["can_create", "can_read", "can_edit", "can_delete"]
-DAG_ACTIONS = ["can_read", "can_edit", "can_delete"]
 RESOURCES = ["DAGs", "DAG Runs", "Task Instances", "Pools", "Variables", "Audit Logs", "Roles", "Users"]
+# What may be permitted on one DAG alone: the kind, how the resource begins that ends in the DAG's id, and the actions there are on it.
+OF_ONE_DAG = {"DAGs": "DAG:", "DAG Runs": "DAG Run:"}
+ONE_DAG_ACTIONS = {"DAGs": ACTIONS[1:], "DAG Runs": ACTIONS}
 # Public may do nothing; Viewer reads DAGs, their runs and instances; User also edits and deletes these, and creates runs and instances; Op also has
 # all of pools and variables, and reads the event logs; Admin also has all of roles and users.
 VIEWER = {("can_read", it) for it in ("DAGs", "DAG Runs", "Task Instances")}
@@ -59,18 +61,30 @@ class Policy:
         return set().union(*(self.roles[it] for it in self.users[user].roles))
 
 
+def reads(granted, dag_id):
+    return meets(granted, "can_read", "DAGs", dag_id, [])
+
+
 def meets(granted, action, resource, dag_id, dags):
     """Whether a requirement is met.
 
-    One on DAGs is met by that action on `DAGs`; where it is at one DAG, also by the action on that DAG; where it names none, also by the action on some
-    DAG that is there. Any other requirement is met by just that permission.
+    Each is met by that action on that resource as a whole. One on DAGs, or on the runs of DAGs, that is at one DAG is met also by the action on that DAG, or
+    on its runs. One on DAGs that names none is met also by the action on some DAG that is there; one on runs that names none also by the action on the runs
+    of some DAG that is there and that the user reads.
     """
-    if resource != "DAGs" or (action, "DAGs") in granted:
-        return (action, resource) in granted
-    return any((action, "DAG:" + it) in granted for it in ([dag_id] if dag_id else dags))
+    if (action, resource) in granted:
+        return True
+    if resource not in OF_ONE_DAG:
+        return False
+    if dag_id:
+        dags = [dag_id]
+    elif resource == "DAG Runs":
+        dags = [it for it in dags if reads(granted, it)]
+    return any((action, OF_ONE_DAG[resource] + it) in granted for it in dags)
 
 
 def permission_text(action, resource, dag_id):
+    """A denial on runs names `DAG Runs`, also where it is at one DAG."""
     return f"DAG:{dag_id}.{action}" if resource == "DAGs" and dag_id else f"{resource}.{action}"
 
 
@@ -78,9 +92,10 @@ def permission_text(action, resource, dag_id):
 
 
 def pair_order(pair):
-    """Pairs are shown in the order of resources, those of single DAGs last, by id; of one resource in the order of actions."""
+    """Pairs are shown in the order of resources, then those of single DAGs by id, then those of the runs of single DAGs by id; of one resource in the order
+    of actions."""
     action, resource = pair
-    place = RESOURCES.index(resource) if resource in RESOURCES else len(RESOURCES)
+    place = RESOURCES.index(resource) if resource in RESOURCES else len(RESOURCES) + resource.startswith("DAG Run:")
     return place, resource, ACTIONS.index(action)
 
 
@@ -104,9 +119,10 @@ def show_me(policy, version, name):
 
 
 def is_allowed(action, resource):
-    """Whether a role may have the pair: on one of the eight resources, or on one DAG, there or not, where nothing is created."""
-    if resource.startswith("DAG:") and is_dag_id(resource[4:]):
-        return action != "can_create"
+    """Whether a role may have the pair: on one of the eight resources, or on one DAG or its runs, there or not; a single DAG is not created."""
+    for kind, begin in OF_ONE_DAG.items():
+        if resource.startswith(begin) and is_dag_id(resource[len(begin) :]):
+            return action in ONE_DAG_ACTIONS[kind]
     return resource in RESOURCES
 
 
@@ -203,23 +219,30 @@ def drop_user(policy, name):
     return replace(policy, users=users)
 
 
-def sync_dag(policy, dag_id, access):
-    """What each role may do on one DAG, which need not be there.
+def lists_of(value):
+    """What is listed for a role: of each kind its actions. A list alone is one of actions on the DAG; in an object a kind that is null is not listed."""
+    return {"DAGs": value} if type(value) is list else {kind: actions for kind, actions in value.items() if actions is not None}
 
-    Where nothing is listed (none), all stays as it is. Else each role but Admin loses the pairs on this DAG, and then each role, Admin too, gets those that
-    are listed for it: an empty list or no list takes away. The action on `DAGs` as a whole is left to the roles that have it.
+
+def sync_dag(policy, dag_id, access):
+    """What each role may do on one DAG and on its runs; the DAG need not be there.
+
+    Where nothing is listed (none), all stays as it is. Else each role but Admin loses the pairs on this DAG and those on its runs, whatever the kinds that are
+    listed, and then each role, Admin too, gets those that are listed for it: an empty list or no list takes away. The actions on `DAGs` and on `DAG Runs` as
+    a whole are left to the roles that have them.
     """
     if access is None:
         return policy
-    listed = sorted(access.items())
-    for _, actions in listed:
-        for it in actions:
-            if it not in DAG_ACTIONS:
-                raise Fault("bad action", it)
-    check_roles_there(policy, [name for name, _ in listed])
-    own = "DAG:" + dag_id
-    roles = {
-        name: frozenset(it for it in pairs if name == "Admin" or it[1] != own) | {(it, own) for it in access.get(name, [])}
-        for name, pairs in policy.roles.items()
-    }
+    listed = {name: lists_of(value) for name, value in sorted(access.items())}
+    for lists in listed.values():
+        for kind, actions in sorted(lists.items()):
+            for it in actions:
+                if it not in ONE_DAG_ACTIONS[kind]:
+                    raise Fault("bad action", it)
+    check_roles_there(policy, listed)
+    own = {kind: begin + dag_id for kind, begin in OF_ONE_DAG.items()}
+    roles = {}
+    for name, pairs in policy.roles.items():
+        kept = {it for it in pairs if name == "Admin" or it[1] not in own.values()}
+        roles[name] = frozenset(kept | {(it, own[kind]) for kind, actions in listed.get(name, {}).items() for it in actions})
     return replace(policy, roles=roles)

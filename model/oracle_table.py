@@ -101,8 +101,8 @@ def required_on(resource):
 
 
 # Names for sets of names: operations, members of the configuration that are read, and what else a program may have: `pages`, the reading of `limit`
-# and `offset`; `full_history` and `full_versions`, that the limits of the configuration are obeyed; `verify`, that traces are verified; `serve`,
-# that the words of a server are known.
+# and `offset`; `full_history` and `full_versions`, that the limits of the configuration are obeyed; `run_pairs`, that a role of the configuration may have
+# pairs on the runs of single DAGs; `verify`, that traces are verified; `serve`, that the words of a server are known.
 GROUPS = {
     "dags": required_on(DAGS) - {"backfill"},
     "backfill": {"backfill"},
@@ -111,7 +111,7 @@ GROUPS = {
     "limits": {"history_limit", "version_limit"},
     "pages": {"pages"},
     "audit": {"list_entries", "full_history"},
-    "policy": {it.name for it in OPERATIONS if it.on_policy} | {"access_control", "full_versions"},
+    "policy": {it.name for it in OPERATIONS if it.on_policy} | {"access_control", "full_versions", "run_pairs"},
 }
 GROUPS["baseline"] = set().union(*(GROUPS[it] for it in GROUPS if it not in ("backfill", "policy")))
 GROUPS.update({it: {it} for it in ("verify", "serve")})
