@@ -142,7 +142,7 @@ class Random:
 
     def case(self, n):
         if n % 20 == 0:
-            made, self.tokens = config_cases.good(self.rng)
+            made, self.tokens = config_cases.good(self.rng, self.has)
             self.good = config_cases.written(self.rng, made)
         long = self.operations if "set_user" not in self.has else self.replayed if n % 8 == 6 and {"list_entries", "pages"} <= self.has else self.mixed
         traces = "verify" in self.has and n % 8 == 3
@@ -154,7 +154,7 @@ class Random:
 
     def configuration(self, name):
         data = request_cases.list_request(self.rng.choice(config_cases.TOKENS))
-        self.it.case(name, self.write(config_cases.faulty(self.rng, lambda made: policy_cases.add_fault(self.rng, made))), data)
+        self.it.case(name, self.write(config_cases.faulty(self.rng, self.has, lambda made: policy_cases.add_fault(self.rng, made))), data)
 
     def hostile(self, name):
         self.it.case(name, self.write(self.good), request_cases.connection(self.rng, self.tokens))

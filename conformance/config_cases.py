@@ -29,10 +29,13 @@ def user_row(name, token, *roles):
     return {"username": name, "roles": [{"name": it} for it in roles], "token_sha256": digest}
 
 
-def pair(rng):
-    if rng.random() < 0.6:
-        return rng.choice(["can_read", "can_read", "can_edit", "can_delete"]), "DAG:" + rng.choice([*DAG_IDS[:6], "gone"])
-    return rng.choice(["can_create", "can_read", "can_edit", "can_delete"]), rng.choice(RESOURCES)
+def pair(rng, has):
+    chance, actions = rng.random(), ["can_create", "can_read", "can_edit", "can_delete"]
+    if chance < 0.2 and "run_pairs" in has:
+        return rng.choice([*actions, "can_read"]), "DAG Run:" + rng.choice([*DAG_IDS[:6], "gone"])
+    if chance < 0.6:
+        return rng.choice([*actions[1:], "can_read"]), "DAG:" + rng.choice([*DAG_IDS[:6], "gone"])
+    return rng.choice(actions), rng.choice(RESOURCES)
 
 
 def task_rows(rng, pools):
@@ -58,9 +61,9 @@ def variable_rows(rng):
     return [{"key": it, "value": rng.choice(VALUES)} for it in keys] or rng.choice([None, []])
 
 
-def good(rng):
+def good(rng, has):
     """A configuration that is accepted, and the tokens that its users have."""
-    roles = [role_row(it, *[pair(rng) for _ in range(rng.randint(0, 4))]) for it in rng.sample(NAMES, rng.randint(0, 5))]
+    roles = [role_row(it, *[pair(rng, has) for _ in range(rng.randint(0, 4))]) for it in rng.sample(NAMES, rng.randint(0, 5))]
     known = ["Public", "Viewer", "User", "Op", "Admin"] + [it["name"] for it in roles]
     own = [it["name"] for it in roles] * 3
     tokens = rng.sample(TOKENS, rng.randint(2, 8))
@@ -112,7 +115,8 @@ def role_fault(rng, row):
     elif which == "actions":
         row["actions"] = wrong(rng, role_row("", ("can_fly", "DAGs"))["actions"], role_row("", ("can_fly", "x"), ("can_read", "x"))["actions"])
     elif which == "one":
-        resources = ["Can_read", "dags", "DAG:", "DAG:a b", "DAG", "DAG: a", "DAG:" + "x" * 251, "DAG Run:a", "", "DAG:\u00e9", "Connections"]
+        resources = ["Can_read", "dags", "DAG:", "DAG:a b", "DAG", "DAG: a", "DAG:" + "x" * 251, "", "DAG:\u00e9", "Connections"]
+        resources += ["DAG Run:a", "DAG Run:", "DAG Run:a b", "DAG run:a", "DAG Runs:a", "DAG Run:" + "x" * 251]
         row["actions"] = role_row("", rng.choice([("can_create", "DAG:a"), ("", "DAGs"), ("CAN_READ", "DAGs"), ("can_read", rng.choice(resources))]))["actions"]
     else:
         row.pop(rng.choice(sorted(row)), None)
@@ -206,9 +210,9 @@ def dag_fault(rng, row):
         row.pop(rng.choice(sorted(row)), None)
 
 
-def faulty(rng, spoil=None):
+def faulty(rng, has, spoil=None):
     """A configuration with one or two faults (now and then the change is none); `spoil` may put one into it too."""
-    config, _ = good(rng)
+    config, _ = good(rng, has)
     config = copy.deepcopy(config)
     if rng.random() < 0.2:
         text = written(rng, config)

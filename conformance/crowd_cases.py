@@ -43,7 +43,7 @@ def config(now):
     rules = [{"task_id": it, "upstream": ["t"], "trigger_rule": rule} for it, rule in (("x", "one_failed"), ("y", "all_done"), ("z", "none_failed"))]
     return json.dumps({
         "roles": [
-            role_row("own0", *pairs("DAG:b", "DAG Runs", "Task Instances"), ("can_edit", "DAG:b"), ("can_create", "DAG Runs")),
+            role_row("own0", *pairs("DAG:b", "DAG:_", "DAG Run:b", "Task Instances"), ("can_edit", "DAG:b"), ("can_create", "DAG Run:b"), ("can_edit", "DAG Run:b")),
             role_row("own1", *pairs("DAG:a", "DAG:a.b", "DAG Runs", "Pools"), ("can_edit", "Pools"), ("can_create", "Pools")),
             role_row("own2", *pairs("DAG:_", "Audit Logs", "Variables"), ("can_create", "Variables"), ("can_delete", "Variables")),
             role_row("Auditor", *pairs("Audit Logs", "DAG:a", "DAG:b")),

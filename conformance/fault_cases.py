@@ -19,8 +19,10 @@ LISTS = [*OTHERS, [{}], [None], [[]], ["x"], [{"name": None}], [{"name": 1}], [{
 ACTIONS = ["can_create", "can_read", "can_edit", "can_delete", "can_fly", "", "Can_read", "can_read "]
 RESOURCES = [
     *["DAGs", "DAG Runs", "Task Instances", "Pools", "Variables", "Audit Logs", "Roles", "Users"],
-    *["DAG:b", "DAG:not.there", "DAG:" + "d" * 250, "DAG:" + "d" * 251, "DAG:", "DAG:a b", "DAG:~", "DAG: b", "DAG Run:b", "dags", "", "DAG", "Connections", 'x"\n', "\u00e9"],
+    *(f"{kind}:{rest}" for kind in ("DAG", "DAG Run") for rest in ("b", "not.there", "d" * 250, "d" * 251, "", "a b", "~", " b")),
+    *["dags", "", "DAG", "DAG Run", "DAG run:b", "DAG Runs:b", "Connections", 'x"\n', "\u00e9"],
 ]
+KINDS = ["DAGs", "DAG Runs"]
 
 
 def asked(method, path, body=None, token=b"admin"):
@@ -125,6 +127,12 @@ ACCESS = [
     *[{it: ["can_read"]} for it in LABELS],
     *[{"OnlyB": ["can_read", "x", "y"]}, {"Zed": ["x"], "Abe": ["y"]}, {"Zed": ["can_read"], "Abe": ["can_read"]}, {"Zed": ["can_read"], "OnlyB": ["x"]}],
     *[{"OnlyB": ["x"], "": ["can_read"]}, {"OnlyB": ["x"], "Viewer": None}, {"Nobody": [], "OnlyB": ["can_create"]}, {"OnlyB": {"DAGs": ["can_read"]}}],
+    *[{"OnlyB": {}}, {"OnlyB": {it: None for it in KINDS}}, {"OnlyB": {it: ["can_delete", "can_read"] for it in KINDS}, "Admin": {"DAG Runs": ["can_edit"]}, "EditB": ["can_edit"]}],
+    *[{"OnlyB": {kind: it}} for kind in KINDS for it in OTHERS],
+    *[{"OnlyB": {kind: [it]}} for kind in KINDS for it in [*ACTIONS, *OTHERS]],
+    *[{"OnlyB": {it: []}} for it in (*RESOURCES[2:9], "dags", "DAG", "DAG Run", "DAG runs", "")],
+    *[{"OnlyB": {"DAGs": ["can_read"], "Pools": None}}, {"OnlyB": {"DAGs": ["x"], "DAG Runs": ["y"]}}, {"OnlyB": {"DAGs": ["x"], "DAG Runs": ["can_create", "can_read"]}}],
+    *[{"Zed": {"DAG Runs": ["x"]}, "Abe": ["y"]}, {"Abe": {}, "OnlyB": {"DAG Runs": ["x"]}}, {"Abe": {}, "OnlyB": {"DAG Runs": ["can_read"]}}, {"": {}}],
     *[{**{f"Z{it}": ["can_read"] for it in range(count, 0, -1)}, **more} for count in (3, 7, 8, 9, 40) for more in ({}, {"OnlyB": ["x"]}, {"Abe": [], "": []})],
 ]
 

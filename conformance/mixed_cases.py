@@ -7,6 +7,7 @@ import hashlib
 import json
 
 import oracle
+import policy_cases
 import replay
 import state_cases
 from body_cases import BAD_BODIES, OTHERS, part
@@ -23,12 +24,13 @@ NEW_ROLES = ["new", "A b", "~", "%zz", '"\\', "a/b", "r" * 64]
 NEW_USERS = ["ann", "A b", '"', "%41", "ann2", "u" * 64, "{role_name}"]
 ACTIONS = ["can_create", "can_read", "can_edit", "can_delete"]
 BAD_ACTIONS = ["can_fly", "", "Can_read", "can_read ", "\u00e9\n"]
-BAD_RESOURCES = ["dags", "DAG:", "DAG:a b", "DAG Run:a", "", "Connections", 'x"']
+BAD_RESOURCES = ["dags", "DAG:", "DAG:a b", "DAG Run:", "DAG Run:a b", "DAG run:a", "", "Connections", 'x"']
 BAD_LABELS = ["", "\u00e9", "n" * 65, "\x7f", *OTHERS]
 BAD_PAIRS = [*OTHERS[1:], [{"action": {"name": "can_fly"}}], [{"action": {"name": "can_read"}, "resource": {"name": None}}], [["can_read", "DAGs"]]]
 BAD_NAMES = [*OTHERS[1:], ["Viewer"], [{"name": "Viewer"}, {"name": ""}], [{"name": "nobody"}, {"name": "\u00e9"}], {"name": "Viewer"}]
 BAD_DIGESTS = ["0" * 63, "0" * 65, "g" * 64, *OTHERS]
-BAD_ACCESS = [[], "x", 1, False, {"Viewer": None}, {"Viewer": "can_read"}, {"Viewer": {"DAGs": []}}, {"": ["can_read"]}, {"\u00e9": []}, {"Viewer": [1]}, {"n" * 65: ["x"]}]
+BAD_ACCESS = [[], "x", 1, False, {"Viewer": None}, {"Viewer": "can_read"}, {"Viewer": {"Pools": []}}, {"": ["can_read"]}, {"\u00e9": []}, {"Viewer": [1]}, {"n" * 65: ["x"]}]
+BAD_ACCESS += [{"Viewer": {"DAG Runs": it}} for it in ("can_read", [1], {}, False)] + [{"": {}}, {"Viewer": {"DAGs": ["x"], "runs": []}}]
 # How often each operation is asked for; once where nothing is said.
 WEIGHTS = {
     **{"add_role": 4, "set_role": 4, "drop_role": 4, "add_user": 5, "set_user": 8, "drop_user": 3, "sync": 6, "me": 6, "list_entries": 6},
@@ -111,8 +113,8 @@ class Mixer:
         rng, dags = self.rng, [*sorted(self.plane.state.dags), "gone"]
         found = []
         for _ in range(rng.choice([0, 1, 2, 4, 8])):
-            one = rng.random() < 0.5
-            found.append((rng.choice(ACTIONS[1:] if one else ACTIONS), "DAG:" + rng.choice(dags) if one else rng.choice(RESOURCES)))
+            kind = rng.choice(["DAG:", "DAG Run:", "", ""])
+            found.append((rng.choice(ACTIONS[kind == "DAG:" :]), kind + rng.choice(dags) if kind else rng.choice(RESOURCES)))
         if self.chance(0.1):
             found.insert(rng.randint(0, len(found)), (rng.choice(BAD_ACTIONS), rng.choice(RESOURCES + BAD_RESOURCES)))
         if self.chance(0.1):
@@ -154,13 +156,16 @@ class Mixer:
         return self.spoiled(body, {"username": BAD_LABELS, "roles": BAD_NAMES, "token_sha256": BAD_DIGESTS})
 
     def access(self):
-        """What roles may do on a DAG; now and then with an action or a role that is not there, or both."""
+        """What roles may do on a DAG and its runs; now and then with an action or a role that is not there, or both."""
         rng = self.rng
-        found = {it: rng.choices(ACTIONS[1:], k=rng.randint(0, 3)) for it in self.some_roles(3)}
+        found = {it: policy_cases.listed(rng) for it in self.some_roles(3)}
         if self.chance(0.1):
-            found[rng.choice(["Abe", "Zed", "nobody"])] = rng.choice([[], ["can_read"], ["can_create"], ["x", "can_edit"]])
+            found[rng.choice(["Abe", "Zed", "nobody"])] = rng.choice([[], ["can_read"], ["can_create"], ["x", "can_edit"], {}, {"DAG Runs": ["can_create"]}])
         if found and self.chance(0.1):
-            found[rng.choice(sorted(found))].insert(0, rng.choice(["can_create", *BAD_ACTIONS]))
+            lists = found[rng.choice(sorted(found))]
+            lists = lists if type(lists) is list else lists.setdefault(rng.choice(["DAGs", "DAG Runs"]), [])
+            if lists is not None:
+                lists.insert(0, rng.choice(["can_create", *BAD_ACTIONS]))
         shuffled = dict(rng.sample(sorted(found.items()), len(found)))
         return self.spoiled({"access_control": shuffled} if self.chance(0.9) else {}, {"access_control": BAD_ACCESS})
 
@@ -192,13 +197,16 @@ class Mixer:
         return b"?" + b"&".join(rng.sample(page, rng.randint(1, 2)))
 
     def token(self, operation, meant):
-        """The token of one who may do it, of anyone, or of nobody."""
+        """The token of one who may do it, now and then by as few permissions on whole kinds as may be; of anyone, or of nobody."""
         rng, users = self.rng, self.policy().users
         if self.chance(0.06 + self.wild / 4):
             held = {it.digest for it in users.values()}
             return rng.choice([None, b"nope", *(it for key, it in self.tokens.items() if key not in held)])
         known = self.known()
-        able = [it for it in known if permitted(self.plane, operation, meant, it)[2] is None]
+        able = {it: granted for it in known for _, granted, denied in [permitted(self.plane, operation, meant, it)] if denied is None}
+        if able and self.chance(0.25):
+            return min(able, key=lambda it: sum(resource in RESOURCES for _, resource in able[it]))
+        able = list(able)
         return rng.choice(able if able and self.chance(0.75) else known or [b"nope"])
 
     def ask(self, method, target, token, body):

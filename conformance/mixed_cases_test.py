@@ -13,7 +13,7 @@ import oracle
 import state_cases
 from oracle_names import instant_of
 from oracle_table import OPERATIONS, having, route
-from oracle_verdict import decide
+from oracle_verdict import decide, permitted
 
 FAULTS = [
     *["bad body", "bad action", "pair not allowed", "unknown role", "bad parameter", "authentication required", "missing permission"],
@@ -27,11 +27,14 @@ class Watched:
     """Counts what each decided request was answered."""
 
     def __init__(self):
-        self.done, self.faults, self.shown = collections.Counter(), collections.Counter(), collections.Counter()
+        self.done, self.faults, self.shown, self.by_runs = collections.Counter(), collections.Counter(), collections.Counter(), collections.Counter()
 
     def decide(self, plane, method, target, token, body):
+        operation, parts = route(target.partition(b"?")[0], method, plane.has)
+        granted = permitted(plane, operation, parts, token)[1] if operation else None
         status, told, fields = decide(plane, method, target, token, body)
-        operation, _ = route(target.partition(b"?")[0], method, plane.has)
+        if status[:1] == "2" and any(resource == "DAG Runs" and (action, resource) not in granted for action, resource in getattr(operation, "needs", ())):
+            self.by_runs["all" if "{~}" in operation.path else operation.name] += 1
         if operation and status[:1] == "2":
             self.done[operation.name] += 1
             self.shown[operation.name] += len(told.get("event_logs", ())) if told else 0
@@ -59,6 +62,8 @@ class Mixed(unittest.TestCase):
         for it in FAULTS:
             self.assertGreater(watched.faults[it], 0, it)
         self.assertGreater(watched.shown["list_entries"], 100)
+        for it in ("all", "list_runs", "trigger_run", "show_run", "mark_run", "delete_run", "clear_run"):
+            self.assertGreater(watched.by_runs[it], 0, f"{it}, by the runs of one DAG")
 
     def test_the_plane_beside(self):
         """The plane by which a connection is made ends as one that is asked the connection's bytes."""

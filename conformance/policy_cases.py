@@ -8,9 +8,9 @@ from body_cases import members, needed
 
 ROLE_NAMES = ["own0", "own1", "own2", "new", "A b", "Viewer", "Admin", "Public", "Nobody", "~", "%zz"]
 USER_NAMES = ["op", "uma", "o0", "o1", "new", "A b", "nobody", '"', "vi"]
-RESOURCES = [*config_cases.RESOURCES, "DAG:a", "DAG:b", "DAG:a.b", "DAG:gone"]
+RESOURCES = [*config_cases.RESOURCES, *(f"{kind}:{it}" for kind in ("DAG", "DAG Run") for it in ("a", "b", "a.b", "gone"))]
 ACTIONS = ["can_create", "can_read", "can_edit", "can_delete"]
-BAD_PAIRS = [("can_fly", "DAGs"), ("can_create", "DAG:a"), ("can_read", "DAG Run:a"), ("can_read", "dags"), ("", "x"), ("can_read", "DAG:a b")]
+BAD_PAIRS = [("can_fly", "DAGs"), ("can_create", "DAG:a"), ("can_read", "dags"), ("", "x"), ("can_read", "DAG:a b"), ("can_create", "DAG Run:a b"), ("can_fly", "DAG Run:a")]
 BAD_LISTS = ["x", [1], [None], [{}], [{"name": 1}], [{"name": None}], {}, [{"action": {"name": "can_read"}}], [["can_read", "DAGs"]]]
 TOKENS = [b"root-token", b"uma-token", b"o0-token", b"fresh", b"later"]
 DIGESTS = [hashlib.sha256(it).hexdigest() for it in TOKENS] + [hashlib.sha256(b"fresh").hexdigest().upper()]
@@ -33,12 +33,27 @@ def role_list(rng):
 BAD_ROLE_LISTS = [[{"name": "nobody"}], [{"name": "Viewer"}, {"name": "none"}, {"name": "nobody"}], [{"name": ""}], [{"name": "r" * 65}], [{"name": "\u00e9"}], *BAD_LISTS]
 
 
+def listed(rng):
+    """What a sync lists for a role: actions on the DAG, or on the DAG and its runs; now and then one of the two, null, or none."""
+    on_dag, on_runs = rng.choices(ACTIONS[1:], k=rng.randint(0, 3)), rng.choices(ACTIONS, k=rng.randint(0, 4))
+    if rng.random() < 0.5:
+        return on_dag
+    found = {kind: rng.choice([actions] * 5 + [None]) for kind, actions in (("DAGs", on_dag), ("DAG Runs", on_runs)) if rng.random() < 0.8}
+    return dict(rng.sample(sorted(found.items()), len(found)))
+
+
+BAD_LISTED = [
+    *[["can_create"], ["x", "can_read"], [], None, "can_read", {}, [1], 3, {"Pools": ["can_read"]}, {"DAGs": ["can_read"], "dag runs": None}, {"DAGs": {}}, {"DAG Runs": [1]}],
+    *[{"DAGs": ["can_create"], "DAG Runs": ["can_create"]}, {"DAGs": ["x"], "DAG Runs": ["y"]}, {"DAG Runs": "can_read", "DAGs": ["x"]}, {"DAG Runs": ["can_fly"]}],
+]
+
+
 def access(rng, wild):
-    """What each role may do on one DAG."""
+    """What each role may do on one DAG and on its runs."""
     names = rng.sample(ROLE_NAMES[:8], rng.randint(0, 3))
-    found = {it: rng.choices(ACTIONS[1:], k=rng.randint(0, 3)) for it in names}
+    found = {it: listed(rng) for it in names}
     if rng.random() < wild:
-        found[rng.choice(["Zed", "Abe", "own0", "", "\u00e9", "n" * 65])] = rng.choice([["can_create"], ["x", "can_read"], [], None, "can_read", {}, {"DAGs": ["can_read"]}, [1], 3])
+        found[rng.choice(["Zed", "Abe", "own0", "", "\u00e9", "n" * 65])] = rng.choice(BAD_LISTED)
     return found
 
 
@@ -79,9 +94,13 @@ MAKERS = [
 ]
 
 
-def own_role(rng, name, dags):
-    """A role that may do something on some of the DAGs, and on the rows of some kinds."""
+def own_role(rng, name, dags, has):
+    """A role that may do something on some of the DAGs and their runs, and on the rows of some kinds."""
     found = [(rng.choice(ACTIONS[1:]), "DAG:" + rng.choice(dags)) for _ in range(rng.randint(1, 4))]
+    if "run_pairs" in has:
+        found += [(rng.choice(ACTIONS), "DAG Run:" + rng.choice([it.partition(":")[2] for _, it in found] + dags)) for _ in range(rng.randint(0, 4))]
+        one = rng.choice(dags)
+        found += [*((it, f"DAG:{one}") for it in ("can_read", "can_edit")), *((it, f"DAG Run:{one}") for it in rng.sample(ACTIONS, 3))] * (rng.random() < 0.5)
     found += [(rng.choice(ACTIONS), rng.choice(config_cases.RESOURCES[1:])) for _ in range(rng.randint(0, 8))]
     found += [("can_read", it) for it in ("DAG Runs", "Task Instances") if rng.random() < 0.5]
     return config_cases.role_row(name, *found)
@@ -102,7 +121,7 @@ def add_members(rng, made, has):
             made[name] = rng.choice(odd)
     for row in made["dags"]:
         if "access_control" in has and rng.random() < 0.3:
-            row["access_control"] = rng.choice([None, {}, {it: rng.choices(ACTIONS[1:], k=rng.randint(0, 3)) for it in rng.sample(names, min(len(names), 2))}])
+            row["access_control"] = rng.choice([None, {}, *[{it: listed(rng) for it in rng.sample(names, min(len(names), 2))}] * 2])
         elif "access_control" not in has and rng.random() < 0.1:
             row["access_control"] = rng.choice(odd)
 
@@ -116,7 +135,7 @@ def add_fault(rng, made):
     elif which == "limits":
         config_cases.limit_fault(rng, made)
     elif isinstance(made.get("dags"), list) and made["dags"] and isinstance(row := rng.choice(made["dags"]), dict):
-        row["access_control"] = rng.choice([access(rng, 1), access(rng, 1), [], "x", {"Viewer": {"DAGs": []}}, {"": 1}, {"": ["x"]}, {"nobody": ["can_fly"]}])
+        row["access_control"] = rng.choice([access(rng, 1), access(rng, 1), [], "x", {"Viewer": {"Pools": []}}, {"Viewer": {"DAG Runs": ["can_read", 1]}}, {"": 1}, {"": ["x"]}, {"nobody": ["can_fly"]}])
 
 
 def fixed_full():

@@ -8,7 +8,7 @@ ROOT = os.path.dirname(os.path.dirname(os.path.realpath(__file__)))
 EXAMPLES, OUT = os.path.join(ROOT, "examples"), os.path.join(ROOT, "conformance", "out")
 INPUTS = [("base.json", "viewer.http"), ("team.json", "one-team.http"), ("team.json", "denied.http"), ("team.json", "wrong-token.http"), ("base.json", "pause.http"), ("team.json", "morning.http")]
 INPUTS += [("daily.json", "backfill.http")] + [("team.json", it) for it in ("everything.http", "pools.http", "variables.http", "audit.http", "policies.http")]
-PAIRS = [("DAGs", "can_read"), ("DAG:b", "can_edit"), ("DAG:not.there", "can_delete"), ("DAG Runs", "can_create"), ("DAGs", "can_read")]
+PAIRS = [("DAGs", "can_read"), ("DAG Run:b", "can_create"), ("DAG:b", "can_edit"), ("DAG:not.there", "can_delete"), ("DAG Runs", "can_create"), ("DAGs", "can_read")]
 ROLE_Y = '{"name":"Y","actions":[%s]}' % ",".join('{"action":{"name":"%s"},"resource":{"name":"%s"}}' % (action, resource) for resource, action in PAIRS)
 # Changes over base.json, of each kind one or more, after what has to stand before them; what they do is looked at, and they are asked for again. Of
 # one kind the last is the one that is done before others. Where a DAG is to be backfilled, b runs each day.
@@ -49,6 +49,7 @@ CHANGES = [
     ("drop_user", "DELETE /users/adam", "", "/own/me"),
     ("sync", "POST /own/dags/b/sync", '{"access_control":{"OnlyB":[]}}', "/roles/OnlyB"),
     ("sync", "POST /own/dags/c/sync", '{"access_control":{"Viewer":["can_edit"],"Admin":["can_read"],"OnlyB":["can_read","can_delete"]}}', "/roles"),
+    ("sync", "POST /own/dags/b/sync", '{"access_control":{"Op":{"DAG Runs":["can_delete"]},"OnlyB":{"DAGs":["can_read"],"DAG Runs":["can_read","can_create"]}}}', "/roles"),
     ("sync", "POST /own/dags/b/sync", "{}", "/own/me"),
 ]
 # What is asked for after some changes; for each, who asks.
@@ -73,7 +74,7 @@ FAULTS = [
     ("POST /roles", '{"name":"X"}', "admin"),
     ("POST /roles", '{"name":"X","actions":[]}', "abc"),
     ("POST /roles", '{"name":"X","actions":[{"action":{"name":"can_\\"fly\\""},"resource":{"name":"DAGs"}}]}', "admin"),
-    ("POST /roles", '{"name":"X","actions":[{"action":{"name":"can_read"},"resource":{"name":"DAG Run:b"}}]}', "admin"),
+    ("POST /roles", '{"name":"X","actions":[{"action":{"name":"can_read"},"resource":{"name":"DAG Run:b c"}}]}', "admin"),
     ("PATCH /users/bob", '{"roles":[{"name":"nobody"}]}', "admin"),
     ("PATCH /roles/gone", '{"actions":[]}', "admin"),
     ("PATCH /roles/Viewer", '{"actions":[]}', "admin"),
@@ -84,6 +85,7 @@ FAULTS = [
     ("DELETE /users/adam", "", "admin"),
     ("POST /own/dags/b/sync", '{"access_control":{"Nobody":["can_read"]}}', "admin"),
     ("POST /own/dags/b/sync", '{"access_control":{"OnlyB":["can_create"]}}', "nope"),
+    ("POST /own/dags/b/sync", '{"access_control":{"OnlyB":{"DAG Runs":["can_create","can_fly"]}}}', "admin"),
 ]
 # What has to be done before them.
 BEFORE = {"trigger_run": ["trigger_run"], "mark_run": ["trigger_run"], "delete_run": ["trigger_run"], "clear_run": ["mark_run"], "clear_instances": ["mark_run"]}
@@ -136,7 +138,7 @@ def readings(has):
         limited = changed_base("limited.json", {"history_limit": 1, "version_limit": 1})
         more = request("PATCH /dags/a", '{"is_paused":false}') + request("DELETE /roles/Y") + request("GET /eventLogs")
         yield "full history and versions", limited, pause + role + pause + more
-        access = changed_base("access.json", {}, access_control={"OnlyB": ["can_read", "can_edit"], "Viewer": ["can_delete"], "RunsB": []})
+        access = changed_base("access.json", {}, access_control={"OnlyB": ["can_read", "can_edit"], "Viewer": {"DAGs": ["can_delete"], "DAG Runs": ["can_create"]}, "RunsB": []})
         yield "access_control", access, request("GET /own/me", "", "foo") + request("GET /roles") + pause
 
 

@@ -72,7 +72,7 @@ class Right(unittest.TestCase):
             self.assertEqual(operation.name, name, asked)
         out = oracle.run(["once", BASE, NOW], b"".join(request(*it) for it in FAULTS))[1]
         told = [int(it[:3]) for it in out.decode().split("HTTP/1.1 ")[1:]]
-        self.assertEqual(told, [400, 400, 403, 400, 400, 400, 404, 409, 404, 409, 409, 204, 409, 400, 401])
+        self.assertEqual(told, [400, 400, 403, 400, 400, 400, 404, 409, 404, 409, 409, 204, 409, 400, 401, 400])
 
 
 # What a test says that had no memory again for what it asked after a refusal, though there is memory then: a plain failure, and not a fault that says so.

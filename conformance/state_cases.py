@@ -193,7 +193,7 @@ class Asker:
 
 def config(rng, has):
     """A configuration with a user of each default role, and users who may do something on some DAGs; and the tokens."""
-    made, tokens = config_cases.good(rng)
+    made, tokens = config_cases.good(rng, has)
     if not made["dags"] or rng.random() < 0.7:
         ids = rng.sample(config_cases.DAG_IDS, rng.randint(1, 5))
         made["dags"] = [{"dag_id": it, "tasks": config_cases.task_rows(rng, ["default_pool"])} for it in ids]
@@ -207,7 +207,7 @@ def config(rng, has):
     if rng.random() < 0.03:
         made["dags"][0]["tasks"] = [{"task_id": f"t{n}", "upstream": [f"t{n // 2}"] if n else []} for n in range(rng.choice([100, 101, 512]))]
     ids = [it["dag_id"] for it in made["dags"]]
-    own = [policy_cases.own_role(rng, f"own{n}", ids) for n in range(3)]
+    own = [policy_cases.own_role(rng, f"own{n}", ids, has) for n in range(3)]
     made["roles"] = (made["roles"] or []) + own
     names = {"root": "Admin", "op": "Op", "uma": "User", "vi": "Viewer", "o0": "own0", "o1": "own1", "o2": "own2"}
     made["users"] += [config_cases.user_row(name, name.encode() + b"-token", role) for name, role in names.items()]
