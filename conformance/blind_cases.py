@@ -1,8 +1,9 @@
-"""Pairs of connections that differ in what their reader may not see alone: two configurations, with and without two DAGs, for readers of four kinds.
+"""Pairs of connections that differ in what their reader may not see alone: two configurations, with and without two DAGs, for readers of several kinds; and one
+configuration, with and without runs of DAGs that the reader reads, without reading their runs.
 
-On one side an admin makes changes that the other side has not, of DAGs that the reader does not read; those of DAGs that the reader does read are the same on
-both, in the same order. The answers to the reader are to be the same, but for X-Policy-Version and X-Plane-Seq. blind_pairs.py has random pairs, blindness.py
-the comparison.
+On one side an admin makes changes that the other side has not: of DAGs that the reader does not read, or of the runs of DAGs whose runs the reader does not
+read. All others are the same on both, in the same order. The answers to the reader are to be the same, but for X-Policy-Version and X-Plane-Seq.
+blind_pairs.py has random pairs, blindness.py the comparison.
 """
 import json
 import os
@@ -68,6 +69,19 @@ KINDS = {
     "who reads DAGs, and neither runs nor instances": ("DAG:b.can_read", "DAG:d.can_read"),
     "who reads DAGs and their instances, and no runs": ("DAG:b.can_read", "DAG:d.can_read", "Task Instances.can_read"),
     "who reads DAGs and their runs, and no instances": ("DAG:b.can_read", "DAG:d.can_read", "DAG Runs.can_read"),
+    "who reads two DAGs, the runs of one of them, and the runs of hidden DAGs": (
+        "DAG:b.can_read", "DAG:d.can_read", "DAG Run:d.can_read", "DAG Run:a.can_read", "DAG Run:c.can_read", "Task Instances.can_read"),
+    "who reads two DAGs, and the runs of hidden DAGs alone": (
+        "DAG:b.can_read", "DAG:d.can_read", "DAG Run:a.can_read", "DAG Run:c.can_read", "DAG Run:gone.can_read", "Task Instances.can_read"),
+}
+# Readers of some DAGs, or of all of them, who read the runs of d alone, or none. Who may edit runs, or create or delete them, does not read them.
+RUN_KINDS = {
+    "who reads two DAGs, and the runs of one": ("DAG:b.can_read", "DAG:d.can_read", "DAG Run:d.can_read", "Task Instances.can_read"),
+    "who reads all DAGs, and the runs of one": ("DAGs.can_read", "DAG Run:d.can_read", "DAG Run:b.can_create", "DAG Run:a.can_edit", "Task Instances.can_read"),
+    "who reads all DAGs, the runs of one, and no instances": ("DAGs.can_read", "DAG Run:d.can_read", "DAG Run:gone.can_read"),
+    "who reads all DAGs, and no runs": ("DAGs.can_read", "DAG Run:gone.can_read", "DAG Run:b.can_edit", "DAG Run:c.can_delete", "Task Instances.can_read"),
+    "who reads two DAGs, and edits one of them, whose runs are not read": (
+        "DAG:b.can_read", "DAG:b.can_edit", "DAG:d.can_read", "DAG Run:d.can_read", "DAG Run:b.can_edit", "DAG Run:b.can_delete", "Task Instances.can_read"),
 }
 DAGS = [
     {"dag_id": "a", "is_paused": True, "tasks": [{"task_id": "t"}]},
@@ -97,6 +111,9 @@ CHANGES = [
 QUERIES = ["", "?limit=0", "?limit=1", "?limit=2&offset=1", "?offset=2", "?offset=9", "?limit=1000", "?limit=x", "?offset="]
 
 
+RUNS, TASKS = ["r1", "r2", "r3", "backfill__2024-01-01T00:01:00+00:00", "gone"], ["t", "u", "v", "gone"]
+
+
 def everything(dags, runs, tasks):
     """What the seven operations are asked for: each listing by each query, and each id. And a backfill of each DAG, which none of the readers may ask for."""
     asked = [f"GET {path}{it}" for path in ("/dags", "/dags/~/dagRuns") for it in QUERIES]
@@ -110,11 +127,21 @@ def everything(dags, runs, tasks):
 
 def with_and_without():
     """A pair for each kind of reader."""
-    asked = everything([*"abcd", "gone"], ["r1", "r2", "r3", "backfill__2024-01-01T00:01:00+00:00", "gone"], ["t", "u", "v", "gone"])
+    asked = everything([*"abcd", "gone"], RUNS, TASKS)
     for title, permissions in KINDS.items():
         members = {"roles": [role("Reader", permissions)], "users": [user(ADMIN, "Admin"), user("bob", "Reader")], "dags": DAGS}
         whole, visible = [it[1:] for it in CHANGES], [it[1:] for it in CHANGES if it[0] not in HIDDEN]
         yield Pair(title, "bob", (Side(members, whole), Side(without_hidden(members), visible)), asked)
+
+
+def with_and_without_runs():
+    """A pair for each kind of reader of runs: each DAG is there on both sides, and paused or not as on the other."""
+    asked = everything([*"abcd", "gone"], RUNS, TASKS)
+    for title, permissions in RUN_KINDS.items():
+        members = {"roles": [role("Reader", permissions)], "users": [user(ADMIN, "Admin"), user("bob", "Reader")], "dags": DAGS}
+        read = [dag for dag in "abcd" if f"DAG Run:{dag}.can_read" in permissions]
+        visible = [it[1:] for it in CHANGES if it[0] in read or it[1] == f"PATCH /dags/{it[0]}"]
+        yield Pair(title, "bob", (Side(members, [it[1:] for it in CHANGES]), Side(members, visible)), asked)
 
 
 def of_base():

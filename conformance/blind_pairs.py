@@ -4,6 +4,9 @@ A reader reads some DAGs and not the others. The DAGs that are read stand in bot
 the same order. The others stand on one side, on the other, on both with other tasks and schedules, or on none. Changes of these stand in between, so that runs
 have other numbers on each side; so do changes of pools, of variables, and of roles and users that leave to the reader what the reader has.
 
+Readers of two kinds read the runs of some DAGs alone, each by a permission on the runs of that DAG. Of the other DAGs that are read, each side has runs of its
+own: only whether the DAG is paused is the same on both.
+
 Each change is one that is done and that leaves another state or another policy than it found. Ids of runs and dates come from few, so that hidden runs often
 have those of runs that are read.
 """
@@ -22,22 +25,27 @@ DATES = [NOW, "2024-01-01T00:00:00.5Z", "2024-01-02T00:00:00Z", "2024-01-03T00:0
 TASKS = ["t", "u", "v", "w"]
 READER = "bob"
 BEHIND = ["DAG Runs.can_read", "Task Instances.can_read"]
-KINDS = ("one", "some", "none", "no runs")
+KINDS = ("one", "some", "none", "no runs", "runs of some", "all, and runs of some")
 LIMITS = ["", "0", "1", "2", "3", "5", "100", "101", "x", "-1", "000", "9" * 30]
 
 
 class Changes:
-    """Changes of some DAGs, of which each is done and leaves another state; what was done before is known."""
+    """Changes of some DAGs, of which each is done and leaves another state; what was done before is known. Of each DAG it is said whether it may be paused, and
+    whether its runs may be changed."""
 
-    def __init__(self, rng, rows):
-        self.rng, self.rows = rng, {it["dag_id"]: it for it in rows}
-        self.paused, self.runs = {it["dag_id"]: it["is_paused"] for it in rows}, {it["dag_id"]: {} for it in rows}
+    def __init__(self, rng, pausing, running):
+        self.rng, self.rows = rng, {it["dag_id"]: it for it in [*pausing, *running]}
+        self.paused, self.runs = {it["dag_id"]: it["is_paused"] for it in pausing}, {it["dag_id"]: {} for it in running}
 
     def one(self):
-        dag = self.rng.choice(sorted(self.paused))
-        makers = [self.trigger] * 4 + [self.backfill, self.backfill, self.pause]
-        makers += [self.mark, self.mark, self.clear, self.clear, self.delete] * bool(self.runs[dag])
-        return self.rng.choice(makers)(dag) or self.pause(dag)
+        dag, made = self.rng.choice(sorted(self.rows)), None
+        makers = [self.pause] if dag in self.paused else []
+        if dag in self.runs:
+            makers += [self.trigger] * 4 + [self.backfill, self.backfill]
+            makers += [self.mark, self.mark, self.clear, self.clear, self.delete] * bool(self.runs[dag])
+        while made is None:
+            made = self.rng.choice(makers)(dag)
+        return made
 
     def pause(self, dag):
         self.paused[dag] = not self.paused[dag]
@@ -106,8 +114,10 @@ class Maker:
     def __init__(self, rng, kind):
         self.rng, self.kind = rng, kind
         ids = rng.sample(DAGS, len(DAGS))
-        count = {"one": 1, "none": 0}.get(kind, rng.randint(1, 4))
-        self.read, self.hidden = ids[:count], ids[count : count + rng.randint(1, 5)]
+        count = {"one": 1, "none": 0}.get(kind, rng.randint(1, 4)) + ("runs" in kind)
+        self.read, self.hidden = ids[:count], ids[count : count + rng.randint(1, 5)] if "all" not in kind else []
+        # of so many DAGs that are read the runs are read too: of none by who reads no runs, of all by who reads all runs
+        self.runs_read = self.read if kind in ("one", "some", "none") else self.read[: 0 if kind == "no runs" else rng.choice([0, *[1] * 4, len(self.read) - 1])]
         self.rows = [self.row(it) for it in self.read]
 
     def row(self, dag_id):
@@ -121,12 +131,22 @@ class Maker:
         return row
 
     def reader_roles(self):
-        """What the reader may read, and edits of hidden DAGs beside; spread over one role or two."""
+        """What the reader may read, and beside it edits of hidden DAGs, and of runs that are not read; spread over one role or two.
+
+        Nobody who may create the runs of a DAG may edit the DAG, so that backfills are denied. Who reads the runs of a hidden DAG reads none of them.
+        """
         rng = self.rng
-        behind = [it for it in BEHIND if rng.random() < 0.4] if self.kind == "no runs" else BEHIND
-        found = [f"DAG:{it}.can_read" for it in self.read] + behind
+        behind = BEHIND[: 2 - (rng.random() < 0.2)] if self.kind in ("one", "some", "none") else BEHIND[1:] * (rng.random() < 0.8)
+        found = ["DAGs.can_read"] if "all" in self.kind else [f"DAG:{it}.can_read" for it in self.read]
+        found += behind + [f"DAG Run:{it}.can_read" for it in self.runs_read if "DAG Runs.can_read" not in behind]
         found += [f"DAG:{it}.{rng.choice(['can_edit', 'can_delete'])}" for it in self.hidden if rng.random() < 0.3]
+        found += [f"DAG Run:{it}.{rng.choice(['can_edit', 'can_delete'])}" for it in self.hidden if rng.random() < 0.3]
+        found += [f"DAG Run:{rng.choice(self.hidden)}.can_read"] * (rng.random() < 0.7) if self.hidden else []
+        for it in self.read:
+            if it not in self.runs_read and rng.random() < 0.4:
+                found += rng.choice([[f"DAG Run:{it}.can_create"], [f"DAG:{it}.can_edit", f"DAG Run:{it}.can_edit"], [f"DAG Run:{it}.can_delete"]])
         found += [f"DAG:{ABSENT}.can_edit"] if rng.random() < 0.1 else []
+        found += [f"DAG Run:{ABSENT}.can_read"] if rng.random() < 0.2 else []
         rng.shuffle(found)
         cut = rng.randint(0, len(found))
         return [role("Reader", found[:cut]), role("Reader too", found[cut:])]
@@ -138,7 +158,7 @@ class Maker:
             ("POST /variables", json.dumps({"key": f"k{n}", "value": "v"})),
             ("POST /pools", json.dumps({"name": f"q{n}", "slots": n})),
             ("PATCH /pools/default_pool", json.dumps({"slots": 1000 + n})),
-            ("POST /roles", json.dumps(role(f"role {n}", [f"DAG:{it}.can_read" for it in self.hidden]))),
+            ("POST /roles", json.dumps(role(f"role {n}", [f"{kind}:{it}.can_read" for kind in ("DAG", "DAG Run") for it in self.hidden]))),
             ("POST /users", json.dumps({**user("ann", "Viewer"), "username": f"ann {n}", "token_sha256": digest("ann")[:-4] + f"{n:04x}"})),
         ])  # fmt: skip
 
@@ -146,9 +166,9 @@ class Maker:
         """One side: hidden DAGs of its own, and changes of its own between those that both have."""
         rng = self.rng
         rows = [self.row(it) for it in self.hidden if rng.random() < 0.7]
-        own = Changes(rng, rows)
+        own = Changes(rng, rows, rows + [it for it in self.rows if it["dag_id"] not in self.runs_read])
         count = rng.choice([0, 1, 4, 12, 20])
-        hidden = [self.others(n) if not rows or rng.random() < 0.15 else own.one() for n in range(count)]
+        hidden = [self.others(n) if not own.rows or rng.random() < 0.15 else own.one() for n in range(count)]
         places = sorted(rng.randint(0, len(shared)) for _ in hidden)
         changes, done = [], 0
         for place, change in zip(places, hidden):
@@ -158,7 +178,7 @@ class Maker:
 
     def pair(self, title):
         rng = self.rng
-        both = Changes(rng, self.rows)
+        both = Changes(rng, self.rows, [it for it in self.rows if it["dag_id"] in self.runs_read])
         shared = [both.one() for _ in range(rng.choice([0, 3, 8, 16]))] if self.rows else []
         roles, users = self.reader_roles(), [user(ADMIN, "Admin"), user(READER, "Reader", "Reader too")]
         sides = []

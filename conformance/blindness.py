@@ -1,5 +1,6 @@
 #!/usr/bin/env python3
-"""Whether what a user may not read shows in the answers to that user: pairs of connections to afplane that differ in hidden rows alone.
+"""Whether what a user may not read shows in the answers to that user: pairs of connections to afplane that differ in hidden rows alone. These are DAGs that the
+user does not read, with all that is theirs; and runs, with their instances, of DAGs that the user reads and whose runs the user does not.
 
   python3 conformance/blindness.py [--pairs 1000] [--seed 1] [--program PATH]
   python3 conformance/blindness.py --model          the reference model in place of the program
@@ -32,7 +33,7 @@ LOOKS = ["GET /dags", "GET /dags/~/dagRuns"]
 NUMBERS = re.compile(rb"(\r\nX-(?:Policy-Version|Plane-Seq): )[0-9]+(?=\r\n)")
 LENGTH = re.compile(rb"\r\nContent-Length: ([0-9]+)\r\n")
 SHOWN = 3  # so many differences are shown
-FIXED = 1 + len(blind_cases.KINDS)  # so many pairs are fixed
+FIXED = 1 + len(blind_cases.KINDS) + len(blind_cases.RUN_KINDS)  # so many pairs are fixed
 
 
 class Failed(Exception):
@@ -128,6 +129,7 @@ def pairs(count, seed):
     """The fixed pairs, and so many random ones."""
     yield blind_cases.of_base()
     yield from blind_cases.with_and_without()
+    yield from blind_cases.with_and_without_runs()
     for n in range(count):
         kind = blind_pairs.KINDS[n % len(blind_pairs.KINDS)]
         yield blind_pairs.Maker(random.Random(f"{seed} {n}"), kind).pair(f"seed {seed}, pair {n}, reader of the kind {kind!r}")

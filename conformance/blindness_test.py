@@ -26,19 +26,20 @@ from oracle_names import instant_of
 from oracle_policy import meets
 from worked_rows import answer, request
 
-SEED, PAIRS = 7, 60
+SEED, PAIRS = 7, 120
 
 
 # ---- Models that leak ------------------------------------------------------------------------------------------
 
 
-def operations(**acts):
-    """The table of operations with others in place of some; `all_runs` is the listing of the runs of all DAGs."""
+def operations(needs=None, **acts):
+    """The table of operations with others in place of some, or with other requirements; `all_runs` is the listing of the runs of all DAGs."""
 
-    def act_of(it):
-        return acts.get("all_runs" if "{~}" in it.path else it.name, it.act)
+    def changed(it):
+        name = "all_runs" if "{~}" in it.path else it.name
+        return replace(it, act=acts.get(name, it.act), needs=(needs or {}).get(name, it.needs))
 
-    return mock.patch.object(oracle_table, "OPERATIONS", [replace(it, act=act_of(it)) for it in oracle_table.OPERATIONS])
+    return mock.patch.object(oracle_table, "OPERATIONS", [changed(it) for it in oracle_table.OPERATIONS])
 
 
 def dags_counted_whole(call):
@@ -55,6 +56,28 @@ def runs_cut_after_the_page(call):
     state, told = oracle_ops.list_all_runs(call)
     page = [it for it in state.runs[call.offset : call.offset + call.limit] if call.reads(it.dag_id)]
     return state, {**told, "dag_runs": [states.show_run(it) for it in page]}
+
+
+def runs_of_dags_counted(call):
+    state, told = oracle_ops.list_all_runs(call)
+    return state, {**told, "total_entries": sum(call.reads(it.dag_id) for it in state.runs)}
+
+
+def runs_shown_by_dags(call):
+    return call.state, call.page("dag_runs", [it for it in call.state.runs if call.reads(it.dag_id)], states.show_run)
+
+
+def runs_cut_by_runs_after_the_page(call):
+    rows = [it for it in call.state.runs if call.reads(it.dag_id)]
+    state, told = oracle_ops.list_all_runs(call)
+    page = [it for it in rows[call.offset : call.offset + call.limit] if call.reads_runs(it.dag_id)]
+    return state, {**told, "dag_runs": [states.show_run(it) for it in page]}
+
+
+def dag_with_a_count(call):
+    """A DAG of which is told how many more runs it may have at a time."""
+    state, told = oracle_ops.show_dag(call)
+    return state, {**told, "max_active_runs": told["max_active_runs"] - len(states.runs_of(state, *call.names))}
 
 
 def run_of_any_dag(call):
@@ -84,6 +107,30 @@ def absence_first(*names):
     return mock.patch.object(oracle_verdict, "permitted", leaky)
 
 
+def absence_of_a_run_first():
+    """A run that is not there is told before a denial that names runs."""
+    permitted = oracle_verdict.permitted
+
+    def leaky(plane, operation, parts, token):
+        user, granted, denied = permitted(plane, operation, parts, token)
+        if denied and user and "DAG Runs" in denied[1]["detail"] and len(parts) > 1:
+            if not any((it.dag_id, it.run_id) == tuple(parts[:2]) for it in plane.state.runs):
+                denied = oracle_verdict.told(404, f"no such run: {parts[1]}")
+        return user, granted, denied
+
+    return mock.patch.object(oracle_verdict, "permitted", leaky)
+
+
+def met_by_runs_of_any_dag():
+    """Who reads the runs of some DAG that is there may list all runs, whether or not that DAG is read."""
+
+    def leaky(granted, action, resource, dag_id, dags):
+        some = resource == "DAG Runs" and dag_id is None and any((action, f"DAG Run:{it}") in granted for it in dags)
+        return some or meets(granted, action, resource, dag_id, dags)
+
+    return mock.patch.object(oracle_verdict, "meets", leaky)
+
+
 def met_by_any_action():
     """Who may do anything at all on some DAG that is there may list DAGs."""
 
@@ -107,6 +154,19 @@ def length_of_the_uncut_list():
     return mock.patch.object(oracle, "decide", leaky)
 
 
+READ_DAG, READ_INSTANCES = ("can_read", "DAGs"), ("can_read", "Task Instances")
+# Of runs of DAGs that are read, whose runs are not.
+RUN_LEAKS = {
+    "a total of runs that counts those of all DAGs that are read": operations(all_runs=runs_of_dags_counted),
+    "all runs of DAGs that are read": operations(all_runs=runs_shown_by_dags),
+    "runs that are cut by the runs that are read, after the page": operations(all_runs=runs_cut_by_runs_after_the_page),
+    "a run without a requirement on runs": operations({"show_run": [READ_DAG]}),
+    "runs of one DAG without a requirement on runs": operations({"list_runs": [READ_DAG]}),
+    "instances without a requirement on runs": operations({it: [READ_DAG, READ_INSTANCES] for it in ("list_instances", "show_instance")}),
+    "a DAG that tells how many runs it has": operations(show_dag=dag_with_a_count),
+    "absence of a run before a denial": absence_of_a_run_first(),
+    "all runs that the runs of a hidden DAG meet": met_by_runs_of_any_dag(),
+}
 LEAKS = {
     "a total of DAGs that counts hidden ones": operations(list_dags=dags_counted_whole),
     "a total of runs that counts hidden ones": operations(all_runs=runs_counted_whole),
@@ -117,6 +177,7 @@ LEAKS = {
     "absence before a denial, of a backfill": absence_first("backfill"),
     "a requirement on some DAG that any action meets": met_by_any_action(),
     "a length of the uncut list": length_of_the_uncut_list(),
+    **RUN_LEAKS,
 }
 
 
@@ -165,11 +226,23 @@ class Fixed(unittest.TestCase):
                 self.assertEqual(oracle.answers(plane, request("bob", asked)), (wanted, True))
 
     def test_each_kind_of_reader_sees_the_same(self):
-        pairs = list(blind_cases.with_and_without())
-        self.assertGreaterEqual(len(pairs), 4)
-        for it in pairs:
-            with self.subTest(it.title):
-                self.assertIs(verdict_on(it), True)
+        for pairs in (list(blind_cases.with_and_without()), list(blind_cases.with_and_without_runs())):
+            self.assertGreaterEqual(len(pairs), 4)
+            for it in pairs:
+                with self.subTest(it.title):
+                    self.assertIs(verdict_on(it), True)
+
+    def test_what_a_reader_of_runs_meets(self):
+        """Of the DAG whose runs are read rows of each kind, of the other DAGs the DAG alone; both sides have more runs than are shown."""
+        (pair,) = (it for it in blind_cases.with_and_without_runs() if it.title == "who reads all DAGs, and the runs of one")
+        told, _ = blindness.answers_on(blindness.by_model, pair, pair.sides[0])
+        found = dict(zip(pair.asked, told))
+        for asked, status in (("GET /dags/a", b"200"), ("GET /dags/a/tasks", b"200"), ("GET /dags/a/dagRuns", b"403"), ("GET /dags/a/dagRuns/r1", b"403"),
+                ("GET /dags/a/dagRuns/gone", b"403"), ("GET /dags/a/dagRuns/r1/taskInstances", b"403"), ("GET /dags/d/dagRuns/r1", b"200"),
+                ("GET /dags/d/dagRuns/r1/taskInstances/u", b"200"), ("GET /dags/d/dagRuns/gone", b"404"), ("GET /dags/gone/dagRuns", b"403")):
+            self.assertEqual(found[asked][9:12], status, asked)
+        rows = json.loads(found["GET /dags/~/dagRuns"].partition(b"\r\n\r\n")[2])
+        self.assertEqual((rows["total_entries"], {it["dag_id"] for it in rows["dag_runs"]}), (3, {"d"}))
 
     def test_what_the_readers_meet(self):
         """Pages and single rows of each operation, denials and absences: who reads some DAGs is answered 200, 400, 403 and 404."""
