@@ -4,6 +4,12 @@ import re
 ACTIONS = ["can_create", "can_read", "can_edit", "can_delete"]
 RESOURCES = ["DAGs", "DAG Runs", "Task Instances", "Pools", "Variables", "Audit Logs", "Roles", "Users"]
 
+# What one DAG, and the runs of one DAG, carry: how the resource begins, the resource of them all, the actions, and why no others.
+ONE_DAG = [
+    ("DAG:", "DAGs", ACTIONS[1:], "a single DAG has can_read, can_edit and can_delete alone"),
+    ("DAG Run:", "DAG Runs", ACTIONS, "there is no such action"),
+]
+
 VIEWER = {(it, "can_read") for it in RESOURCES[:3]}
 USER = VIEWER | {(it, action) for it in RESOURCES[:3] for action in ACTIONS} - {("DAGs", "can_create")}
 OP = USER | {(it, action) for it in ("Pools", "Variables") for action in ACTIONS} | {("Audit Logs", "can_read")}
@@ -44,25 +50,27 @@ def why_not(resource, action):
         return "there are no web pages"
     if resource in REASONS:
         return REASONS[resource]
-    if resource.startswith("DAG Run:"):
-        return "there are no permissions on the runs of a single DAG"
     if action in OLD_ACTIONS:
         return f"a spelling of Airflow 1, which grants nothing in Airflow 2: grant {OLD_ACTIONS[action]} there, and export again"
-    if resource.startswith("DAG:"):
-        if not is_dag_id(resource[4:]):
-            return f"no DAG has this id here: {DAG_ID}"
-        if action not in ACTIONS[1:]:
-            return "a single DAG has can_read, can_edit and can_delete alone"
-        return None
+    for begin, _, actions, reason in ONE_DAG:
+        if resource.startswith(begin):
+            if not is_dag_id(resource[len(begin) :]):
+                return f"no DAG has this id here: {DAG_ID}"
+            return None if action in actions else reason
     if resource not in RESOURCES:
         return "there is no such resource"
     return None if action in ACTIONS else "there is no such action"
 
 
+def whole_of(resource):
+    """The resource of all DAGs, or of all runs, of one that is of a single DAG; else none."""
+    return next((whole for begin, whole, _, _ in ONE_DAG if resource.startswith(begin)), None)
+
+
 def in_order(pair):
-    """Where a pair is shown: resources in their order, then single DAGs by id; of each its actions in theirs."""
+    """Where a pair is shown: resources in their order, then single DAGs by id, then their runs by id; of each its actions in theirs."""
     resource, action = pair
-    known = RESOURCES.index(resource) if resource in RESOURCES else len(RESOURCES)
+    known = RESOURCES.index(resource) if resource in RESOURCES else len(RESOURCES) + resource.startswith("DAG Run:")
     return known, resource, ACTIONS.index(action) if action in ACTIONS else len(ACTIONS), action
 
 

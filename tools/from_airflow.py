@@ -18,7 +18,7 @@ import secrets
 import sys
 
 from airflow_exports import Unusable, read_dags, read_roles, read_users
-from airflow_permissions import DAG_ID, DEFAULT_ROLES, LABEL, in_order, is_dag_id, is_label, listed, shown, why_not
+from airflow_permissions import DAG_ID, DEFAULT_ROLES, LABEL, in_order, is_dag_id, is_label, listed, shown, whole_of, why_not
 
 MOST_ROLES, MOST_USERS, MOST_DAGS, MOST_BYTES = 4096, 65536, 1024, 16 * 1024 * 1024
 PLACEHOLDER = "placeholder"
@@ -67,7 +67,7 @@ class Draft:
     def compare_default(self, name, pairs):
         """Tells how Airflow's role differs from the one of this name that is always there."""
         here = DEFAULT_ROLES[name]
-        more = {it for it in pairs - here if not (it[0].startswith("DAG:") and ("DAGs", it[1]) in here)}
+        more = {it for it in pairs - here if (whole_of(it[0]), it[1]) not in here}
         fewer = here - pairs
         if more:
             self.tell(f"role {name!r}: is built in, and lacks here: {listed(more)}; a role of another name can grant it")

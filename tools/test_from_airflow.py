@@ -14,7 +14,7 @@ import unittest
 
 sys.dont_write_bytecode = True
 import airflow_permissions  # noqa: E402
-from airflow_case import ADMIN, PROGRAM, README, SAMPLES, Case, flat, granted  # noqa: E402
+from airflow_case import ADMIN, PROGRAM, README, SAMPLES, TOP, Case, flat, granted  # noqa: E402
 
 
 class Samples(Case):
@@ -31,6 +31,7 @@ class Samples(Case):
             [
                 *["DAG Runs.can_create", "DAG Runs.can_read", "Task Instances.can_read"],
                 *["DAG:sales.forecast.can_read", "DAG:sales_daily_orders.can_read", "DAG:sales_daily_orders.can_edit"],
+                "DAG Run:sales_daily_orders.can_delete",
             ],
         )
         self.assertIn("DAGs.can_edit", granted(config, "Data Engineer"))
@@ -125,7 +126,11 @@ class Formats(Case):
             ("DAG:b", "can_create", "a single DAG has can_read, can_edit and can_delete alone"),
             ("DAG:b", "menu_access", "there are no web pages"),
             ("DAG:a b", "can_read", "no DAG has this id here"),
-            ("DAG Run:b", "can_read", "there are no permissions on the runs of a single DAG"),
+            ("DAG Run:b", "menu_access", "there are no web pages"),
+            ("DAG Run:b", "can_list", "there is no such action"),
+            ("DAG Run:a b", "can_create", "no DAG has this id here"),
+            ("DAG Run:", "can_read", "no DAG has this id here"),
+            ("DAG Run", "can_read", "there is no such resource"),
             ("all_dags", "can_dag_read", "a spelling of Airflow 1, which grants nothing in Airflow 2: grant can_read"),
             ("DAG:b", "can_dag_edit", "a spelling of Airflow 1, which grants nothing in Airflow 2: grant can_edit"),
             ("DAGs", "can_list", "there is no such action"),
@@ -141,19 +146,33 @@ class Formats(Case):
 
     def test_each_permission_with_a_place(self):
         roles = [flat("R", it, ",".join(airflow_permissions.ACTIONS)) for it in reversed(airflow_permissions.RESOURCES)]
+        roles += [flat("R", "DAG Run:b", "can_edit,can_delete,can_read,can_create"), flat("R", "DAG Run:B", "can_create")]
         roles += [flat("R", "DAG:b", "can_delete, can_edit,can_read"), flat("R", "DAG:a", "can_read")]
         config, _, err = self.convert(roles=roles, users=[ADMIN])
         wanted = [f"{it}.{action}" for it in airflow_permissions.RESOURCES for action in airflow_permissions.ACTIONS]
         wanted += ["DAG:a.can_read", "DAG:b.can_read", "DAG:b.can_edit", "DAG:b.can_delete"]
+        wanted += ["DAG Run:B.can_create", *(f"DAG Run:b.{action}" for action in airflow_permissions.ACTIONS)]
         self.assertEqual(granted(config, "R"), wanted)
         self.assertNotIn("no place", err)
 
     def test_a_default_role_that_grants_less_in_airflow(self):
-        rows = [flat("Viewer", it, "can_read") for it in ("DAGs", "DAG Runs")] + [flat("Admin", "DAG:b", "can_edit")]
+        rows = [flat("Viewer", it, "can_read") for it in ("DAGs", "DAG Runs")] + [flat("Admin", "DAG:b", "can_edit"), flat("Admin", "DAG Run:b", "can_create")]
         config, _, err = self.convert(roles=rows, users=[ADMIN])
         self.assertNotIn("roles", config)
         self.assertIn("role 'Viewer': is built in, and grants more here: Task Instances.can_read;", err)
-        self.assertNotIn("lacks here: DAG:b", err)
+        self.assertNotIn("lacks here", err)
+
+    def test_a_default_role_that_grants_more_in_airflow(self):
+        """Of the runs of one DAG as of the DAG, where the role has not the action on all of them."""
+        rows = [flat("Viewer", it, "can_read") for it in ("DAGs", "DAG Runs", "Task Instances")]
+        rows += [flat("Viewer", "DAG Run:b", "can_read,can_edit"), flat("Viewer", "DAG:b", "can_read,can_edit")]
+        _, _, err = self.convert(roles=rows, users=[ADMIN])
+        self.assertIn("role 'Viewer': is built in, and lacks here: DAG:b.can_edit, DAG Run:b.can_edit;", err)
+
+    def test_a_configuration_with_the_runs_of_a_dag_is_accepted(self):
+        self.convert(roles=[flat("R", "DAG Run:b", "can_create,can_read"), flat("R", "DAG:b", "can_read")], users=[ADMIN, {"username": "u", "roles": ["R"]}])
+        ran = subprocess.run([sys.executable, str(TOP / "model" / "check_config.py"), str(self.config)], capture_output=True, text=True)
+        self.assertEqual((ran.returncode, ran.stdout, ran.stderr), (0, "accepted\n", ""))
 
     def test_log_lines_before_a_list(self):
         log = "[2024-01-01T00:00:00.000+0000] {dagbag.py:500} INFO - Filling up the DagBag\nloading\n"
