@@ -13,6 +13,7 @@ SEARCH = ["search.backfill", "search.crawl", "search.purge"]
 USERS = {
     "ada": (["DAGs", "Runs", "Pools", "Variables", "Event log", "Access"], PAYMENTS + SEARCH, 7, 7),
     "pia": (["DAGs", "Runs"], PAYMENTS, 4, 4),
+    "nora": (["DAGs", "Runs"], ["payments.refund"], 1, 1),
     "pete": (["DAGs", "Runs"], PAYMENTS, 0, 0),
     "sid": (["DAGs", "Runs"], SEARCH, 3, 3),
     "otto": (["DAGs", "Runs", "Pools", "Variables", "Event log"], PAYMENTS + SEARCH, 7, 7),

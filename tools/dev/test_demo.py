@@ -118,6 +118,35 @@ class Demo(unittest.TestCase):
         self.assertEqual(played.runs("payments.report"), ["success"] * 7)
         self.assertEqual(played.most_running["payments.report"], 2)
 
+    def test_on_call_for_one_dag(self):
+        """What nora is answered on the walk: of refunds what she may do, of all else the first permission that is missing."""
+        plane, refunds = oracle.Plane((EXAMPLES / "demo.json").read_bytes(), instant_of(START)), "/api/v1/dags/payments.refund/dagRuns"
+
+        def ask(user, method, path, body=""):
+            head = f"{method} {path} HTTP/1.1\r\nHost: h\r\nAuthorization: Bearer {user}-demo-token\r\nContent-Length: {len(body)}\r\n\r\n"
+            first, _, told = oracle.answers(plane, (head + body).encode())[0].decode().partition("\r\n\r\n")
+            return int(first.split(" ")[1]), json.loads(told)
+
+        self.assertEqual(ask("pia", "POST", refunds, '{"dag_run_id":"r1"}')[0], 200)
+        self.assertEqual(ask("pia", "POST", "/api/v1/dags/payments.charge/dagRuns", "{}")[0], 200)
+        given = [f"DAG:payments.refund.{it}" for it in ("can_read", "can_edit")] + [f"DAG Run:payments.refund.{it}" for it in ("can_create", "can_read", "can_edit")]
+        self.assertEqual(ask("nora", "GET", "/own/me")[1]["permissions"], given)
+        self.assertEqual([it["dag_id"] for it in ask("nora", "GET", "/api/v1/dags")[1]["dags"]], ["payments.refund"])
+        self.assertEqual(ask("nora", "POST", refunds, '{"dag_run_id":"r2","logical_date":"2026-11-28T00:00:00Z"}')[0], 200)
+        listed = ask("nora", "GET", "/api/v1/dags/~/dagRuns")[1]
+        self.assertEqual(([it["dag_run_id"] for it in listed["dag_runs"]], listed["total_entries"]), (["r1", "r2"], 2))
+        self.assertEqual(ask("audrey", "GET", "/api/v1/dags/~/dagRuns")[1]["total_entries"], 3)
+        cleared = ask("nora", "POST", f"{refunds}/r1/clear", '{"dry_run":false}')[1]["task_instances"]
+        self.assertEqual([it["task_id"] for it in cleared], ["check", "pay", "notify"])
+        for method, path, missing in (
+            ("POST", "/api/v1/dags/payments.charge/dagRuns", "DAG:payments.charge.can_edit"),
+            ("DELETE", f"{refunds}/r1", "DAG Runs.can_delete"),
+            ("GET", f"{refunds}/r1/taskInstances", "Task Instances.can_read"),
+            ("GET", "/api/v1/dags/search.crawl/dagRuns", "DAG:search.crawl.can_read"),
+        ):
+            status, told = ask("nora", method, path, "{}" if method == "POST" else "")
+            self.assertEqual((status, told["detail"]), (403, f"missing permission {missing}"))
+
     def test_what_does_not_run_by_itself(self):
         self.assertEqual(self.played.runs("search.purge"), [])
         self.assertEqual(self.played.runs("payments.refund"), [])
