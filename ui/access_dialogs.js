@@ -3,7 +3,7 @@
 import { h } from "./dom.js";
 import { v1, path } from "./api.js";
 import { done } from "./dialog.js";
-import { ACTIONS, RESOURCES, VERBS, split } from "./permits.js";
+import { ACTIONS, ITS_RUNS, ONE_DAG, RESOURCES, VERBS, split } from "./permits.js";
 import { permissionsOf } from "./versions.js";
 import { listed } from "./format.js";
 import { button, field } from "./widgets.js";
@@ -126,15 +126,18 @@ function permissionBoxes(app, held, state) {
       if (event.target.checked) held.add(permission);
       else held.delete(permission);
     };
-    return h("td", { key: action }, resource.startsWith("DAG:") && action === "can_create" ? null : h("input",
+    return h("td", { key: action }, resource.startsWith(ONE_DAG) && action === "can_create" ? null : h("input",
       { type: "checkbox", "aria-label": `${VERBS[action]} ${resource}`, checked: held.has(permission), onchange: flip }));
   };
-  const dags = [...new Set([...held, ...state.added].map((it) => split(it)[0]).filter((it) => it.startsWith("DAG:")))].sort();
+  // (of each DAG that is named, or whose runs are, there is a row for the DAG and one for its runs)
+  const singles = [...held, ...state.added].map((it) => split(it)[0]).filter((it) => it.startsWith(ONE_DAG) || it.startsWith(ITS_RUNS));
+  const ids = [...new Set(singles.map((it) => it.slice(it.indexOf(":") + 1)))].sort();
+  const dags = [...ids.map((it) => `${ONE_DAG}${it}`), ...ids.map((it) => `${ITS_RUNS}${it}`)];
   const add = (event) => {
     const input = event.currentTarget.form.elements.dag;
     if (!input.value.trim()) return;
-    held.add(`DAG:${input.value.trim()}.can_read`);
-    state.added.push(`DAG:${input.value.trim()}.can_read`);
+    held.add(`${ONE_DAG}${input.value.trim()}.can_read`);
+    state.added.push(`${ONE_DAG}${input.value.trim()}.can_read`);
     input.value = "";
     app.update();
   };
@@ -169,23 +172,32 @@ export function deleteRoleDialog(app, role) {
 
 // ---- One DAG ----
 
-/** What roles may do on one DAG alone: a sync sets all of it at once. */
+// The kinds of a sync: the member, how its resource begins, the actions, and what a box and a column say besides the action.
+const KINDS = [["DAGs", ONE_DAG, DAG_ACTIONS, ""], ["DAG Runs", ITS_RUNS, ACTIONS, " runs"]];
+
+/** What roles may do on one DAG and its runs alone: a sync sets all of it at once, so all of it is sent. */
 export function accessDialog(app, id) {
   return opened(app, () => whole(app, v1("roles"), "roles"), (roles) => {
-    const resource = `DAG:${id}`, held = new Map(roles.map((it) => [it.name,
-      new Set(permissionsOf(it).filter((one) => split(one)[0] === resource).map((one) => split(one)[1]))]));
-    const box = (name, action) => h("td", { key: action }, h("input",
-      { type: "checkbox", "aria-label": `${name} may ${VERBS[action]}`, checked: held.get(name).has(action),
-      onchange: (event) => (event.target.checked ? held.get(name).add(action) : held.get(name).delete(action)) }));
+    const heldOn = (role, resource) => new Set(permissionsOf(role).map(split).filter((one) => one[0] === resource).map((one) => one[1]));
+    const held = new Map(roles.map((it) => [it.name, KINDS.map(([, begin]) => heldOn(it, `${begin}${id}`))]));
+    const box = (name, kind, action) => {
+      const its = held.get(name)[kind], words = `${name} may ${VERBS[action]}${KINDS[kind][3]}`;
+      return h("td", { key: `${kind} ${action}` }, h("input", { type: "checkbox", "aria-label": words, checked: its.has(action),
+        onchange: (event) => (event.target.checked ? its.add(action) : its.delete(action)) }));
+    };
+    const listsOf = (sets) => Object.fromEntries(KINDS.map(([member], kind) => [member, [...sets[kind]]]));
     const act = () => changed(app, "POST", `/own${path("dags", id, "sync")}`,
-      { access_control: Object.fromEntries([...held].filter((it) => it[1].size && it[0] !== "Admin").map(([name, actions]) => [name, [...actions]])) },
-      `access to ${id} set`);
+      { access_control: Object.fromEntries([...held].filter(([name, sets]) => name !== "Admin" && sets.some((it) => it.size)).map(([name,
+        sets]) => [name, listsOf(sets)])) }, `access to ${id} set`);
     const rows = roles.filter((it) => it.name !== "Admin");
-    const content = h("div", null, h("p", null, "What roles may do on this DAG alone. What they may do on all DAGs stays, and so does what Admin may do."),
+    const cells = (of) => KINDS.flatMap(([, , actions], kind) => actions.map((action) => of(kind, action)));
+    const content = h("div", null,
+      h("p", null, "What roles may do on this DAG and its runs alone. What they may do on all DAGs and all runs stays, and so does what Admin may do."),
       h("div", { class: "scroll" }, h("table", { class: "rows boxes" },
-        h("thead", null, h("tr", null, h("th", { scope: "col" }, "Role"), DAG_ACTIONS.map((it) => h("th", { key: it, scope: "col" }, VERBS[it])))),
+        h("thead", null, h("tr", null, h("th", { scope: "col" }, "Role"),
+          cells((kind, action) => h("th", { key: `${kind} ${action}`, scope: "col" }, `${VERBS[action]}${KINDS[kind][3]}`)))),
         h("tbody", null,
-          rows.map((it) => h("tr", { key: it.name }, h("th", { scope: "row", class: "id" }, it.name), DAG_ACTIONS.map((action) => box(it.name, action))))))));
+          rows.map((it) => h("tr", { key: it.name }, h("th", { scope: "row", class: "id" }, it.name), cells((kind, action) => box(it.name, kind, action))))))));
     app.dialogs.open(`Access to ${id}`, (shown) => app.dialogs.form(shown, "Set the access", act, content));
   });
 }

@@ -27,7 +27,7 @@ export class DagData {
 
   /** The pages of the instances of a run, which are read again soon if the run has not ended or was changed. `from`: only the page of this task. */
   instanceSources(run, from) {
-    if (!this.app.permits.readsInstances() || !this.tasks || !canAsk(run.dag_run_id)) return [];
+    if (!this.app.permits.readsInstances(this.id) || !this.tasks || !canAsk(run.dag_run_id)) return [];
     const known = this.of(run.dag_run_id), found = [], asIs = `${run.state} ${run.start_date} ${run.end_date}`;
     const isOver = hasEnded(run.state);
     for (let at = from ?? 0; at < (from === undefined ? Math.max(1, this.tasks.length) : from + 1); at += MOST) {

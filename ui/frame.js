@@ -8,7 +8,7 @@ import { button, head, link, trouble } from "./widgets.js";
 /** The views that are offered: those for which there may be something to read. */
 const PLACES = [
   ["dags", "DAGs", (may) => may.onSomeDag("can_read")],
-  ["runs", "Runs", (may) => may.onSomeDag("can_read") && may.readsRuns()],
+  ["runs", "Runs", (may) => may.readsSomeRuns()],
   ["pools", "Pools", (may) => may.has("Pools", "can_read")],
   ["variables", "Variables", (may) => may.has("Variables", "can_read")],
   ["events", "Event log", (may) => may.has("Audit Logs", "can_read")],

@@ -1,7 +1,7 @@
 // Permissions as a matrix: who by which resource, with a letter for each action.
 
 import { h } from "./dom.js";
-import { ACTIONS, RESOURCES, VERBS, split } from "./permits.js";
+import { ACTIONS, ITS_RUNS, ONE_DAG, RESOURCES, VERBS, split } from "./permits.js";
 import { listed } from "./format.js";
 import { dagLink } from "./widgets.js";
 
@@ -14,17 +14,19 @@ export function letters(held, actions = ACTIONS) {
     actions.map((it) => h("span", { key: it, class: held.includes(it) ? "has" : "lacks", "aria-hidden": "true" }, held.includes(it) ? LETTERS[it] : "·")));
 }
 
-/** A cell for each resource, and one for single DAGs. */
+/** A cell for each resource, and one for single DAGs and their runs. */
 export function matrixCells(permissions) {
   const by = new Map();
   for (const it of permissions) {
     const [resource, action] = split(it);
     by.set(resource, [...(by.get(resource) || []), action]);
   }
-  const dags = [...by].filter(([resource]) => resource.startsWith("DAG:"));
+  const of = (begin) => [...by].filter(([resource]) => resource.startsWith(begin)).map(([resource, actions]) => [resource, actions,
+    resource.slice(begin.length)]);
   return [...RESOURCES.map((it) => letters(by.get(it) || [])),
     h("ul", { class: "single" },
-    dags.map(([resource, actions]) => h("li", { key: resource }, letters(actions, ACTIONS.slice(1)), " ", dagLink(resource.slice(4)))))];
+    of(ONE_DAG).map(([resource, actions, id]) => h("li", { key: resource }, letters(actions, ACTIONS.slice(1)), " ", dagLink(id))),
+    of(ITS_RUNS).map(([resource, actions, id]) => h("li", { key: resource }, letters(actions), " runs of ", dagLink(id))))];
 }
 
 export const matrixColumns = [...RESOURCES.map((it) => [it, "letter"]), ["Single DAGs", ""]];

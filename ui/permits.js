@@ -23,7 +23,14 @@ export function split(permission) {
   return [permission.slice(0, dot), permission.slice(dot + 1)];
 }
 
-export const thing = (resource) => (resource.startsWith("DAG:") ? `the DAG ${resource.slice(4)}` : THINGS[resource] || resource);
+/** How the resource begins that is one DAG, and the one that is its runs: the id follows. */
+export const ONE_DAG = "DAG:", ITS_RUNS = "DAG Run:";
+
+/** The DAG whose runs a resource is, or none. */
+const runsOf = (resource) => (resource.startsWith(ITS_RUNS) ? resource.slice(ITS_RUNS.length) : null);
+
+export const thing = (resource) => (resource.startsWith(ONE_DAG) ? `the DAG ${resource.slice(ONE_DAG.length)}`
+  : runsOf(resource) !== null ? `the runs of the DAG ${runsOf(resource)}` : THINGS[resource] || resource);
 
 /** The permissions of a user, as `GET /own/me` lists them. */
 export class Permits {
@@ -42,41 +49,52 @@ export class Permits {
 
   /** On some DAG: which may not exist. */
   onSomeDag(action) {
-    return this.has("DAGs", action) || [...this.all].some((it) => it.startsWith("DAG:") && it.endsWith(`.${action}`));
+    return this.has("DAGs", action) || [...this.all].some((it) => it.startsWith(ONE_DAG) && it.endsWith(`.${action}`));
   }
 
-  readsRuns() {
-    return this.has("DAG Runs", "can_read");
+  /** On the runs of one DAG: by a permission on the runs of all of them, or of this one. */
+  onRuns(id, action) {
+    return this.has("DAG Runs", action) || this.has(`${ITS_RUNS}${id}`, action);
   }
 
-  readsInstances() {
-    return this.readsRuns() && this.has("Task Instances", "can_read");
+  /** One action on some DAG, which may not exist, and another on its runs. */
+  onSomeRuns(onDag, action) {
+    if (this.has("DAG Runs", action)) return this.onSomeDag(onDag);
+    return [...this.all].map(split).some(([resource, its]) => its === action && runsOf(resource) !== null && this.onDag(runsOf(resource), onDag));
+  }
+
+  readsRuns(id) {
+    return this.onRuns(id, "can_read");
+  }
+
+  /** The runs of some DAG that may be read too, so that the list of all runs may be. */
+  readsSomeRuns() {
+    return this.onSomeRuns("can_read", "can_read");
+  }
+
+  readsInstances(id) {
+    return this.readsRuns(id) && this.has("Task Instances", "can_read");
   }
 
   triggers(id) {
-    return this.onDag(id, "can_edit") && this.has("DAG Runs", "can_create");
+    return this.onDag(id, "can_edit") && this.onRuns(id, "can_create");
   }
 
   marks(id) {
-    return this.onDag(id, "can_edit") && this.has("DAG Runs", "can_edit");
+    return this.onDag(id, "can_edit") && this.onRuns(id, "can_edit");
   }
 
   deletes(id) {
-    return this.onDag(id, "can_edit") && this.has("DAG Runs", "can_delete");
+    return this.onDag(id, "can_edit") && this.onRuns(id, "can_delete");
   }
 
   clearsTasks(id) {
-    return this.onDag(id, "can_edit") && this.readsRuns() && this.has("Task Instances", "can_edit");
+    return this.onDag(id, "can_edit") && this.readsRuns(id) && this.has("Task Instances", "can_edit");
   }
 
-  /** Rows of single DAGs: the id, and the actions on it. */
-  dags() {
-    const found = new Map();
-    for (const it of this.all) {
-      const [resource, action] = split(it);
-      if (resource.startsWith("DAG:")) found.set(resource.slice(4), [...(found.get(resource.slice(4)) || []), action]);
-    }
-    return found;
+  /** The ids of the single DAGs that permissions name, or whose runs they name. */
+  singles(begin) {
+    return [...new Set([...this.all].map((it) => split(it)[0]).filter((it) => it.startsWith(begin)).map((it) => it.slice(begin.length)))];
   }
 }
 

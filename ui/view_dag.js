@@ -52,7 +52,7 @@ export class DagView {
 
   sources() {
     const { query } = this, { permits } = this.app, found = this.data.sources();
-    if (!permits.readsRuns()) return found;
+    if (!permits.readsRuns(this.id)) return found;
     found.push(this.runsSource(), ...this.outsideSource());
     const shown = [...(this.runs || [])].reverse(), run = this.run();
     if (run && this.tab !== "grid") return [...found, ...this.data.instanceSources(run), ...this.data.poolSources(this.chosenRow())];
@@ -155,10 +155,10 @@ export class DagView {
   body() {
     const { app, data } = this, { permits } = app;
     const why = app.poller.error("tasks") || app.poller.error("runs");
-    const lacks = ["Task Instances", ...(this.tab === "graph" ? [] : ["DAG Runs"])].find((it) => !permits.has(it, "can_read"));
+    const lacks = !permits.has("Task Instances", "can_read") ? "Task Instances" : this.tab !== "graph" && !permits.readsRuns(this.id) ? "DAG Runs" : null;
     if (lacks) return trouble({ status: 403, detail: `missing permission ${lacks}.can_read` }, app.me);
     if (why) return trouble(why, app.me);
-    if (!data.tasks || (permits.readsRuns() && !this.runs)) return loading();
+    if (!data.tasks || (permits.readsRuns(this.id) && !this.runs)) return loading();
     return h("div", { class: "split", key: "split" }, h("div", { class: "left" }, this.shown()),
       h("aside", { class: "right", "aria-label": "What is chosen" }, this.panel()));
   }

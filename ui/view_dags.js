@@ -66,9 +66,14 @@ export class DagsView {
         this.pages.set(`${at}-${size}`, json.dags);
       },
     }));
-    if (!this.app.permits.readsRuns()) return dags;
+    if (!this.app.permits.readsSomeRuns()) return dags;
     const latest = this.latest.source("latest", 2, () => this.spread());
-    return [...dags, ...this.rows().rows.filter((it) => canAsk(it.dag_id)).map((it) => this.tail(it.dag_id).source(`runs-${it.dag_id}`, 12)), latest];
+    return [...dags, ...this.withRuns().map((it) => this.tail(it.dag_id).source(`runs-${it.dag_id}`, 12)), latest];
+  }
+
+  /** The DAGs of this page whose runs can be read. */
+  withRuns() {
+    return this.rows().rows.filter((it) => canAsk(it.dag_id) && this.app.permits.readsRuns(it.dag_id));
   }
 
   tail(id) {
@@ -82,7 +87,7 @@ export class DagsView {
 
   /** The latest runs of all DAGs are news for those on this page. */
   spread() {
-    for (const { dag_id: id } of this.rows().rows.filter((it) => canAsk(it.dag_id))) {
+    for (const { dag_id: id } of this.withRuns()) {
       const isWhole = this.tail(id).merge(this.latest.rows.filter((it) => it.dag_id === id));
       if (!isWhole) this.app.poller.forget(`runs-${id}`);
     }
@@ -112,7 +117,7 @@ export class DagsView {
   }
 
   table(rows) {
-    const mayRuns = this.app.permits.readsRuns();
+    const mayRuns = this.app.permits.readsSomeRuns();
     const mayTrigger = rows.some((it) => this.app.permits.triggers(it.dag_id));
     const columns = [["", "tight"], ["DAG", "row"], ...(mayRuns ? [["Last runs, newest right", "runs"], ["Last run", ""]] : []), ["Next run", ""],
       ...(mayTrigger ? [["", "act"]] : [])];
@@ -122,7 +127,7 @@ export class DagsView {
 
   cells(dag, mayRuns, mayTrigger) {
     const tail = canAsk(dag.dag_id) ? this.tail(dag.dag_id) : { rows: [], isRead: false }, last = tail.rows[tail.rows.length - 1];
-    const runs = !mayRuns ? [] : [
+    const runs = !mayRuns ? [] : !this.app.permits.readsRuns(dag.dag_id) ? [h("span", { class: "faint" }, "–"), ""] : [
       tail.isRead ? this.bars(tail) : h("span", { class: "faint" }, "…"),
       last ? h("span", { class: "last" }, badge(last.state),
         h("span", { class: "sub" }, moment(last.end_date || last.start_date || last.logical_date))) : tail.isRead ? h("span", { class: "faint" },

@@ -55,7 +55,7 @@ export class RunView {
     if (why) return h("section", null, top, trouble(why, app.me));
     if (!run) return h("section", null, top, loading());
     const rows = data.rows(this.runId), denied = app.poller.error("tasks");
-    const mayRead = app.permits.readsInstances();
+    const mayRead = app.permits.readsInstances(this.id);
     const content = !mayRead ? trouble({ status: 403, detail: "missing permission Task Instances.can_read" }, app.me)
       : denied ? trouble(denied, app.me) : rows ? this.instances(rows) : loading();
     return h("section", { class: "run-view" }, top,

@@ -385,3 +385,19 @@ class Demo(DemoCase):
             self.assertEqual([it["dag_id"] for it in self.ask("sid", "GET", "/api/v1/dags")[1]["dags"]], SEARCH)
         finally:
             self.ask("ada", "POST", "/own/dags/search.purge/sync", {"access_control": {"Search Editor": ["can_read", "can_edit"]}})
+
+    def test_access_keeps_what_roles_may_do_on_the_runs(self):
+        """A sync takes both kinds away, so the page sends both: nora keeps the runs of the DAG where another role gets something on them."""
+        given = self.ask("nora", "GET", "/own/me")[1]["permissions"]
+        access = next(it["access_control"] for it in json.loads(DEMO)["dags"] if it["dag_id"] == "payments.refund")
+        self.sign_in("ada", "#/dags/payments.refund")
+        self.browser.press("Access …")
+        self.assertTrue(self.browser.one("dialog input[aria-label='Payments On-call may create runs']").is_selected())
+        self.browser.one("dialog input[aria-label='Payments Reader may create runs']").click()
+        self.browser.press("Set the access", "dialog")
+        self.browser.see("access to payments.refund set")
+        try:
+            self.assertEqual(self.ask("nora", "GET", "/own/me")[1]["permissions"], given)
+            self.assertIn("DAG Run:payments.refund.can_create", self.ask("pete", "GET", "/own/me")[1]["permissions"])
+        finally:
+            self.ask("ada", "POST", "/own/dags/payments.refund/sync", {"access_control": access})
