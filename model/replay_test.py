@@ -53,7 +53,7 @@ class Random(unittest.TestCase):
     def altered(self, told, alter):
         """Each connection with the first answer of a target that begins so, and has rows, altered."""
         rng = random.Random(6)
-        for _ in range(6):
+        for _ in range(10):
             config, found, count = connection(rng)
             looks = range(len(found) - count, len(found))
             at = next((it for it in looks if found[it][0].target.startswith(told) and has_rows(found[it][1])), None)
