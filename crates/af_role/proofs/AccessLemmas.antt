@@ -1,6 +1,9 @@
 -- Permissions put one by one into an empty set, and what a DAG's access control lists.
-use Rattle.std.proofs.Common.{◌≡◌, ℕ, ◌+◌, ◌<◌, length, take, get_or, add-one, List, [], ◌∷◌, ◌++◌, Bool, ◌||◌, refl, sym, ap, subst, ◌∙◌, fold, append_assoc}
-use Rattle.std.specs.List.{AllByRecursion, filter, flat_map}
+use Rattle.std.proofs.Common.{◌≡◌, ℕ, suc, ◌+◌, ◌<◌, length, take, drop, drop-cons, get_or, add-one, List, [], ◌∷◌, ◌++◌, Bool, true, false, ◌||◌, ◌&&◌, nat_eq, cond, Option, Some, None, refl, sym, ap, subst, ◌∙◌, fold, append_assoc}
+use Rattle.std.specs.Option.{option_or}
+use Rattle.std.proofs.lemmas.List.{take-append-drop}
+use Rattle.std.specs.List.{AllByRecursion, cons_option, filter, flat_map}
+use Rattle.std.specs.Cmp.Lexicographic.{pointwise}
 use Rattle.af_role.specs.Roles.{contains_pair}
 use Rattle.std.specs.List.Sorted.{IsStrictlySortedBy}
 use Rattle.std.specs.Cmp.{IsTotalOrder}
@@ -15,8 +18,14 @@ use Rattle.std.proofs.lemmas.List.Sums.{fold-append}
 use Rattle.std.proofs.lemmas.List.Concat.{flat_map-cons}
 use Rattle.std.proofs.lemmas.List.Folds.{list_any-append}
 use Rattle.std.proofs.lemmas.List.Kept.{IsStrictlySortedBy-filter}
-use Rattle.af_role.specs.Pairs.{PairRow, pair_cmp, same_pair, with_pair, with_pairs}
-use Rattle.af_role.proofs.DagMaskLemmas.{or_group, or_turn}
+use Rattle.af_role.specs.declared.access.AccessRow.{AccessRow}
+use Rattle.af_role.specs.declared.action.Action.{Action}
+use Rattle.af_role.specs.declared.dag_part.DagPart.{DagPart}
+use Rattle.af_role.specs.declared.dag_part.DagPart.TheVariants.{Itself, Runs}
+use Rattle.af_role.specs.Resources.{action_of, same_action, same_part}
+use Rattle.af_role.specs.Pairs.{PairRow, on_part, pair_cmp, part_carries, same_pair, with_pair, with_pairs}
+use Rattle.af_role.specs.Access.{bad_action, bad_in_row, on_that_dag, pairs_at, texts_on}
+use Rattle.af_role.proofs.DagMaskLemmas.{or_group, or_nil, or_turn}
 
 pub pair_total : IsTotalOrder pair_cmp
 pair_total = search (comparing, rules) depth 9
@@ -87,3 +96,50 @@ listed_next f splits pair start now after xs i x is below so more =
     ∙ ap (λ b. b || start)
     (sym (contains-append pair (f (take i xs)) (f (x ∷ [])))
     ∙ ap (λ pairs. contains_pair pairs pair) (sym (splits (take i xs) (x ∷ [])) ∙ ap f (sym (take_more xs i x is below))))
+
+-- what is listed for one part of a DAG is not on the other
+apart : (part other : DagPart) → same_part other part ≡ false → (dag : List ℕ) (texts : List (List ℕ)) (action : Action) → contains_pair (pairs_at other dag texts) (on_part part action dag) ≡ false
+apart part other differs dag [] action = refl
+apart part other differs dag (text ∷ texts) action = step (action_of text) (apart part other differs dag texts action)
+  where
+    kept : (own : Action) (b : Bool) → contains_pair (pairs_at other dag texts) (on_part part action dag) ≡ false → contains_pair (cons_option (cond b (Some (on_part other own dag)) None) (pairs_at other dag texts)) (on_part part action dag) ≡ false
+    kept own true rest = ap (λ t. ((t && pointwise nat_eq dag dag) && same_action own action) || contains_pair (pairs_at other dag texts) (on_part part action dag)) differs ∙ rest
+    kept own false rest = rest
+
+    step : (found : Option Action) → contains_pair (pairs_at other dag texts) (on_part part action dag) ≡ false → contains_pair (cons_option (on_that_dag other dag found) (pairs_at other dag texts)) (on_part part action dag) ≡ false
+    step None rest = rest
+    step (Some own) rest = kept own (part_carries other own) rest
+
+-- of what a row lists for a role, the actions on the DAG itself are those listed for it, and so with its runs
+pub listed_on : (part : DagPart) (dag : List ℕ) (row : AccessRow) (action : Action) → contains_pair (pairs_at Itself dag row.actions ++ pairs_at Runs dag row.runs) (on_part part action dag) ≡ contains_pair (pairs_at part dag (texts_on part row)) (on_part part action dag)
+listed_on Itself dag row action =
+    list_any-append (λ own. same_pair own (on_part Itself action dag)) (pairs_at Itself dag row.actions) (pairs_at Runs dag row.runs)
+    ∙ ap (λ b. contains_pair (pairs_at Itself dag row.actions) (on_part Itself action dag) || b) (apart Itself Runs refl dag row.runs action)
+    ∙ or_nil (contains_pair (pairs_at Itself dag row.actions) (on_part Itself action dag))
+listed_on Runs dag row action =
+    list_any-append (λ own. same_pair own (on_part Runs action dag)) (pairs_at Itself dag row.actions) (pairs_at Runs dag row.runs)
+    ∙ ap (λ b. b || contains_pair (pairs_at Runs dag row.runs) (on_part Runs action dag)) (apart Runs Itself refl dag row.actions action)
+
+-- the first text that is no action, found while rows are looked at one by one
+or-group : {X : Type 0} (a b c : Option X) → option_or a (option_or b c) ≡ option_or (option_or a b) c
+or-group None b c = refl
+or-group (Some x) b c = refl
+
+bad-append : (rows more : List AccessRow) → bad_action (rows ++ more) ≡ option_or (bad_action rows) (bad_action more)
+bad-append [] more = refl
+bad-append (row ∷ rows) more =
+    ap (option_or (bad_in_row row)) (bad-append rows more) ∙ or-group (bad_in_row row) (bad_action rows) (bad_action more)
+
+module _ (rows : List AccessRow) (i : ℕ) (row : AccessRow) (is : row ≡ get_or rows i row) (below : i < length rows) (none : bad_action (take i rows) ≡ None) where
+  pub bad_found : (text : List ℕ) → bad_in_row row ≡ Some text → bad_action rows ≡ Some text
+  bad_found text found =
+      ap bad_action (sym (take-append-drop i rows))
+      ∙ bad-append (take i rows) (drop i rows)
+      ∙ (λ j. option_or (none j) (bad_action ((drop-cons rows i row below ∙ ap (λ y. y ∷ drop (suc i) rows) (sym is)) j)))
+      ∙ ap (λ o. option_or o (bad_action (drop (suc i) rows))) found
+
+  pub bad_none_more : bad_in_row row ≡ None → bad_action (take (i + 1) rows) ≡ None
+  bad_none_more fails =
+      ap bad_action (take_more rows i row is below)
+      ∙ bad-append (take i rows) (row ∷ [])
+      ∙ (λ j. option_or (none j) (option_or (fails j) None))

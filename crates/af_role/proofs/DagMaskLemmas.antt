@@ -17,7 +17,8 @@ use Rattle.af_base.proofs.OrderedLemmas.{place_from_search}
 use Rattle.af_role.specs.declared.action.Action.{Action}
 use Rattle.af_role.specs.declared.dag_mask.DagActions.{DagActions}
 use Rattle.af_role.specs.ActionSets.{has}
-use Rattle.af_role.specs.DagMasks.{dag_has, id_of, row_has}
+use Rattle.af_role.specs.declared.dag_part.DagPart.{DagPart}
+use Rattle.af_role.specs.DagMasks.{actions_on, dag_has, id_of, row_has}
 use Rattle.af_role.specs.DagMarks.{AreMarked, is_marked, mark_of}
 
 pub or_turn : (a b c : Bool) → (a || (b || c)) ≡ (b || (a || c))
@@ -70,40 +71,40 @@ list_any-insert test xs i y =
     ∙ ap (λ b. test y || b) (sym (list_any-append test (take i xs) (drop i xs)) ∙ ap (list_any test) (take-append-drop i xs))
 
 -- the row of a DAG has the actions on it
-pub stands_has : (rows : List DagActions) (dag : List ℕ) (place : ℕ) (d : DagActions) (action : Action) → StandsAt id_of rows dag place → dag_has rows dag action ≡ has ((get_or rows place d).actions) action
-stands_has rows dag place d action stands =
-    list_any-alone (row_has dag action) rows place d stands.within
-    (λ other e inside apart. ap (λ b. b && has ((get_or rows other e).actions) action) (stands.alone other e inside apart))
-    ∙ ap (λ b. b && has ((get_or rows place d).actions) action) (stands.here d)
+pub stands_has : (rows : List DagActions) (part : DagPart) (dag : List ℕ) (place : ℕ) (d : DagActions) (action : Action) → StandsAt id_of rows dag place → dag_has rows part dag action ≡ has (actions_on part (get_or rows place d)) action
+stands_has rows part dag place d action stands =
+    list_any-alone (row_has part dag action) rows place d stands.within
+    (λ other e inside apart. ap (λ b. b && has (actions_on part (get_or rows other e)) action) (stands.alone other e inside apart))
+    ∙ ap (λ b. b && has (actions_on part (get_or rows place d)) action) (stands.here d)
 
 -- a DAG that no row is about has no action
-none_has : (rows : List DagActions) (dag : List ℕ) (action : Action) → list_any (has_key id_of dag) rows ≡ false → dag_has rows dag action ≡ false
-none_has [] dag action none = refl
-none_has (x ∷ xs) dag action none = step (has_key id_of dag x) (none_has xs dag action) none
+none_has : (rows : List DagActions) (part : DagPart) (dag : List ℕ) (action : Action) → list_any (has_key id_of dag) rows ≡ false → dag_has rows part dag action ≡ false
+none_has [] part dag action none = refl
+none_has (x ∷ xs) part dag action none = step (has_key id_of dag x) (none_has xs part dag action) none
   where
-    step : (b : Bool) → (list_any (has_key id_of dag) xs ≡ false → dag_has xs dag action ≡ false) → (b || list_any (has_key id_of dag) xs) ≡ false → ((b && has x.actions action) || dag_has xs dag action) ≡ false
+    step : (b : Bool) → (list_any (has_key id_of dag) xs ≡ false → dag_has xs part dag action ≡ false) → (b || list_any (has_key id_of dag) xs) ≡ false → ((b && has (actions_on part x) action) || dag_has xs part dag action) ≡ false
     step true later e = absurd (true≢false e)
     step false later e = later e
 
 -- a DAG without a row has no action
-pub fits_has : (rows : List DagActions) (dag : List ℕ) (place : ℕ) (action : Action) → FitsAt id_of rows dag place → dag_has rows dag action ≡ false
-fits_has rows dag place action fits = none_has rows dag action fits.absent
+pub fits_has : (rows : List DagActions) (part : DagPart) (dag : List ℕ) (place : ℕ) (action : Action) → FitsAt id_of rows dag place → dag_has rows part dag action ≡ false
+fits_has rows part dag place action fits = none_has rows part dag action fits.absent
 
 -- an action added to the row of a DAG
-pub added_at : (rows : List DagActions) (dag : List ℕ) (place : ℕ) (row own : DagActions) (b : Action → Bool) → StandsAt id_of rows dag place → own ≡ get_or rows place own → row.dag ≡ own.dag → ((a : Action) → has row.actions a ≡ (b a || has own.actions a)) → (other : List ℕ) (a : Action) → dag_has (set rows place row) other a ≡ ((pointwise nat_eq dag other && b a) || dag_has rows other a)
-added_at rows dag place row own b stands at same more other a =
+pub added_at : (rows : List DagActions) (dag : List ℕ) (place : ℕ) (row own : DagActions) (b : DagPart → Action → Bool) → StandsAt id_of rows dag place → own ≡ get_or rows place own → row.dag ≡ own.dag → ((p : DagPart) (a : Action) → has (actions_on p row) a ≡ (b p a || has (actions_on p own) a)) → (p : DagPart) (other : List ℕ) (a : Action) → dag_has (set rows place row) p other a ≡ ((pointwise nat_eq dag other && b p a) || dag_has rows p other a)
+added_at rows dag place row own b stands at same more p other a =
     let own_id : own.dag ≡ dag = ap id_of at ∙ (bytes_decides ((get_or rows place own).dag) dag).0 (stands.here own)
-    in list_any-set (row_has other a) rows place row own (pointwise nat_eq dag other && b a) stands.within at
-    (ap (λ id. pointwise nat_eq id other && has row.actions a) same
-    ∙ ap (λ t. pointwise nat_eq own.dag other && t) (more a)
-    ∙ and-or_distrib_left (pointwise nat_eq own.dag other) (b a) (has own.actions a)
-    ∙ ap (λ id. (pointwise nat_eq id other && b a) || row_has other a own) own_id)
+    in list_any-set (row_has p other a) rows place row own (pointwise nat_eq dag other && b p a) stands.within at
+    (ap (λ id. pointwise nat_eq id other && has (actions_on p row) a) same
+    ∙ ap (λ t. pointwise nat_eq own.dag other && t) (more p a)
+    ∙ and-or_distrib_left (pointwise nat_eq own.dag other) (b p a) (has (actions_on p own) a)
+    ∙ ap (λ id. (pointwise nat_eq id other && b p a) || row_has p other a own) own_id)
 
 -- the row of a DAG that had none
-pub added_row : (rows : List DagActions) (dag : List ℕ) (place : ℕ) (row : DagActions) (b : Action → Bool) → row.dag ≡ dag → ((a : Action) → has row.actions a ≡ b a) → (other : List ℕ) (a : Action) → dag_has (insert rows place row) other a ≡ ((pointwise nat_eq dag other && b a) || dag_has rows other a)
-added_row rows dag place row b same is other a =
-    list_any-insert (row_has other a) rows place row
-    ∙ (λ i. (pointwise nat_eq (same i) other && is a i) || dag_has rows other a)
+pub added_row : (rows : List DagActions) (dag : List ℕ) (place : ℕ) (row : DagActions) (b : DagPart → Action → Bool) → row.dag ≡ dag → ((p : DagPart) (a : Action) → has (actions_on p row) a ≡ b p a) → (p : DagPart) (other : List ℕ) (a : Action) → dag_has (insert rows place row) p other a ≡ ((pointwise nat_eq dag other && b p a) || dag_has rows p other a)
+added_row rows dag place row b same is p other a =
+    list_any-insert (row_has p other a) rows place row
+    ∙ (λ i. (pointwise nat_eq (same i) other && is p a i) || dag_has rows p other a)
 
 lowest : (o : Ordering) → ordering_index o ≤ 0 → o ≡ Less
 lowest Less within = refl
@@ -128,13 +129,13 @@ module _ (rows : List DagActions) (dag : List ℕ) (last : ℕ) (row : DagAction
       ))
 
 -- a DAG whose mark is not set has no action, where the mark of each row's DAG is set
-pub unmarked_has : (marks : List Bool) (rows : List DagActions) (dag : List ℕ) (action : Action) → AreMarked marks rows → is_marked marks dag ≡ false → dag_has rows dag action ≡ false
-unmarked_has marks [] dag action all none = refl
-unmarked_has marks (x ∷ xs) dag action all none = step (pointwise nat_eq x.dag dag) refl (unmarked_has marks xs dag action (or_second (not (is_marked marks x.dag)) (list_any (λ row. not (is_marked marks row.dag)) xs) all) none)
+pub unmarked_has : (marks : List Bool) (rows : List DagActions) (part : DagPart) (dag : List ℕ) (action : Action) → AreMarked marks rows → is_marked marks dag ≡ false → dag_has rows part dag action ≡ false
+unmarked_has marks [] part dag action all none = refl
+unmarked_has marks (x ∷ xs) part dag action all none = step (pointwise nat_eq x.dag dag) refl (unmarked_has marks xs part dag action (or_second (not (is_marked marks x.dag)) (list_any (λ row. not (is_marked marks row.dag)) xs) all) none)
   where
-    step : (same : Bool) → pointwise nat_eq x.dag dag ≡ same → dag_has xs dag action ≡ false → dag_has (x ∷ xs) dag action ≡ false
+    step : (same : Bool) → pointwise nat_eq x.dag dag ≡ same → dag_has xs part dag action ≡ false → dag_has (x ∷ xs) part dag action ≡ false
     step true one later = absurd (true≢false (sym (ap not (ap (is_marked marks) ((bytes_decides x.dag dag).0 one) ∙ none)) ∙ or_first (not (is_marked marks x.dag)) (list_any (λ row. not (is_marked marks row.dag)) xs) all))
-    step false one later = ap (λ t. (t && has x.actions action) || dag_has xs dag action) one ∙ later
+    step false one later = ap (λ t. (t && has (actions_on part x) action) || dag_has xs part dag action) one ∙ later
 
 -- rows stay marked where no mark is taken away
 pub marked_still : (old new : List Bool) (rows : List DagActions) (more : List ℕ → Bool) → ((other : List ℕ) → is_marked new other ≡ (more other || is_marked old other)) → AreMarked old rows → AreMarked new rows

@@ -6,6 +6,7 @@ use Rattle.std.proofs.lemmas.Bool.Decides.{Decides-and, Decides-eqb, Decides-lik
 use Rattle.af_role.specs.declared.action.Action.{Action}
 use Rattle.af_role.specs.declared.action.Action.TheVariants.{Create, Read, Edit, Delete}
 use Rattle.af_role.specs.declared.resource.ResourceKind.TheVariants.{Dags, DagRuns, TaskInstances, Pools, Variables, AuditLogs, Roles, Users}
+use Rattle.af_role.specs.declared.dag_part.DagPart.TheVariants.{Itself, Runs}
 use Rattle.af_role.specs.declared.resource.Resource.{Resource}
 use Rattle.af_role.specs.declared.resource.Resource.TheVariants.{Kind, Dag}
 use Rattle.af_role.specs.Resources.{action_rank, actions, kinds, resource_id, resource_rank, same_action, same_resource}
@@ -28,13 +29,14 @@ same_action-decides a b = (
   λ e. (Decides-eqb (action_rank a) (action_rank b)).1 (ap action_rank e),
 )
 
--- the resource at a place in their order, where single DAGs come after the eight kinds
+-- the resource at a place in their order, where single DAGs come after the eight kinds, and their runs after them
 resource_at : ℕ → List ℕ → Resource
-resource_at n id = cond (n == 8) (Dag id) (Kind (get_or kinds n Dags))
+resource_at n id = cond (n == 8) (Dag Itself id) (cond (n == 9) (Dag Runs id) (Kind (get_or kinds n Dags)))
 
 resource_at-rank : (r : Resource) → resource_at (resource_rank r) (resource_id r) ≡ r
 unfolding resource_at
-resource_at-rank (Dag d) = refl
+resource_at-rank (Dag Itself d) = refl
+resource_at-rank (Dag Runs d) = refl
 resource_at-rank (Kind Dags) = refl
 resource_at-rank (Kind DagRuns) = refl
 resource_at-rank (Kind TaskInstances) = refl

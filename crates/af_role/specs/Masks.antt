@@ -10,7 +10,7 @@ use Rattle.af_role.specs.DagMasks.{dag_has}
 
 abbrev pub allows_on : Mask → Resource → Action → Bool
 allows_on mask (Kind kind) action = kind_has mask.kinds kind action
-allows_on mask (Dag dag) action = dag_has mask.dags dag action
+allows_on mask (Dag part dag) action = dag_has mask.dags part dag action
 
 abbrev pub allows : Mask → PairRow → Bool
 allows mask pair = allows_on mask pair.resource pair.action

@@ -8,6 +8,8 @@ use Rattle.std.specs.declared.cmp.Ordering.{Ordering}
 use Rattle.af_role.specs.declared.action.Action.{Action}
 use Rattle.af_role.specs.declared.action.Action.TheVariants.{Create}
 use Rattle.af_role.specs.declared.resource.ResourceKind.{ResourceKind}
+use Rattle.af_role.specs.declared.dag_part.DagPart.{DagPart}
+use Rattle.af_role.specs.declared.dag_part.DagPart.TheVariants.{Itself, Runs}
 use Rattle.af_role.specs.declared.resource.Resource.{Resource}
 use Rattle.af_role.specs.declared.resource.Resource.TheVariants.{Kind, Dag}
 use Rattle.af_role.specs.Resources.{action_rank, action_text, same_action, resource_cmp, resource_id, resource_rank, resource_text, same_resource}
@@ -16,17 +18,29 @@ pub record PairRow : Type 0 where
   pub action : Action
   pub resource : Resource
 
--- an action on a whole kind, and one on a single DAG
+-- an action on a whole kind
 abbrev pub on_kind : Action → ResourceKind → PairRow
 on_kind action kind = record { action = action; resource = Kind kind }
 
-abbrev pub on_dag : Action → List ℕ → PairRow
-on_dag action dag = record { action = action; resource = Dag dag }
+-- an action on a single DAG, or on its runs
+abbrev pub on_part : DagPart → Action → List ℕ → PairRow
+on_part part action dag = record { action = action; resource = Dag part dag }
 
--- a kind carries all four actions, a single DAG all but `can_create`
+abbrev pub on_dag : Action → List ℕ → PairRow
+on_dag = on_part Itself
+
+abbrev pub on_runs : Action → List ℕ → PairRow
+on_runs = on_part Runs
+
+-- the runs of a single DAG carry all four actions, the DAG itself all but `can_create`
+abbrev pub part_carries : DagPart → Action → Bool
+part_carries Itself action = not (same_action action Create)
+part_carries Runs action = true
+
+-- a kind carries all four
 abbrev pub carries : Resource → Action → Bool
 carries (Kind kind) action = true
-carries (Dag dag) action = not (same_action action Create)
+carries (Dag part dag) action = part_carries part action
 
 -- the permission of an action and a resource, if there is one
 abbrev pub pair_of : Action → Resource → Option PairRow

@@ -2,24 +2,27 @@ ghost use Rattle.std.specs.Prelude.{◌≡◌, ◌||◌, List, ℕ, [], ◌∷�
 ghost use Rattle.std.specs.Option.{option_copied};
 ghost use Rattle.af_role.specs.declared.action.Action.{Action};
 ghost use Rattle.af_role.specs.ActionSets.{has};
-ghost use Rattle.af_role.specs.Pairs.{on_dag, with_pairs};
+ghost use Rattle.af_role.specs.declared.dag_part.DagPart.{DagPart};
+ghost use Rattle.af_role.specs.declared.dag_part.DagPart.TheVariants.{Itself, Runs};
+ghost use Rattle.af_role.specs.Pairs.{on_part, with_pairs};
 ghost use Rattle.af_role.specs.Roles.{contains_pair};
-ghost use Rattle.af_role.specs.Access.{bad_action, is_dag_action, listed_pairs, pair_at, pairs_at, row_pairs};
+ghost use Rattle.af_role.specs.Access.{bad_action, bad_in_row, bad_text, is_part_action, listed_pairs, pair_at, pairs_at, row_pairs, texts_on};
 
-use crate::{Action, Actions, Pair, Permissions, Resource, Text, Texts};
+use crate::{Action, Actions, DagPart, Pair, Permissions, Resource, Text, Texts};
 use af_base::{Again, Items};
 use af_names::{DagId, RoleName};
 use std::alloc::{AllocError, Global};
 use std::marker::Model;
 
-/// A role, and the texts of the actions that it is to have on one DAG.
+/// A role, and the texts of the actions that it is to have on one DAG and on its runs.
 #[derive(Drop)]
 pub struct AccessRow {
     pub role: RoleName,
     pub actions: Texts,
+    pub runs: Texts,
 }
 
-/// Which roles are to have which actions on one DAG. Contracts see it as its rows, in the order in which they were given.
+/// Which roles are to have which actions on one DAG and on its runs. Contracts see it as its rows, in the order in which they were given.
 #[derive(Drop)]
 pub struct AccessControl {
     rows: Items<AccessRow>,
@@ -51,23 +54,20 @@ impl AccessControl {
         self.rows.as_slice()
     }
 
-    /// The first text, in the order of the rows and in each row in that of its texts, that is no action on one DAG.
+    /// The first text, in the order of the rows, that is no action on what it is listed for. In each row the actions on runs come first.
     pub fn bad_action(&self) -> Option<&Text>
         ensures { option_copied result ≡ bad_action self.now }
     {
-        self.as_slice()
-            .iter()
-            .flat_map(|row| row.actions.as_slice().iter())
-            .find(|text| !is_dag_action(text))
+        bad_in_rows(self.as_slice())
     }
 
-    /// The actions on one DAG that the rows for this role list, whichever DAG that is.
-    pub fn actions_of(&self, role: &RoleName) -> Actions
-        ensures { (dag : List ℕ) (action : Action) → has result action ≡ contains_pair (listed_pairs dag self.now role.now) (on_dag action dag) }
+    /// The actions on one DAG, or on its runs, that the rows for this role list, whichever DAG that is.
+    pub fn actions_of(&self, part: DagPart, role: &RoleName) -> Actions
+        ensures { (dag : List ℕ) (action : Action) → has result action ≡ contains_pair (listed_pairs dag self.now role.now) (on_part part action dag) }
     {
         let mut actions = Actions::none();
         for row in self.as_slice() {
-            row.add_actions_to(&mut actions, role);
+            row.add_actions_to(&mut actions, part, role);
         }
         actions
     }
@@ -80,7 +80,7 @@ impl AccessControl {
         Ok(AccessControl { rows })
     }
 
-    /// Adds the permissions on a DAG that the rows of a role list.
+    /// Adds the permissions on a DAG and on its runs that the rows of a role list.
     pub(crate) fn add_listed(
         &self,
         alloc: Global,
@@ -98,21 +98,46 @@ impl Again for AccessRow {
     fn copied(&self, alloc: Global) -> Result<AccessRow, AllocError> {
         let role = self.role.copied(alloc)?;
         let actions = self.actions.copied(alloc)?;
-        Ok(AccessRow { role, actions })
+        let runs = self.runs.copied(alloc)?;
+        Ok(AccessRow {
+            role,
+            actions,
+            runs,
+        })
     }
 }
 
 impl AccessRow {
-    /// Adds the actions that the row lists, if it is for this role.
-    fn add_actions_to(&self, actions: &mut Actions, role: &RoleName)
-        ensures { (dag : List ℕ) (action : Action) → has actions.new action ≡ (contains_pair (row_pairs dag role.now self.now) (on_dag action dag) || has actions.old action) }
+    /// The texts of the actions on the DAG itself, or on its runs.
+    fn on(&self, part: DagPart) -> &[Text]
+        ensures { result.now ≡ texts_on part self.now }
     {
-        if self.role == *role {
-            add_texts(actions, self.actions.as_slice());
+        match part {
+            DagPart::Itself => self.actions.as_slice(),
+            DagPart::Runs => self.runs.as_slice(),
         }
     }
 
-    /// Adds the permissions on a DAG that the row lists for a role.
+    /// The first text that is no action on what it is listed for, of those on runs and then of the others.
+    fn bad_action(&self) -> Option<&Text>
+        ensures { option_copied result ≡ bad_in_row self.now }
+    {
+        match bad_text(DagPart::Runs, self.runs.as_slice()) {
+            Some(text) => Some(text),
+            None => bad_text(DagPart::Itself, self.actions.as_slice()),
+        }
+    }
+
+    /// Adds the actions on the DAG itself, or on its runs, that the row lists, if it is for this role.
+    fn add_actions_to(&self, actions: &mut Actions, part: DagPart, role: &RoleName)
+        ensures { (dag : List ℕ) (action : Action) → has actions.new action ≡ (contains_pair (row_pairs dag role.now self.now) (on_part part action dag) || has actions.old action) }
+    {
+        if self.role == *role {
+            add_texts(actions, part, self.on(part));
+        }
+    }
+
+    /// Adds the permissions on a DAG and on its runs that the row lists for a role.
     fn add_to(
         &self,
         alloc: Global,
@@ -123,32 +148,58 @@ impl AccessRow {
         ensures { OnOk result (permissions.new ≡ with_pairs permissions.old (row_pairs dag.now role.now self.now)) }
     {
         if self.role == *role {
-            add_actions(alloc, permissions, dag, self.actions.as_slice())?;
+            add_actions(
+                alloc,
+                permissions,
+                DagPart::Itself,
+                dag,
+                self.actions.as_slice(),
+            )?;
+            add_actions(alloc, permissions, DagPart::Runs, dag, self.runs.as_slice())?;
         }
         Ok(())
     }
 }
 
-/// Adds the actions that these texts name, but for `can_create`.
-fn add_texts(actions: &mut Actions, texts: &[Text])
-    ensures { (dag : List ℕ) (action : Action) → has actions.new action ≡ (contains_pair (pairs_at dag texts.now) (on_dag action dag) || has actions.old action) }
+/// The first text that is no action on a DAG, or on its runs.
+fn bad_text(part: DagPart, texts: &[Text]) -> Option<&Text>
+    ensures { option_copied result ≡ bad_text part texts.now }
+{
+    texts.iter().find(|text| !is_part_action(part, text))
+}
+
+/// The first text of these rows that is no action on what it is listed for.
+fn bad_in_rows(rows: &[AccessRow]) -> Option<&Text>
+    ensures { option_copied result ≡ bad_action rows.now }
+{
+    for row in rows {
+        if let Some(text) = row.bad_action() {
+            return Some(text);
+        }
+    }
+    None
+}
+
+/// Adds the actions that these texts name, of those that the DAG itself, or its runs, carry.
+fn add_texts(actions: &mut Actions, part: DagPart, texts: &[Text])
+    ensures { (dag : List ℕ) (action : Action) → has actions.new action ≡ (contains_pair (pairs_at part dag texts.now) (on_part part action dag) || has actions.old action) }
 {
     for text in texts {
-        add_text(actions, text);
+        add_text(actions, part, text);
     }
 }
 
-/// Adds the action that the text names, unless it names none or `can_create`.
-fn add_text(actions: &mut Actions, text: &Text)
-    ensures { (dag : List ℕ) (action : Action) → has actions.new action ≡ (contains_pair (pairs_at dag (text.now ∷ [])) (on_dag action dag) || has actions.old action) }
+/// Adds the action that the text names, if the DAG itself, or its runs, carry it.
+fn add_text(actions: &mut Actions, part: DagPart, text: &Text)
+    ensures { (dag : List ℕ) (action : Action) → has actions.new action ≡ (contains_pair (pairs_at part dag (text.now ∷ [])) (on_part part action dag) || has actions.old action) }
 {
     match Action::read(text.as_str()) {
-        Some(Action::Create) | None => {}
-        Some(action) => *actions = actions.with(action),
+        Some(action) if part.carries(action) => *actions = actions.with(action),
+        _ => {}
     }
 }
 
-/// Adds the permissions on a DAG that rows list for a role.
+/// Adds the permissions on a DAG and on its runs that rows list for a role.
 fn add_rows(
     alloc: Global,
     permissions: &mut Permissions,
@@ -164,52 +215,59 @@ fn add_rows(
     Ok(())
 }
 
-/// Whether a text is an action that a single DAG carries.
-fn is_dag_action(text: &Text) -> bool
-    ensures { result ≡ is_dag_action text.now }
+/// Whether a text is an action that a single DAG, or its runs, carry.
+fn is_part_action(part: DagPart, text: &Text) -> bool
+    ensures { result ≡ is_part_action part text.now }
 {
     match Action::read(text.as_str()) {
-        Some(action) => action != Action::Create,
+        Some(action) => part.carries(action),
         None => false,
     }
 }
 
-/// Adds the permissions of these actions on a DAG.
+/// Adds the permissions of these actions on a DAG, or on its runs.
 fn add_actions(
     alloc: Global,
     permissions: &mut Permissions,
+    part: DagPart,
     dag: &DagId,
     texts: &[Text],
 ) -> Result<(), AllocError>
-    ensures { OnOk result (permissions.new ≡ with_pairs permissions.old (pairs_at dag.now texts.now)) }
+    ensures { OnOk result (permissions.new ≡ with_pairs permissions.old (pairs_at part dag.now texts.now)) }
 {
     for text in texts {
-        add_action(alloc, permissions, dag, text)?;
+        add_action(alloc, permissions, part, dag, text)?;
     }
     Ok(())
 }
 
-/// Adds the permission of an action on a DAG, if the text is such an action.
+/// Adds the permission of an action on a DAG, or on its runs, if the text is such an action.
 fn add_action(
     alloc: Global,
     permissions: &mut Permissions,
+    part: DagPart,
     dag: &DagId,
     text: &Text,
 ) -> Result<(), AllocError>
-    ensures { OnOk result (permissions.new ≡ with_pairs permissions.old (pairs_at dag.now (text.now ∷ []))) }
+    ensures { OnOk result (permissions.new ≡ with_pairs permissions.old (pairs_at part dag.now (text.now ∷ []))) }
 {
-    if let Some(pair) = pair_at(alloc, dag, text)? {
+    if let Some(pair) = pair_at(alloc, part, dag, text)? {
         permissions.add(pair)?;
     }
     Ok(())
 }
 
-/// The permission of an action on a DAG, if the text is such an action.
-fn pair_at(alloc: Global, dag: &DagId, text: &Text) -> Result<Option<Pair>, AllocError>
-    ensures { IfOk result (λ pair. pair ≡ pair_at dag.now text.now) }
+/// The permission of an action on a DAG, or on its runs, if the text is such an action.
+fn pair_at(
+    alloc: Global,
+    part: DagPart,
+    dag: &DagId,
+    text: &Text,
+) -> Result<Option<Pair>, AllocError>
+    ensures { IfOk result (λ pair. pair ≡ pair_at part dag.now text.now) }
 {
     match Action::read(text.as_str()) {
-        Some(action) => Ok(Pair::new(action, Resource::Dag(dag.copied(alloc)?))),
+        Some(action) => Ok(Pair::new(action, Resource::Dag(part, dag.copied(alloc)?))),
         None => Ok(None),
     }
 }

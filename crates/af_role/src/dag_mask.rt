@@ -4,22 +4,24 @@ ghost use Rattle.af_base.specs.Ordered.{AreInOrder};
 ghost use Rattle.af_base.specs.Places.{FitsAt, StandsAt};
 ghost use Rattle.af_role.specs.declared.action.Action.{Action};
 ghost use Rattle.af_role.specs.ActionSets.{has};
-ghost use Rattle.af_role.specs.Resources.{same_action};
-ghost use Rattle.af_role.specs.DagMasks.{dag_has, id_of};
+ghost use Rattle.af_role.specs.declared.dag_part.DagPart.{DagPart};
+ghost use Rattle.af_role.specs.Resources.{same_action, same_part};
+ghost use Rattle.af_role.specs.DagMasks.{actions_on, dag_has, id_of};
 
 use crate::dag_marks::DagMarks;
-use crate::{Action, Actions};
+use crate::{Action, Actions, DagPart};
 use af_base::{Keyed, place_in};
 use af_names::DagId;
 use std::alloc::{AllocError, Global};
 use std::cmp::Ordering;
 use std::marker::Model;
 
-/// The actions on one DAG.
+/// The actions on one DAG, and those on its runs.
 #[derive(Drop)]
 pub struct DagActions {
     pub dag: DagId,
     pub actions: Actions,
+    pub runs: Actions,
 }
 
 impl Keyed for DagActions {
@@ -30,7 +32,50 @@ impl Keyed for DagActions {
     }
 }
 
-/// The actions on single DAGs. Contracts see it as a row for each of these DAGs, in byte order of their ids.
+impl DagActions {
+    /// What the row has on the DAG itself, or on its runs.
+    pub fn on(&self, part: DagPart) -> Actions
+        ensures { result ≡ actions_on part self.now }
+    {
+        match part {
+            DagPart::Itself => self.actions,
+            DagPart::Runs => self.runs,
+        }
+    }
+
+    /// Adds an action on the DAG itself, or on its runs.
+    fn add(&mut self, part: DagPart, action: Action)
+        ensures dag { self.new.dag ≡ self.old.dag }
+        ensures has { (p : DagPart) (a : Action) → has (actions_on p self.new) a ≡ ((same_part part p && same_action action a) || has (actions_on p self.old) a) }
+    {
+        match part {
+            DagPart::Itself => self.actions = self.actions.with(action),
+            DagPart::Runs => self.runs = self.runs.with(action),
+        }
+    }
+
+    /// The row of a DAG with one action.
+    fn of(dag: DagId, part: DagPart, action: Action) -> DagActions
+        ensures dag { result.dag ≡ dag }
+        ensures has { (p : DagPart) (a : Action) → has (actions_on p result) a ≡ (same_part part p && same_action action a) }
+    {
+        let one = Actions::none().with(action);
+        match part {
+            DagPart::Itself => DagActions {
+                dag,
+                actions: one,
+                runs: Actions::none(),
+            },
+            DagPart::Runs => DagActions {
+                dag,
+                actions: Actions::none(),
+                runs: one,
+            },
+        }
+    }
+}
+
+/// The actions on single DAGs and on their runs. Contracts see it as a row for each of these DAGs, in byte order of their ids.
 #[derive(Drop)]
 pub struct DagMask {
     rows: Vec<DagActions>,
@@ -69,41 +114,47 @@ impl DagMask {
         self.rows.as_slice()
     }
 
-    /// The actions on a DAG. Where there are few rows, most DAGs without one are known by their mark. A row is found by binary search.
-    pub fn on(&self, dag: &DagId) -> Actions
-        ensures { (action : Action) → has result action ≡ dag_has self.now dag.now action }
+    /// The actions on a DAG, or on its runs. Where there are few rows, most DAGs without one are known by their mark. A row is found by
+    /// binary search.
+    pub fn on(&self, part: DagPart, dag: &DagId) -> Actions
+        ensures { (action : Action) → has result action ≡ dag_has self.now part dag.now action }
     {
         if !self.marks.has(dag) {
             return Actions::none();
         }
         match place_in(self.rows.as_slice(), dag.as_str()) {
-            Ok(place) => self.rows[place].actions,
+            Ok(place) => self.rows[place].on(part),
             Err(_) => Actions::none(),
         }
     }
 
-    /// Whether an action on a DAG is there. It is looked for as `on` does.
-    pub fn has(&self, action: Action, dag: &DagId) -> bool
-        ensures { result ≡ dag_has self.now dag.now action }
+    /// Whether an action on a DAG, or on its runs, is there. It is looked for as `on` does.
+    pub fn has(&self, part: DagPart, action: Action, dag: &DagId) -> bool
+        ensures { result ≡ dag_has self.now part dag.now action }
     {
-        self.on(dag).has(action)
+        self.on(part, dag).has(action)
     }
 
-    /// Adds an action on a DAG. `AllocError` only where a growth was refused; then the rows are as before.
-    pub fn add(&mut self, alloc: Global, action: Action, dag: &DagId) -> Result<(), AllocError>
+    /// Adds an action on a DAG, or on its runs. `AllocError` only where a growth was refused; then the rows are as before.
+    pub fn add(
+        &mut self,
+        alloc: Global,
+        part: DagPart,
+        action: Action,
+        dag: &DagId,
+    ) -> Result<(), AllocError>
         ensures err { OnErr result (self.new ≡ self.old) }
-        ensures ok { OnOk result ((other : List ℕ) (a : Action) → dag_has self.new other a ≡ ((pointwise nat_eq dag.now other && same_action action a) || dag_has self.old other a)) }
+        ensures ok { OnOk result ((p : DagPart) (other : List ℕ) (a : Action) → dag_has self.new p other a ≡ ((pointwise nat_eq dag.now other && (same_part part p && same_action action a)) || dag_has self.old p other a)) }
     {
         match place_from_end(self.rows.as_slice(), dag.as_str()) {
             Ok(place) => {
                 let row = &mut self.rows[place];
-                row.actions = row.actions.with(action);
+                row.add(part, action);
             }
             Err(place) => {
-                let dag = dag.copied(alloc)?;
-                let actions = Actions::none().with(action);
-                self.marks.put(&dag);
-                self.rows.insert(place, DagActions { dag, actions })?;
+                let row = DagActions::of(dag.copied(alloc)?, part, action);
+                self.marks.put(&row.dag);
+                self.rows.insert(place, row)?;
             }
         }
         Ok(())

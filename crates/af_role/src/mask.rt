@@ -1,13 +1,13 @@
 ghost use Rattle.std.specs.Prelude.{◌≡◌, ◌||◌, IfOk, OnOk};
-ghost use Rattle.af_role.specs.Pairs.{PairRow, on_dag, on_kind, same_pair};
+ghost use Rattle.af_role.specs.Pairs.{PairRow, on_kind, on_part, same_pair};
 ghost use Rattle.af_role.specs.Roles.{contains_pair};
 ghost use Rattle.af_role.specs.Masks.{allows};
 
-use crate::{Action, DagMask, KindMask, Pair, Permissions, Resource, ResourceKind};
+use crate::{Action, DagMask, DagPart, KindMask, Pair, Permissions, Resource, ResourceKind};
 use af_names::DagId;
 use std::alloc::{AllocError, Global};
 
-/// Permissions, for tests that go over none of them: the actions on each kind, and those on each single DAG.
+/// Permissions, for tests that go over none of them: the actions on each kind, and those on each single DAG and its runs.
 #[derive(Drop)]
 pub struct Mask {
     kinds: KindMask,
@@ -38,7 +38,7 @@ impl Mask {
                 self.kinds.add(pair.action(), *kind);
                 Ok(())
             }
-            Resource::Dag(dag) => self.dags.add(alloc, pair.action(), dag),
+            Resource::Dag(part, dag) => self.dags.add(alloc, *part, pair.action(), dag),
         }
     }
 
@@ -49,11 +49,11 @@ impl Mask {
         self.kinds.has(action, kind)
     }
 
-    /// Whether an action on one DAG is among them, which is looked for as `DagMask::on` does.
-    pub fn has_on_dag(&self, action: Action, dag: &DagId) -> bool
-        ensures { result ≡ allows self.now (on_dag action dag.now) }
+    /// Whether an action on one DAG, or on its runs, is among them, which is looked for as `DagMask::on` does.
+    pub fn has_on(&self, part: DagPart, action: Action, dag: &DagId) -> bool
+        ensures { result ≡ allows self.now (on_part part action dag.now) }
     {
-        self.dags.has(action, dag)
+        self.dags.has(part, action, dag)
     }
 
     /// The actions on whole kinds.
@@ -63,7 +63,7 @@ impl Mask {
         &self.kinds
     }
 
-    /// The actions on single DAGs.
+    /// The actions on single DAGs and on their runs.
     pub fn dags(&self) -> &DagMask
         ensures { result.now ≡ self.now.dags }
     {

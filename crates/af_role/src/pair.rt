@@ -71,13 +71,13 @@ impl Pair {
         &self.resource
     }
 
-    /// Whether it is about one DAG alone.
+    /// Whether it is about that DAG alone, or about its runs alone.
     pub fn is_about(&self, dag: &DagId) -> bool
         ensures { result ≡ is_about dag.now self.now }
     {
         match &self.resource {
             Resource::Kind(_) => false,
-            Resource::Dag(own) => own == dag,
+            Resource::Dag(_, own) => own == dag,
         }
     }
 
@@ -99,7 +99,7 @@ impl Resource {
     {
         match self {
             Resource::Kind(_) => true,
-            Resource::Dag(_) => action != Action::Create,
+            Resource::Dag(part, _) => part.carries(action),
         }
     }
 }

@@ -84,7 +84,7 @@ impl Permissions {
         Ok(made)
     }
 
-    /// The permissions but those on one DAG alone. `AllocError` only where a growth was refused.
+    /// The permissions but those on one DAG alone and on its runs alone. `AllocError` only where a growth was refused.
     pub fn without_dag(&self, alloc: Global, dag: &DagId) -> Result<Permissions, AllocError>
         ensures { IfOk result (λ permissions. permissions ≡ filter (λ pair. not (is_about dag.now pair)) self.now) }
     {

@@ -5,10 +5,11 @@ ghost use Rattle.std.specs.Cmp.{partial_order_from_own_ties};
 ghost use Rattle.std.specs.Cmp.Rules.{comparing};
 ghost use Rattle.std.specs.Ordering.{as_partial_cmp, nat_cmp, on};
 ghost use Rattle.af_names.specs.Names.{id_grammar, named};
+ghost use Rattle.af_role.specs.declared.dag_part.DagPart.{DagPart};
 ghost use Rattle.af_role.specs.PairTexts.{pair_of_both};
 ghost use Rattle.af_role.specs.Resources.{dag_named, kind_of, kind_rank, kind_text, resource_cmp, resource_id, resource_of, resource_rank, resource_text, rest_after, same_kind, same_resource};
 
-use crate::Action;
+use crate::{Action, DagPart};
 use af_names::{DagId, NameError};
 use std::alloc::{AllocError, Global};
 use std::cmp::Ordering;
@@ -35,13 +36,13 @@ pub enum ResourceKind {
     Users,
 }
 
-/// What a permission is about. Kinds stand before single DAGs, and these in byte order of their ids.
+/// What a permission is about. Kinds stand first, then single DAGs, then the runs of single DAGs, both in byte order of the DAGs' ids.
 #[derive(Drop)]
 pub enum Resource {
     /// All of a kind.
     Kind(ResourceKind),
-    /// One DAG, whether there is such a DAG or not.
-    Dag(DagId),
+    /// One DAG, or the runs of one DAG, whether there is such a DAG or not.
+    Dag(DagPart, DagId),
 }
 
 impl ResourceKind {
@@ -109,27 +110,30 @@ impl ResourceKind {
 }
 
 impl Resource {
-    /// The resource whose text this is: a kind's, or `DAG:` followed by the id of a DAG. None where the text is
-    /// neither, an id that is too long among them. `AllocError` only where a growth was refused, and never in place of None.
+    /// The resource whose text this is: a kind's, or `DAG:` or `DAG Run:` followed by the id of a DAG. None where the text is
+    /// none of these, an id that is too long among them. `AllocError` only where a growth was refused, and never in place of None.
     pub fn read(alloc: Global, text: &str) -> Result<Option<Resource>, AllocError>
         ensures told { (result ≡ Ok (resource_of text.now)) ⊎ (result ≡ Err alloc_error) }
         ensures memory { result ≡ Err alloc_error → is_some (resource_of text.now) ≡ true }
     {
-        match rest_after(text, "DAG:") {
-            Some(id) => Resource::read_dag(alloc, id),
-            None => match ResourceKind::read(text) {
-                Some(kind) => Ok(Some(Resource::Kind(kind))),
-                None => Ok(None),
-            },
+        if let Some(id) = rest_after(text, DagPart::Itself.prefix()) {
+            return Resource::read_dag(alloc, DagPart::Itself, id);
+        }
+        if let Some(id) = rest_after(text, DagPart::Runs.prefix()) {
+            return Resource::read_dag(alloc, DagPart::Runs, id);
+        }
+        match ResourceKind::read(text) {
+            Some(kind) => Ok(Some(Resource::Kind(kind))),
+            None => Ok(None),
         }
     }
 
-    fn read_dag(alloc: Global, id: &str) -> Result<Option<Resource>, AllocError>
-        ensures told { (result ≡ Ok (dag_named (named id_grammar id.now))) ⊎ (result ≡ Err alloc_error) }
-        ensures memory { result ≡ Err alloc_error → is_some (dag_named (named id_grammar id.now)) ≡ true }
+    fn read_dag(alloc: Global, part: DagPart, id: &str) -> Result<Option<Resource>, AllocError>
+        ensures told { (result ≡ Ok (dag_named part (named id_grammar id.now))) ⊎ (result ≡ Err alloc_error) }
+        ensures memory { result ≡ Err alloc_error → is_some (dag_named part (named id_grammar id.now)) ≡ true }
     {
         match DagId::parse(alloc, id) {
-            Ok(dag) => Ok(Some(Resource::Dag(dag))),
+            Ok(dag) => Ok(Some(Resource::Dag(part, dag))),
             Err(NameError::OutOfMemory) => Err(AllocError),
             Err(_) => Ok(None),
         }
@@ -139,10 +143,13 @@ impl Resource {
     pub(crate) fn is_carrier(alloc: Global, text: &str, action: Action) -> bool
         ensures { result ≡ is_some (pair_of_both (Some action) (resource_of text.now)) }
     {
-        match rest_after(text, "DAG:") {
-            Some(id) => action != Action::Create && is_dag_id(alloc, id),
-            None => ResourceKind::read(text).is_some(),
+        if let Some(id) = rest_after(text, DagPart::Itself.prefix()) {
+            return DagPart::Itself.carries(action) && is_dag_id(alloc, id);
         }
+        if let Some(id) = rest_after(text, DagPart::Runs.prefix()) {
+            return DagPart::Runs.carries(action) && is_dag_id(alloc, id);
+        }
+        ResourceKind::read(text).is_some()
     }
 
     /// The same resource again. `AllocError` only where a growth was refused.
@@ -151,9 +158,9 @@ impl Resource {
     {
         match self {
             Resource::Kind(kind) => Ok(Resource::Kind(*kind)),
-            Resource::Dag(dag) => {
+            Resource::Dag(part, dag) => {
                 let dag = dag.copied(alloc)?;
-                Ok(Resource::Dag(dag))
+                Ok(Resource::Dag(*part, dag))
             }
         }
     }
@@ -163,7 +170,7 @@ impl Resource {
     {
         match self {
             Resource::Kind(kind) => kind.rank(),
-            Resource::Dag(_) => 8,
+            Resource::Dag(part, _) => part.rank(),
         }
     }
 
@@ -172,14 +179,14 @@ impl Resource {
     {
         match self {
             Resource::Kind(_) => "",
-            Resource::Dag(dag) => dag.as_str(),
+            Resource::Dag(_, dag) => dag.as_str(),
         }
     }
 }
 
 /// Whether a text is the id of a DAG, whether there is memory to read it or not.
 fn is_dag_id(alloc: Global, id: &str) -> bool
-    ensures { result ≡ is_some (dag_named (named id_grammar id.now)) }
+    ensures { (part : DagPart) → result ≡ is_some (dag_named part (named id_grammar id.now)) }
 {
     match DagId::parse(alloc, id) {
         Ok(_) | Err(NameError::OutOfMemory) => true,
@@ -262,7 +269,7 @@ impl fmt::Display for Resource {
     fn fmt<W: fmt::Write>(&self, f: &mut fmt::Formatter<W>) -> fmt::Result {
         match self {
             Resource::Kind(kind) => f.write_str(kind.text()),
-            Resource::Dag(dag) => write!(f, "DAG:{dag}"),
+            Resource::Dag(part, dag) => write!(f, "{part}{dag}"),
         }
     }
 }

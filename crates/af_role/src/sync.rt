@@ -6,8 +6,8 @@ use crate::{AccessControl, Permissions, Role, SyncFault};
 use af_names::{DagId, RoleName};
 use std::alloc::{AllocError, Global};
 
-/// Takes over a DAG's access control: takes the permissions on that DAG alone from each role but Admin, and then adds those
-/// that are listed. Where there is no access control the roles stay, and no memory is wanted. After a fault they are as before.
+/// Takes over a DAG's access control: takes the permissions on that DAG alone, and on its runs alone, from each role but Admin, and then
+/// adds those that are listed. Where there is no access control the roles stay, and no memory is wanted. After a fault they are as before.
 pub fn sync_access(
     alloc: Global,
     roles: &mut Vec<Role>,

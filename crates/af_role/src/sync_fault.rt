@@ -5,7 +5,7 @@ use std::alloc::AllocError;
 /// Why a DAG's access control is not taken over, in the order in which the faults are told.
 #[derive(Drop)]
 pub enum SyncFault {
-    /// A text is no action on one DAG: the first.
+    /// A text is no action on what it is listed for, one DAG or its runs: the first.
     BadAction(Text),
     /// A role is named that is not there: the first.
     UnknownRole(RoleName),
