@@ -1,7 +1,7 @@
 ghost use Rattle.std.specs.Prelude.{◌≡◌, List, ℕ, IfOk, map};
 ghost use Rattle.std.specs.Option.{option_copied};
 ghost use Rattle.af_role.specs.Pairs.{PairRow};
-ghost use Rattle.af_policy.specs.Grants.{grants, missing, reads, reads_dag};
+ghost use Rattle.af_policy.specs.Grants.{grants, missing, reads, reads_dag, reads_runs, reads_runs_of};
 ghost use Rattle.af_policy.specs.Views.{held};
 
 use af_names::{DagId, NamesDag, UserName};
@@ -50,6 +50,7 @@ impl Compiled {
     pub fn view(&self, user: &UserName) -> View<'_>
         ensures held { (pair : PairRow) → held result pair ≡ grants self.now user.now pair }
         ensures reads { (dag : List ℕ) → reads_dag (held result) dag ≡ reads self.now user.now dag }
+        ensures runs { (dag : List ℕ) → reads_runs_of (held result) dag ≡ reads_runs self.now user.now dag }
     {
         self.policy.view(user)
     }

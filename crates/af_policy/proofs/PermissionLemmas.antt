@@ -5,14 +5,11 @@ use Rattle.std.specs.List.Sorted.{IsStrictlySortedBy}
 use Rattle.std.specs.Option.{option_map, option_map_or}
 use Rattle.std.specs.Cmp.Lexicographic.{bytes_decides}
 use Rattle.std.proofs.lemmas.List.Folds.{list_any-append}
-use Rattle.af_role.specs.declared.action.Action.{Action}
-use Rattle.af_role.specs.declared.resource.Resource.TheVariants.{Dag}
 use Rattle.af_role.specs.declared.access.AccessRow.{AccessRow}
-use Rattle.af_role.specs.Resources.{action_of, same_resource}
-use Rattle.af_role.specs.Pairs.{PairRow, carries, pair_cmp, same_pair}
+use Rattle.af_role.specs.Pairs.{PairRow, pair_cmp, same_pair}
 use Rattle.af_role.specs.Roles.{RoleRow, contains_pair, lists}
-use Rattle.af_role.specs.Access.{bad_action, is_about, is_admin_name, kept_pairs, listed_pairs, on_that_dag, pairs_at, row_pairs, synced_role}
-use Rattle.af_role.proofs.PairLemmas.{same_pair-decides, same_resource-decides}
+use Rattle.af_role.specs.Access.{bad_action, is_about, is_admin_name, kept_pairs, listed_pairs, synced_role}
+use Rattle.af_role.proofs.PairLemmas.{same_pair-decides}
 use Rattle.af_policy.specs.Rows.{IsPolicy, NamesAscend, PolicyRows, UserRow, found_user, has_role, role_names, same_name}
 use Rattle.af_policy.specs.Grants.{grants, role_lists, some_role_lists}
 use Rattle.af_policy.specs.Identity.{bearer_of}
@@ -27,42 +24,12 @@ use Rattle.af_policy.proofs.LawLemmas.{contains-with_pairs, or-none, sync-lists_
 use Rattle.af_policy.proofs.NameLemmas.{list_any-map}
 use Rattle.af_policy.proofs.RemovalLemmas.{find-passes}
 use Rattle.af_policy.proofs.RoleLemmas.{sorted-with_pairs}
+use Rattle.af_policy.proofs.SyncedRoleLemmas.{listed_other}
 use Rattle.af_policy.proofs.ViewLemmas.{held_by-grants, role_lists-pairs_of}
 
 -- ---- a sync
 
 module _ (dag : List ℕ) (pair : PairRow) (other : is_about dag pair ≡ false) where
-  itself : same_resource (Dag dag) (Dag dag) ≡ true
-  itself = (same_resource-decides (Dag dag) (Dag dag)).1 refl
-
-  apart : (action : Action) (s : Bool) → same_pair (record { action = action; resource = Dag dag }) pair ≡ s → s ≡ false
-  apart action true same =
-      let e : true ≡ false = sym itself ∙ ap (is_about dag) ((same_pair-decides (record { action = action; resource = Dag dag }) pair).0 same) ∙ other
-      in cc
-  apart action false same = refl
-
-  none-pairs_at : (texts : List (List ℕ)) → contains_pair (pairs_at dag texts) pair ≡ false
-  none-pairs_at [] = refl
-  none-pairs_at (text ∷ texts) = step (action_of text) (none-pairs_at texts)
-    where
-      at : (action : Action) (b : Bool) → contains_pair (pairs_at dag texts) pair ≡ false → list_any (λ own. same_pair own pair) (cons_option (cond b (Some (record { action = action; resource = Dag dag })) None) (pairs_at dag texts)) ≡ false
-      at action true later = (λ i. apart action (same_pair (record { action = action; resource = Dag dag }) pair) refl i || later i)
-      at action false later = later
-
-      step : (o : Option Action) → contains_pair (pairs_at dag texts) pair ≡ false → list_any (λ own. same_pair own pair) (cons_option (on_that_dag dag o) (pairs_at dag texts)) ≡ false
-      step None later = later
-      step (Some action) later = at action (carries (Dag dag) action) later
-
-  none-listed : (name : List ℕ) (access : List AccessRow) → contains_pair (listed_pairs dag access name) pair ≡ false
-  none-listed name [] = refl
-  none-listed name (row ∷ rows) =
-      list_any-append (λ own. same_pair own pair) (row_pairs dag name row) (listed_pairs dag rows name)
-      ∙ (λ i. one (same_name row.role name) i || none-listed name rows i)
-    where
-      one : (b : Bool) → contains_pair (cond b (pairs_at dag row.actions) []) pair ≡ false
-      one true = none-pairs_at row.actions
-      one false = refl
-
   same-kept : (pairs : List PairRow) → contains_pair (filter (λ p. not (is_about dag p)) pairs) pair ≡ contains_pair pairs pair
   same-kept [] = refl
   same-kept (x ∷ xs) = step (is_about dag x) (same_pair x pair) refl refl (same-kept xs)
@@ -77,7 +44,7 @@ module _ (dag : List ℕ) (pair : PairRow) (other : is_about dag pair ≡ false)
   same-synced : (access : List AccessRow) (role : RoleRow) → lists (synced_role dag access role) pair ≡ lists role pair
   same-synced access role =
       contains-with_pairs pair (kept_pairs dag role) (listed_pairs dag access role.name)
-      ∙ (λ i. none-listed role.name access i || kept (is_admin_name role.name) i)
+      ∙ (λ i. listed_other dag role.name pair other access i || kept (is_admin_name role.name) i)
     where
       kept : (admin : Bool) → contains_pair (cond admin role.pairs (filter (λ p. not (is_about dag p)) role.pairs)) pair ≡ contains_pair role.pairs pair
       kept true = refl

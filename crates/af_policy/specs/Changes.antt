@@ -147,8 +147,8 @@ synced_unless policy dag access (Some text) unknown = Err (BadAction text)
 synced_unless policy dag access None (Some name) = Err (UnknownRole name)
 synced_unless policy dag access None None = Ok (record { users = policy.users; roles = map (synced_role dag access) policy.roles })
 
--- without access control all roles stay; with it, Admin keeps all, each other role loses its permissions on that DAG alone,
--- and those listed come
+-- without access control all roles stay; with it, Admin keeps all, each other role loses its permissions on that DAG alone and
+-- on its runs alone, and those listed come
 abbrev pub dag_synced : PolicyRows → List ℕ → Option (List AccessRow) → Result PolicyRows ChangeFault
 dag_synced policy dag None = Ok policy
 dag_synced policy dag (Some access) =

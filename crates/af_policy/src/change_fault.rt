@@ -5,7 +5,7 @@ use std::alloc::AllocError;
 /// Why a policy is not changed, in the order in which the faults are told.
 #[derive(Drop)]
 pub enum ChangeFault {
-    /// A text is no action, or none that a single DAG carries: the first.
+    /// A text is no action, or none that what it is listed for, a single DAG or its runs, carries: the first.
     BadAction(Text),
     /// A resource is not known, or it is one DAG and the action is to create: the first.
     PairNotAllowed(PairText),

@@ -1,15 +1,16 @@
-ghost use Rattle.std.specs.Prelude.{◌≡◌, false, List, ℕ, IfOk};
+ghost use Rattle.std.specs.Prelude.{◌≡◌, ◌||◌, ◌&&◌, false, List, ℕ, IfOk};
 ghost use Rattle.af_role.specs.declared.action.Action.{Action};
 ghost use Rattle.af_role.specs.declared.resource.ResourceKind.{ResourceKind};
-ghost use Rattle.af_role.specs.Access.{synced_role};
+ghost use Rattle.af_role.specs.declared.dag_part.DagPart.{DagPart};
+ghost use Rattle.af_role.specs.Access.{is_admin_name, listed_pairs, synced_role};
 ghost use Rattle.af_role.specs.DagMasks.{dag_has};
 ghost use Rattle.af_role.specs.KindMasks.{kind_has};
-ghost use Rattle.af_role.specs.Pairs.{on_dag, on_kind};
-ghost use Rattle.af_role.specs.Roles.{lists};
+ghost use Rattle.af_role.specs.Pairs.{on_kind, on_part};
+ghost use Rattle.af_role.specs.Roles.{contains_pair, lists};
 
 use crate::role_rows::in_order;
 use af_names::DagId;
-use af_role::{AccessControl, Action, DagMask, KindMask, Mask, Permissions, Role};
+use af_role::{AccessControl, Action, DagMask, DagPart, KindMask, Mask, Permissions, Role};
 use std::alloc::{AllocError, Global};
 use std::marker::Model;
 
@@ -68,18 +69,18 @@ impl MaskedRole {
         self.mask.kinds()
     }
 
-    /// The actions on single DAGs that the role lists.
+    /// The actions on single DAGs and on their runs that the role lists.
     pub(crate) fn dags(&self) -> &DagMask
-        ensures { (dag : List ℕ) (action : Action) → dag_has result.now dag action ≡ lists self.now (on_dag action dag) }
+        ensures { (part : DagPart) (dag : List ℕ) (action : Action) → dag_has result.now part dag action ≡ lists self.now (on_part part action dag) }
     {
         self.mask.dags()
     }
 
-    /// Whether the role lists an action on one DAG.
-    pub(crate) fn lists_on_dag(&self, action: Action, dag: &DagId) -> bool
-        ensures { result ≡ lists self.now (on_dag action dag.now) }
+    /// Whether the role lists an action on one DAG, or on its runs.
+    pub(crate) fn lists_on(&self, part: DagPart, action: Action, dag: &DagId) -> bool
+        ensures { result ≡ lists self.now (on_part part action dag.now) }
     {
-        self.mask.has_on_dag(action, dag)
+        self.mask.has_on(part, action, dag)
     }
 
     /// False only if a sync of a DAG's access control leaves the role as it is. The DAG's row in the mask is found by binary search.
@@ -87,8 +88,16 @@ impl MaskedRole {
         ensures stays { result ≡ false → synced_role dag.now access.now self.now ≡ self.now }
     {
         in_order(&self.role);
-        let has = self.dags().on(dag);
-        let listed = access.actions_of(self.role.name());
+        self.is_touched_on(DagPart::Itself, dag, access)
+            || self.is_touched_on(DagPart::Runs, dag, access)
+    }
+
+    /// False only if what is listed for the role on a DAG, or on its runs, with what Admin keeps, is what the role lists there.
+    fn is_touched_on(&self, part: DagPart, dag: &DagId, access: &AccessControl) -> bool
+        ensures stays { result ≡ false → (action : Action) → (contains_pair (listed_pairs dag.now access.now self.now.name) (on_part part action dag.now) || (is_admin_name self.now.name && lists self.now (on_part part action dag.now))) ≡ lists self.now (on_part part action dag.now) }
+    {
+        let has = self.dags().on(part, dag);
+        let listed = access.actions_of(part, self.role.name());
         if self.role.is_admin() {
             has.with_all(listed) != has
         } else {

@@ -2,6 +2,7 @@
 ghost use Rattle.std.specs.Prelude.{◌≡◌, ◌||◌, List, ℕ, nat_eq, OnOk};
 ghost use Rattle.std.specs.Cmp.Lexicographic.{pointwise};
 ghost use Rattle.af_role.specs.declared.action.Action.TheVariants.{Read};
+ghost use Rattle.af_role.specs.declared.dag_part.DagPart.TheVariants.{Itself};
 ghost use Rattle.af_role.specs.DagMasks.{dag_has, row_has};
 ghost use Rattle.af_policy.specs.Views.{is_named};
 
@@ -47,7 +48,7 @@ pub(crate) fn add_readable<'a>(
     named: &mut Ordered<NamedDag<'a>>,
     mask: &'a DagMask,
 ) -> Result<(), AllocError>
-    ensures { OnOk result ((dag : List ℕ) → is_named named.new.rows dag ≡ (is_named named.old.rows dag || dag_has mask.now dag Read)) }
+    ensures { OnOk result ((dag : List ℕ) → is_named named.new.rows dag ≡ (is_named named.old.rows dag || dag_has mask.now Itself dag Read)) }
 {
     for row in mask.rows() {
         add_row(named, row)?;
@@ -57,7 +58,7 @@ pub(crate) fn add_readable<'a>(
 
 /// Adds the DAG of a row, if it may be read.
 fn add_row<'a>(named: &mut Ordered<NamedDag<'a>>, row: &'a DagActions) -> Result<(), AllocError>
-    ensures { OnOk result ((dag : List ℕ) → is_named named.new.rows dag ≡ (is_named named.old.rows dag || row_has dag Read row.now)) }
+    ensures { OnOk result ((dag : List ℕ) → is_named named.new.rows dag ≡ (is_named named.old.rows dag || row_has Itself dag Read row.now)) }
 {
     if row.actions.has(Action::Read) {
         add(named, &row.dag)?;

@@ -5,7 +5,7 @@ ghost use Rattle.af_role.specs.Access.{synced_role};
 ghost use Rattle.af_role.specs.declared.action.Action.{Action};
 ghost use Rattle.af_role.specs.declared.resource.ResourceKind.{ResourceKind};
 ghost use Rattle.af_role.specs.KindMasks.{kind_has};
-ghost use Rattle.af_role.specs.Pairs.{on_dag, on_kind};
+ghost use Rattle.af_role.specs.Pairs.{on_dag, on_kind, on_part};
 ghost use Rattle.af_policy.specs.Rows.{NamesAscend, PermissionsAscend, has_role, has_roles, role_names, with_role, without_role};
 ghost use Rattle.af_policy.specs.Grants.{role_lists, some_role_lists};
 ghost use Rattle.af_policy.specs.Changes.{unknown_role, unknown_row};
@@ -24,7 +24,7 @@ use crate::shared::Table;
 use crate::{Granted, Page, RoleShown, Span};
 use af_base::Ordered;
 use af_names::{DagId, RoleName};
-use af_role::{AccessControl, AccessRow, Action, KindMask, Permissions, Role};
+use af_role::{AccessControl, AccessRow, Action, DagPart, KindMask, Permissions, Role};
 use std::alloc::{AllocError, Global};
 use std::marker::Model;
 use std::sync::Arc;
@@ -316,23 +316,29 @@ impl RoleTable {
         }
     }
 
-    /// Whether the role of a name lists an action on one DAG.
-    fn lists_on_dag(&self, name: &RoleName, action: Action, dag: &DagId) -> bool
-        ensures { result ≡ role_lists self.now name.now (on_dag action dag.now) }
+    /// Whether the role of a name lists an action on one DAG, or on its runs.
+    fn lists_on(&self, name: &RoleName, part: DagPart, action: Action, dag: &DagId) -> bool
+        ensures { result ≡ role_lists self.now name.now (on_part part action dag.now) }
     {
         match self.masked(name) {
-            Some(role) => role.lists_on_dag(action, dag),
+            Some(role) => role.lists_on(part, action, dag),
             None => false,
         }
     }
 
-    /// Whether a role of one of these names lists an action on one DAG.
-    pub(crate) fn some_lists_on_dag(&self, names: &[RoleName], action: Action, dag: &DagId) -> bool
-        ensures { result ≡ some_role_lists self.now names.now (on_dag action dag.now) }
+    /// Whether a role of one of these names lists an action on one DAG, or on its runs.
+    pub(crate) fn some_lists_on(
+        &self,
+        names: &[RoleName],
+        part: DagPart,
+        action: Action,
+        dag: &DagId,
+    ) -> bool
+        ensures { result ≡ some_role_lists self.now names.now (on_part part action dag.now) }
     {
         names
             .iter()
-            .any(|name| self.lists_on_dag(name, action, dag))
+            .any(|name| self.lists_on(name, part, action, dag))
     }
 
     /// What holds of each table: names ascend, so no two roles have one, and so do the permissions of each role.

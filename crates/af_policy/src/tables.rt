@@ -4,7 +4,7 @@ ghost use Rattle.std.specs.Option.{option_map};
 ghost use Rattle.af_role.specs.Access.{synced_role};
 ghost use Rattle.af_role.specs.Pairs.{PairRow};
 ghost use Rattle.af_policy.specs.Changes.{replaced};
-ghost use Rattle.af_policy.specs.Grants.{grants, reads, reads_dag};
+ghost use Rattle.af_policy.specs.Grants.{grants, reads, reads_dag, reads_runs, reads_runs_of};
 ghost use Rattle.af_policy.specs.Identity.{user_of};
 ghost use Rattle.af_policy.specs.Uses.{IsTables, count_at, is_counted, mentions};
 ghost use Rattle.af_policy.specs.Views.{held};
@@ -198,6 +198,7 @@ impl Tables {
     pub(crate) fn view(&self, user: &UserName) -> View<'_>
         ensures held { (pair : PairRow) → held result pair ≡ grants self.now user.now pair }
         ensures reads { (dag : List ℕ) → reads_dag (held result) dag ≡ reads self.now user.now dag }
+        ensures runs { (dag : List ℕ) → reads_runs_of (held result) dag ≡ reads_runs self.now user.now dag }
     {
         View::new(&self.roles, self.users.roles_of(user))
     }
@@ -207,6 +208,7 @@ impl Tables {
         ensures user { option_map (λ bearer. bearer.user.now) result ≡ user_of self.now digest.now }
         ensures held { IfSome result (λ bearer. (pair : PairRow) → held bearer.view pair ≡ grants self.now bearer.user.now pair) }
         ensures reads { IfSome result (λ bearer. (dag : List ℕ) → reads_dag (held bearer.view) dag ≡ reads self.now bearer.user.now dag) }
+        ensures runs { IfSome result (λ bearer. (dag : List ℕ) → reads_runs_of (held bearer.view) dag ≡ reads_runs self.now bearer.user.now dag) }
     {
         match self.users.with_digest(digest) {
             Some(found) => {

@@ -1,29 +1,11 @@
-use Rattle.std.proofs.Common.{sym, ap, subst, ◌∙◌}
-use Rattle.af_role.specs.Access.{is_admin_name, listed_pairs}
-use Rattle.af_role.specs.Pairs.{on_dag}
-use Rattle.af_role.specs.Roles.{RoleRow, contains_pair}
+use Rattle.std.proofs.Common.{subst}
 use Rattle.af_policy.specs.Rows.{PermissionsAscend}
-use Rattle.af_policy.proofs.SyncedRoleLemmas.{admin_stays, other_stays}
+use Rattle.af_policy.proofs.SyncedRoleLemmas.{stays_both}
 use Rattle.af_policy.proofs.masked_role.MaskedRole.is_touched.Goals as goal
 
-pub returns-then-is_admin : goal.returns-then-is_admin
-returns-then-is_admin c = record {
-  stays = λ equal. admin_stays c.args.dag.now c.args.access.now c.args.self.now (subst PermissionsAscend c.self.view_is c.in_order.ensures)
-      c.on-has.result c.actions_of-listed.result
-      (λ action. c.on-has.ensures action ∙ c.dags.ensures c.args.dag.now action)
-      (λ action. c.actions_of-listed.ensures c.args.dag.now action
-      ∙ ap (λ name. contains_pair (listed_pairs c.args.dag.now c.args.access.now name) (on_dag action c.args.dag.now)) (c.name.ensures ∙ ap (λ (role : RoleRow). role.name) c.self.view_is))
-      (ap (λ (role : RoleRow). is_admin_name role.name) (sym c.self.view_is) ∙ sym c.is_admin.ensures ∙ c.if-is_admin.true)
-      c.with_all.result c.with_all.ensures (sym c.ne.ensures ∙ equal);
-}
-
-pub returns-else-is_admin : goal.returns-else-is_admin
-returns-else-is_admin c = record {
-  stays = λ equal. other_stays c.args.dag.now c.args.access.now c.args.self.now (subst PermissionsAscend c.self.view_is c.in_order.ensures)
-      c.on-has.result c.actions_of-listed.result
-      (λ action. c.on-has.ensures action ∙ c.dags.ensures c.args.dag.now action)
-      (λ action. c.actions_of-listed.ensures c.args.dag.now action
-      ∙ ap (λ name. contains_pair (listed_pairs c.args.dag.now c.args.access.now name) (on_dag action c.args.dag.now)) (c.name.ensures ∙ ap (λ (role : RoleRow). role.name) c.self.view_is))
-      (ap (λ (role : RoleRow). is_admin_name role.name) (sym c.self.view_is) ∙ sym c.is_admin.ensures ∙ c.if-is_admin.false)
-      (sym c.ne-else-is_admin.ensures ∙ equal);
+pub returns-else-is_touched_on : goal.returns-else-is_touched_on
+returns-else-is_touched_on c = record {
+  stays = λ equal. stays_both c.args.dag.now c.args.access.now c.args.self.now (subst PermissionsAscend c.self.view_is c.in_order.ensures)
+      (c.is_touched_on.ensures.stays c.if-is_touched_on.false)
+      (c.is_touched_on-else-is_touched_on.ensures.stays equal);
 }

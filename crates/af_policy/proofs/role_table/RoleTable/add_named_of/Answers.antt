@@ -1,5 +1,6 @@
 use Rattle.std.proofs.Common.{false, ◌||◌, sym, ap, ◌∙◌}
 use Rattle.std.specs.Option.{option_map}
+use Rattle.af_role.specs.declared.dag_part.DagPart.TheVariants.{Itself}
 use Rattle.af_role.specs.declared.action.Action.TheVariants.{Read}
 use Rattle.af_role.specs.Pairs.{on_dag}
 use Rattle.af_role.specs.Roles.{RoleRow}
@@ -11,7 +12,7 @@ pub returns-in_ok-add_readable-in-Some : goal.returns-in_ok-add_readable-in-Some
 returns-in_ok-add_readable-in-Some c dag =
     c.in_ok-add_readable-in-Some.ensures dag
     ∙ ap (λ b. is_named c.args.named.now.rows dag || b)
-    (c.dags.ensures dag Read
+    (c.dags.ensures Itself dag Read
     ∙ ap (λ found. first_lists (option_map (λ (role : RoleRow). role.pairs) found) (on_dag Read dag)) c.in-Some.ensures.value
     ∙ sym (role_lists-found c.args.self.now c.args.name.now (on_dag Read dag) c.masked.ensures.ascend))
 

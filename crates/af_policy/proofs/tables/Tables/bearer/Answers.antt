@@ -5,7 +5,7 @@ use Rattle.af_policy.specs.Rows.{UserRow}
 use Rattle.af_policy.specs.Tables.{roles_of}
 use Rattle.af_policy.specs.Identity.{digest_user}
 use Rattle.af_policy.specs.Views.{held}
-use Rattle.af_policy.proofs.ViewLemmas.{reads_dag-same, view-holds}
+use Rattle.af_policy.proofs.ViewLemmas.{reads_dag-same, reads_runs-same, view-holds}
 use Rattle.af_policy.proofs.tables.Tables.bearer.Goals as goal
 
 pub returns-in-Some-clause-user : goal.returns-in-Some-clause-user
@@ -30,5 +30,15 @@ returns-in-Some-clause-reads c =
     ∙ ap (option_map (λ (user : UserRow). user.roles)) (sym c.in-Some.ensures.named)
     ∙ ap (roles_of c.self.inside.users) (sym c.name-user.ensures)
     in reads_dag-same (held c.new-view.result) (grants c.args.self.now c.name-user.result.now)
+    (view-holds c.new-view.result c.self.inside.users c.self.inside.roles c.args.self.now (Some c.roles.result.now) c.name-user.result.now
+    c.new-view.ensures finds c.self.view_is c.in-Some.ensures.ascend)
+
+pub returns-in-Some-clause-runs : goal.returns-in-Some-clause-runs
+returns-in-Some-clause-runs c =
+    let finds : Some c.roles.result.now ≡ roles_of c.self.inside.users c.name-user.result.now =
+    ap Some c.roles.ensures
+    ∙ ap (option_map (λ (user : UserRow). user.roles)) (sym c.in-Some.ensures.named)
+    ∙ ap (roles_of c.self.inside.users) (sym c.name-user.ensures)
+    in reads_runs-same (held c.new-view.result) (grants c.args.self.now c.name-user.result.now)
     (view-holds c.new-view.result c.self.inside.users c.self.inside.roles c.args.self.now (Some c.roles.result.now) c.name-user.result.now
     c.new-view.ensures finds c.self.view_is c.in-Some.ensures.ascend)
