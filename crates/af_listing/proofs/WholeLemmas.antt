@@ -1,12 +1,13 @@
 -- The page of a list whose rows are all shown.
 use Rattle.std.proofs.Common.{◌≡◌, refl, sym, ◌∙◌, ap, ap₂, ℕ, zero, suc, ◌+◌, ◌-◌, ◌≤◌, length, Bool, true, false, List, [], ◌∷◌, map, take, drop, arith}
-use Rattle.std.specs.Prelude.{cond, filter, min, nat_lt, Option, None, Some}
+use Rattle.std.specs.Prelude.{◌&&◌, cond, filter, min, nat_lt, Option, None, Some}
 use Rattle.std.specs.List.{enumerate_from, range_with_len}
-use Rattle.std.proofs.lemmas.Bool.{ltb-false, ltb-true}
+use Rattle.std.proofs.lemmas.Bool.{ltb-false, ltb-true, true≢false}
 use Rattle.std.proofs.lemmas.List.{drop_all, take_all}
 use Rattle.std.proofs.lemmas.List.FromFn.{length-range_with_len}
 use Rattle.af_listing.specs.Windows.{Cut}
-use Rattle.af_listing.specs.Pages.{Told, cut, is_shown, page_of, shown_places, whole_page}
+use Rattle.af_policy.specs.Grants.{Readable}
+use Rattle.af_listing.specs.Pages.{Told, cut, is_shown, page_of, read_by, shown_places, whole_page}
 
 -- ---- numbers in a row, cut
 
@@ -79,7 +80,14 @@ module _ {X : Type 0} (shown : X → Bool) (all : (row : X) → shown row ≡ tr
       ap₂ (λ (places : List ℕ) (total : ℕ). record { places = places; total = total })
       (ap (cut window) (sym (places_of_all 0 rows))) (sym (count_of_all rows))
 
--- who reads all DAGs is shown all rows
-pub all_are_shown : (reads : List ℕ → Bool) → ((dag : List ℕ) → reads dag ≡ true) → (named : Option (List ℕ)) → is_shown reads named ≡ true
-all_are_shown reads all None = refl
-all_are_shown reads all (Some dag) = all dag
+-- who reads all DAGs is shown all rows that are not of runs, and who reads all runs too, all rows
+module _ (readable : Readable) (all : (dag : List ℕ) → readable.dags dag ≡ true) where
+  pub all_are_shown : (of_run : Bool) → of_run ≡ false → (named : Option (List ℕ)) → is_shown (read_by readable of_run) named ≡ true
+  all_are_shown true none named = absurd (true≢false none)
+  all_are_shown false none None = refl
+  all_are_shown false none (Some dag) = all dag
+
+  pub all_runs_are_shown : ((dag : List ℕ) → readable.runs dag ≡ true) → (of_run : Bool) (named : Option (List ℕ)) → is_shown (read_by readable of_run) named ≡ true
+  all_runs_are_shown runs of_run None = refl
+  all_runs_are_shown runs false (Some dag) = all dag
+  all_runs_are_shown runs true (Some dag) = (λ i. all dag i && runs dag i)

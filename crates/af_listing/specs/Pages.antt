@@ -1,7 +1,9 @@
 -- A page of a listing: who reads is shown the rows whose DAG is read, and those that name none (Airflow 2, "Access Control": a
--- listing has the DAGs that the user may read). Of these, in the list's order, some are passed over and some told; all are counted.
-use Rattle.std.specs.Prelude.{ℕ, ◌+◌, List, [], ◌∷◌, ◌++◌, length, map, take, drop, filter, Bool, true, not, ◌&&◌, nat_lt, if◌then◌else◌, Option, None, Some}
+-- listing has the DAGs that the user may read); a row of a run, or of an instance, where the runs of its DAG are read too (this product's
+-- own rule). Of these, in the list's order, some are passed over and some told; all are counted.
+use Rattle.std.specs.Prelude.{ℕ, ◌+◌, List, [], ◌∷◌, ◌++◌, length, map, take, drop, filter, Bool, true, false, not, ◌&&◌, nat_lt, if◌then◌else◌, Option, None, Some}
 use Rattle.std.specs.List.{enumerate_from, range_with_len}
+use Rattle.af_policy.specs.Grants.{Readable, shows_runs}
 use Rattle.af_listing.specs.Windows.{Cut}
 
 -- a row is shown by the DAG that it names
@@ -12,6 +14,15 @@ is_shown reads (Some dag) = reads dag
 -- a row names a DAG by `named`
 abbrev pub shows : {X : Type 0} → (List ℕ → Bool) → (X → Option (List ℕ)) → X → Bool
 shows reads named row = is_shown reads (named row)
+
+-- by which DAGs a row is shown: one of a run, or of an instance, by those that may be read and whose runs may be read
+abbrev pub read_by : Readable → Bool → List ℕ → Bool
+read_by readable false dag = readable.dags dag
+read_by readable true dag = shows_runs readable dag
+
+-- a row names a DAG by `named`, and is that of a run, or of an instance, by `of_run`
+abbrev pub shows_row : {X : Type 0} → Readable → (X → Option (List ℕ)) → (X → Bool) → X → Bool
+shows_row readable named of_run row = is_shown (read_by readable (of_run row)) (named row)
 
 -- of a list, so many are passed over, and then at most so many taken
 abbrev pub cut : {X : Type 0} → Cut → List X → List X

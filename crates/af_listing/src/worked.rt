@@ -1,8 +1,8 @@
 //! Worked values: what the definitions give for single queries and lists, computed by the checker.
-ghost use Rattle.std.specs.Prelude.{◌≡◌, [], ◌∷◌, codes, nat_eq, Err, None, Ok, Some};
+ghost use Rattle.std.specs.Prelude.{◌≡◌, ◌||◌, [], ◌∷◌, codes, nat_eq, Err, None, Ok, Some, false, true};
 ghost use Rattle.std.specs.Cmp.Lexicographic.{pointwise};
 ghost use Rattle.af_policy.specs.declared.bad_input.Parameter.TheVariants.{Limit, Offset};
-ghost use Rattle.af_listing.specs.Pages.{page_of, shows};
+ghost use Rattle.af_listing.specs.Pages.{page_of, shows, shows_row};
 ghost use Rattle.af_listing.specs.Windows.{last_number, window_of};
 
 /// Queries that are read.
@@ -34,6 +34,16 @@ pub fn faults_by_the_rule()
     ensures space { window_of (codes "offset=1%20") ≡ Err Offset }
     ensures no_utf8 { window_of (codes "offset=%FF") ≡ Err Offset }
     ensures second_equals { window_of (codes "offset=1=") ≡ Err Offset }
+{}
+
+/// Which rows are shown to who reads the DAGs a and b, and the runs of b and c: a row of a run where both answer true, any other by its DAG
+/// alone.
+pub fn rows_by_the_rule()
+    ensures dag { shows_row (record { dags = λ dag. pointwise nat_eq (codes "a") dag || pointwise nat_eq (codes "b") dag; runs = λ dag. pointwise nat_eq (codes "b") dag || pointwise nat_eq (codes "c") dag }) (λ row. row) (λ row. false) (Some (codes "a")) ≡ true }
+    ensures run { shows_row (record { dags = λ dag. pointwise nat_eq (codes "a") dag || pointwise nat_eq (codes "b") dag; runs = λ dag. pointwise nat_eq (codes "b") dag || pointwise nat_eq (codes "c") dag }) (λ row. row) (λ row. true) (Some (codes "b")) ≡ true }
+    ensures runs_are_not_read { shows_row (record { dags = λ dag. pointwise nat_eq (codes "a") dag || pointwise nat_eq (codes "b") dag; runs = λ dag. pointwise nat_eq (codes "b") dag || pointwise nat_eq (codes "c") dag }) (λ row. row) (λ row. true) (Some (codes "a")) ≡ false }
+    ensures dag_is_not_read { shows_row (record { dags = λ dag. pointwise nat_eq (codes "a") dag || pointwise nat_eq (codes "b") dag; runs = λ dag. pointwise nat_eq (codes "b") dag || pointwise nat_eq (codes "c") dag }) (λ row. row) (λ row. true) (Some (codes "c")) ≡ false }
+    ensures no_dag { shows_row (record { dags = λ dag. false; runs = λ dag. false }) (λ row. row) (λ row. true) None ≡ true }
 {}
 
 /// Runs of the DAGs a, b, b, a and b, as who reads b alone is shown them; and a list with a row that names no DAG.

@@ -1,11 +1,11 @@
 use Rattle.std.proofs.Common.{◌<◌, length, ap, ◌∙◌, arith, Bool}
-use Rattle.af_listing.specs.Pages.{Told, shows, with_row}
+use Rattle.af_listing.specs.Pages.{Told, shows_row, with_row}
 use Rattle.af_listing.proofs.PageLemmas.{page_next, total_next}
 use Rattle.af_listing.proofs.paging.shown_page.Goals as goal
 
 pub loop-place-preserved : goal.loop-place-preserved
 loop-place-preserved g c =
-    let shown = shows (g.R.Reader.reads c.args.reader.now) g.T.Listed.named in
+    let shown = shows_row (g.R.Reader.reads c.args.reader.now) g.T.Listed.named g.T.Listed.of_run in
     let inside : c.loop-place.place < length c.args.rows.now = omega arith in
     let grown = total_next c.args.window c.loop-place.place c.is_shown.result c.loop-place.page in
     let total = ap (λ (page : Told). page.total) c.in_ok-see.ensures in (
