@@ -2,6 +2,7 @@
 use Rattle.std.proofs.Common.{◌≡◌, ◌∙◌, ◌⊎◌, inl, inr, ℕ, Bool, true, false, List, refl, ap, sym, subst}
 use Rattle.std.specs.Prelude.{Option, Some, None, Result, Ok, Err, IsOk, is_some, nat_lt, if◌then◌else◌}
 use Rattle.af_sched.specs.State.{StateRows}
+use Rattle.af_policy.specs.Grants.{Readable}
 use Rattle.af_ops.specs.declared.answer.CallFault.{CallFault}
 use Rattle.af_ops.specs.declared.answer.CallFault.TheVariants as why
 use Rattle.af_ops.specs.declared.answer.OpFault.{OpFault}
@@ -105,7 +106,7 @@ stays : (effect : Result Effect OpFault) → ((it : Effect) → effect ≡ Ok it
 stays (Ok it) keeps = ap (λ (next : Option StateRows). is_some next) (keeps it refl)
 stays (Err fault) keeps = λ want. refl
 
-module _ (reads : List ℕ → Bool) (state : StateRows) (asked : Op) (now : ℕ) (reading : reads_only (endpoint_of asked) ≡ true) (limit : ℕ) (under : Under) where
+module _ (reads : Readable) (state : StateRows) (asked : Op) (now : ℕ) (reading : reads_only (endpoint_of asked) ≡ true) (limit : ℕ) (under : Under) where
   keeps : (it : Effect) → effect_of reads state asked now ≡ Ok it → it.next ≡ None
   keeps it is = readings_keep reads state asked now it (gets (route_of (endpoint_of asked)).method reading) is
 

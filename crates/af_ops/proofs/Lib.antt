@@ -11,6 +11,7 @@ mod KeyLemmas
 mod LawLemmas
 mod ListingLemmas
 mod MarkingLemmas
+mod MemberLemmas
 mod NamedLemmas
 mod PageLemmas
 mod PairLemmas

@@ -10,8 +10,10 @@ use Rattle.af_role.specs.declared.action.Action.{Action}
 use Rattle.af_role.specs.declared.action.Action.TheVariants.{Create, Read, Edit, Delete}
 use Rattle.af_role.specs.declared.resource.ResourceKind.{ResourceKind}
 use Rattle.af_role.specs.declared.resource.ResourceKind.TheVariants.{Dags, DagRuns, TaskInstances, Pools, Variables, AuditLogs, Roles, Users}
-use Rattle.af_role.specs.Pairs.{on_dag, on_kind, pair_text}
-use Rattle.af_role.specs.Resources.{action_text, kind_text}
+use Rattle.af_role.specs.declared.dag_part.DagPart.{DagPart}
+use Rattle.af_role.specs.declared.dag_part.DagPart.TheVariants.{Itself, Runs}
+use Rattle.af_role.specs.Pairs.{on_kind, on_part, pair_text}
+use Rattle.af_role.specs.Resources.{action_text, kind_text, part_prefix}
 use Rattle.af_ops.proofs.TextLemmas.{ids_are_plain, plain_is}
 
 action_plain : (action : Action) → list_all is_plain (codes "." ++ action_text action) ≡ true
@@ -41,6 +43,7 @@ spelled resource action plain =
 pub kind_spelled : (kind : ResourceKind) (action : Action) → (34 ∷ []) ++ (kind_text kind ++ (codes "." ++ (action_text action ++ 34 ∷ []))) ≡ compact_text (string (pair_text (on_kind action kind)))
 kind_spelled kind action = spelled (kind_text kind) action (kind_plain kind)
 
-pub dag_spelled : (dag : List ℕ) (action : Action) → list_all is_id_byte dag ≡ true
-    → (34 ∷ codes "DAG:") ++ (dag ++ (codes "." ++ (action_text action ++ 34 ∷ []))) ≡ compact_text (string (pair_text (on_dag action dag)))
-dag_spelled dag action ids = spelled (codes "DAG:" ++ dag) action (ids_are_plain dag ids)
+pub dag_spelled : (part : DagPart) (dag : List ℕ) (action : Action) → list_all is_id_byte dag ≡ true
+    → (34 ∷ part_prefix part) ++ (dag ++ (codes "." ++ (action_text action ++ 34 ∷ []))) ≡ compact_text (string (pair_text (on_part part action dag)))
+dag_spelled Itself dag action ids = spelled (codes "DAG:" ++ dag) action (ids_are_plain dag ids)
+dag_spelled Runs dag action ids = spelled (codes "DAG Run:" ++ dag) action (ids_are_plain dag ids)

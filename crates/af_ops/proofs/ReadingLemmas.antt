@@ -12,6 +12,7 @@ use Rattle.af_runs.specs.declared.run.Run.{Run}
 use Rattle.af_sched.specs.State.{StateRows}
 use Rattle.af_sched.specs.State as sched
 use Rattle.af_sched.specs.declared.dag_row.DagRow.{DagRow}
+use Rattle.af_policy.specs.Grants.{shows_runs}
 use Rattle.af_ops.specs.declared.answer.OpFault.TheVariants.{NoSuchDag, NoSuchRun, NoSuchTask}
 use Rattle.af_ops.specs.declared.op.Op.TheVariants as op
 use Rattle.af_ops.specs.Effects.{Effect, dags_data, instance_of, instances_data, kept, listed_runs, runs_data, tasks_data, window_or}
@@ -78,11 +79,11 @@ listed_kept reads state (Some dag_id) asked effect is = runs_kept asked (sched.d
 
 pub readings_keep : ReadingsLeaveTheState
 readings_keep reads state op.Version now effect get is = cc
-readings_keep reads state (op.ListDags asked) now effect get is = window_kept asked (λ window. dags_data reads window state.dags) effect is
+readings_keep reads state (op.ListDags asked) now effect get is = window_kept asked (λ window. dags_data reads.dags window state.dags) effect is
 readings_keep reads state (op.GetDag dag_id) now effect get is = got_kept (sched.dag_of state.dags dag_id) effect is
 readings_keep reads state (op.PauseDag dag_id input) now effect get is = cc
 readings_keep reads state (op.ListTasks dag_id) now effect get is = tasks_kept (sched.dag_of state.dags dag_id) effect is
-readings_keep reads state (op.ListRuns dag asked) now effect get is = listed_kept reads state dag asked effect is
+readings_keep reads state (op.ListRuns dag asked) now effect get is = listed_kept (shows_runs reads) state dag asked effect is
 readings_keep reads state (op.TriggerRun dag_id input) now effect get is = cc
 readings_keep reads state (op.GetRun dag_id run_id) now effect get is = run_kept (sched.dag_of state.dags dag_id) (run_of state.runs dag_id run_id) effect is
 readings_keep reads state (op.MarkRun dag_id run_id input) now effect get is = cc

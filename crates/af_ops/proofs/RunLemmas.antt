@@ -1,6 +1,7 @@
 -- Listings of runs, and runs that are added.
-use Rattle.std.proofs.Common.{◌≡◌, ◌≤◌, ◌<◌, ◌∙◌, ℕ, zero, suc, Bool, true, false, cond, List, [], ◌∷◌, length, get_or, refl, sym, ap, subst, arith}
+use Rattle.std.proofs.Common.{◌≡◌, ◌≤◌, ◌<◌, ◌∙◌, ℕ, zero, suc, Bool, true, false, ◌&&◌, cond, List, [], ◌∷◌, length, get_or, refl, sym, ap, subst, arith}
 use Rattle.std.specs.Prelude.{Contains, Some, filter, option_map}
+use Rattle.std.proofs.lemmas.Bool.{and_parts}
 use Rattle.std.proofs.lemmas.List.{length-map}
 use Rattle.std.proofs.lemmas.List.Elements.{All-contains, All-contains_itself, All-filter, All-map, filter_passes}
 use Rattle.af_graph.specs.declared.task_state.TaskState.TheVariants.{NoStatus}
@@ -10,6 +11,7 @@ use Rattle.af_runs.specs.declared.instance.Instance.{Instance}
 use Rattle.af_runs.specs.declared.run.Run.{Run}
 use Rattle.af_sched.specs.State.{StateRows}
 use Rattle.af_sched.specs.declared.dag_row.DagRow.{DagRow}
+use Rattle.af_policy.specs.Grants.{shows_runs}
 use Rattle.af_ops.specs.declared.op.Op.TheVariants as op
 use Rattle.af_ops.specs.Edits.{with_run}
 use Rattle.af_ops.specs.Effects.{id_or, new_run}
@@ -33,13 +35,16 @@ kept_at p (y ∷ xs) zero x within is passes =
 kept_at p (y ∷ xs) (suc k) x within is passes = later (p y) y (filter p xs) x (kept_at p xs k x (omega arith) is passes)
 
 pub listed_read : RunsListedAreThoseRead
-listed_read reads state run = (
-  (λ at. (
-    All-contains (Contains state.runs) (filter (λ (it : Run). reads it.dag_id) state.runs) run (All-filter (λ (it : Run). reads it.dag_id) (Contains state.runs) state.runs (All-contains_itself state.runs)) at,
-    All-contains (λ (it : Run). reads it.dag_id ≡ true) (filter (λ (it : Run). reads it.dag_id) state.runs) run (filter_passes (λ (it : Run). reads it.dag_id) state.runs) at,
-  )),
-  (λ both. kept_at (λ (it : Run). reads it.dag_id) state.runs both.0.0 run both.0.1 both.0.2 both.1),
-)
+listed_read readable state run =
+    let shown : Run → Bool = λ it. shows_runs readable it.dag_id in (
+      (λ at.
+          let parts = and_parts (readable.dags run.dag_id) (readable.runs run.dag_id) (All-contains (λ (it : Run). shown it ≡ true) (filter shown state.runs) run (filter_passes shown state.runs) at) in (
+            All-contains (Contains state.runs) (filter shown state.runs) run (All-filter shown (Contains state.runs) state.runs (All-contains_itself state.runs)) at,
+            parts.0,
+            parts.1,
+          )),
+      (λ both. kept_at shown state.runs both.0.0 run both.0.1 both.0.2 (λ i. both.1 i && both.2 i)),
+    )
 
 pub adds_run : TriggersAddARun
 adds_run reads state dag_id input now effect kept is =

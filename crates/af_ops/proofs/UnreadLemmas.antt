@@ -3,6 +3,7 @@
 use Rattle.std.proofs.Common.{◌≡◌, ◌⊎◌, inl, inr, refl, ℕ, Bool, List}
 use Rattle.std.specs.Prelude.{Err}
 use Rattle.af_sched.specs.State.{StateRows}
+use Rattle.af_policy.specs.Grants.{Readable}
 use Rattle.af_ops.specs.declared.answer.OpFault.TheVariants.{OutOfMemory}
 use Rattle.af_ops.specs.declared.op.Op.{Op}
 use Rattle.af_ops.specs.declared.op.Op.TheVariants as op
@@ -13,7 +14,7 @@ use Rattle.af_ops.specs.Endpoints.{dag_of, endpoint_of, unread}
 
 -- for every reader, state and moment
 abbrev pub WantsMemory : Op → Type 0
-WantsMemory asked = (reads : List ℕ → Bool) (state : StateRows) (now : ℕ) → effect_of reads state asked now ≡ Err OutOfMemory
+WantsMemory asked = (reads : Readable) (state : StateRows) (now : ℕ) → effect_of reads state asked now ≡ Err OutOfMemory
 
 -- what an operation without its body has of the whole one
 pub record IsUnread (whole half : Op) : Type 0 where

@@ -1,10 +1,11 @@
 -- What a permitted operation does: its reply and the state after it, or the first fault in the order of `OpFault`. Each next
 -- state is a map or a filter over the lists of the state, or one row more at their end.
-use Rattle.std.specs.Prelude.{ℕ, ◌++◌, List, Bool, not, filter, map, length, zip, Option, Some, None, option_map, option_and_then, ok_or, unwrap_or, Result, Ok, Err, codes, if◌then◌else◌}
+use Rattle.std.specs.Prelude.{ℕ, ◌++◌, List, Bool, false, not, filter, map, length, zip, Option, Some, None, option_map, option_and_then, ok_or, unwrap_or, Result, Ok, Err, codes, if◌then◌else◌}
 use Rattle.serde_json.specs.Data.{Data}
 use Rattle.serde_json.specs.Written.{compact_text}
 use Rattle.af_names.specs.Isoformat.{isoformat}
 use Rattle.std.specs.List.{enumerate_from, slice_get}
+use Rattle.af_policy.specs.Grants.{Readable, shows_runs}
 use Rattle.af_policy.specs.declared.bad_input.Parameter.{Parameter}
 use Rattle.af_listing.specs.Pages.{cut}
 use Rattle.af_listing.specs.Windows.{Cut}
@@ -102,11 +103,11 @@ listed_tasks state dag_id = do
 abbrev pub runs_data : Cut → List Run → Data
 runs_data window runs = listing_of (codes "dag_runs") (map run_data (cut window runs)) (length runs)
 
--- the runs of all DAGs that are read, in order of their numbers
+-- the runs of all DAGs whose runs are shown, in order of their numbers
 abbrev pub all_runs : (List ℕ → Bool) → StateRows → Result Cut Parameter → Result Effect OpFault
-all_runs reads state asked = do
+all_runs shows state asked = do
   window ← window_or asked
-  Ok (kept (runs_data window (read_rows reads (λ run. run.dag_id) state.runs)))
+  Ok (kept (runs_data window (read_rows shows (λ run. run.dag_id) state.runs)))
 
 -- the runs of one DAG, in that order
 abbrev pub runs_of_dag : StateRows → List ℕ → Result Cut Parameter → Result Effect OpFault
@@ -116,8 +117,8 @@ runs_of_dag state dag_id asked = do
   Ok (kept (runs_data window (runs_of state.runs dag_id)))
 
 abbrev pub listed_runs : (List ℕ → Bool) → StateRows → Option (List ℕ) → Result Cut Parameter → Result Effect OpFault
-listed_runs reads state None asked = all_runs reads state asked
-listed_runs reads state (Some dag_id) asked = runs_of_dag state dag_id asked
+listed_runs shows state None asked = all_runs shows state asked
+listed_runs shows state (Some dag_id) asked = runs_of_dag state dag_id asked
 
 -- one run
 abbrev pub got_run : StateRows → List ℕ → List ℕ → Result Effect OpFault
@@ -241,22 +242,27 @@ run_deleted state dag_id run_id = do
   run ← run_or state dag_id run_id
   Ok (deleting state dag_id run_id)
 
--- what a permitted operation does for a reader of these DAGs, at a moment
-abbrev pub effect_of : (List ℕ → Bool) → StateRows → Op → ℕ → Result Effect OpFault
-effect_of reads state op.Version now = Ok (kept version_data)
-effect_of reads state (op.ListDags asked) now = listed_dags reads state asked
-effect_of reads state (op.GetDag dag_id) now = got_dag state dag_id
-effect_of reads state (op.PauseDag dag_id input) now = paused_dag state dag_id input
-effect_of reads state (op.ListTasks dag_id) now = listed_tasks state dag_id
-effect_of reads state (op.ListRuns dag asked) now = listed_runs reads state dag asked
-effect_of reads state (op.TriggerRun dag_id input) now = triggered_run state dag_id input now
-effect_of reads state (op.GetRun dag_id run_id) now = got_run state dag_id run_id
-effect_of reads state (op.MarkRun dag_id run_id input) now = run_marked state dag_id run_id input now
-effect_of reads state (op.DeleteRun dag_id run_id) now = run_deleted state dag_id run_id
-effect_of reads state (op.ClearRun dag_id run_id input) now = run_cleared state dag_id run_id input
-effect_of reads state (op.ListInstances dag_id run_id asked) now = listed_instances state dag_id run_id asked
-effect_of reads state (op.GetInstance dag_id run_id task_id) now = got_instance state dag_id run_id task_id
-effect_of reads state (op.ClearInstances dag_id input) now = instances_cleared state dag_id input
-effect_of reads state (op.BackfillDag dag_id input) now = backfilled_dag state dag_id input
-effect_of reads state (op.Pool it) now = pool_effect state it
-effect_of reads state (op.Variable it) now = variable_effect state it
+-- nothing may be read
+abbrev pub nothing_readable : Readable
+nothing_readable = record { dags = λ dag. false; runs = λ dag. false }
+
+-- what a permitted operation does for who may read this, at a moment; an operation on one DAG, or on its runs, is permitted only to who may
+-- read them, so it does not ask again
+abbrev pub effect_of : Readable → StateRows → Op → ℕ → Result Effect OpFault
+effect_of readable state op.Version now = Ok (kept version_data)
+effect_of readable state (op.ListDags asked) now = listed_dags readable.dags state asked
+effect_of readable state (op.GetDag dag_id) now = got_dag state dag_id
+effect_of readable state (op.PauseDag dag_id input) now = paused_dag state dag_id input
+effect_of readable state (op.ListTasks dag_id) now = listed_tasks state dag_id
+effect_of readable state (op.ListRuns dag asked) now = listed_runs (shows_runs readable) state dag asked
+effect_of readable state (op.TriggerRun dag_id input) now = triggered_run state dag_id input now
+effect_of readable state (op.GetRun dag_id run_id) now = got_run state dag_id run_id
+effect_of readable state (op.MarkRun dag_id run_id input) now = run_marked state dag_id run_id input now
+effect_of readable state (op.DeleteRun dag_id run_id) now = run_deleted state dag_id run_id
+effect_of readable state (op.ClearRun dag_id run_id input) now = run_cleared state dag_id run_id input
+effect_of readable state (op.ListInstances dag_id run_id asked) now = listed_instances state dag_id run_id asked
+effect_of readable state (op.GetInstance dag_id run_id task_id) now = got_instance state dag_id run_id task_id
+effect_of readable state (op.ClearInstances dag_id input) now = instances_cleared state dag_id input
+effect_of readable state (op.BackfillDag dag_id input) now = backfilled_dag state dag_id input
+effect_of readable state (op.Pool it) now = pool_effect state it
+effect_of readable state (op.Variable it) now = variable_effect state it

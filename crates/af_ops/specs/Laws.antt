@@ -20,6 +20,7 @@ use Rattle.af_sched.specs.State.{AreInOrder, StateRows, is_of_id}
 use Rattle.af_sched.specs.State as sched
 use Rattle.af_sched.specs.declared.dag_row.DagRow.{DagRow}
 use Rattle.af_policy.specs.declared.ask.Ask.TheVariants.{Made, Bad}
+use Rattle.af_policy.specs.Grants.{Readable, shows_runs}
 use Rattle.af_ops.specs.declared.backfill.Backfill.{Backfill}
 use Rattle.af_ops.specs.declared.body_fault.BodyFault.{BodyFault}
 use Rattle.af_ops.specs.declared.call.Call.{Call}
@@ -50,13 +51,13 @@ ListingsGoById =
 -- an operation that is asked for by GET leaves every state as it is
 abbrev pub ReadingsLeaveTheState : Type 0
 ReadingsLeaveTheState =
-    (reads : List ℕ → Bool) (state : StateRows) (asked : Op) (now : ℕ) (effect : Effect) → (route_of (endpoint_of asked)).method ≡ Get
+    (reads : Readable) (state : StateRows) (asked : Op) (now : ℕ) (effect : Effect) → (route_of (endpoint_of asked)).method ≡ Get
     → effect_of reads state asked now ≡ Ok effect → effect.next ≡ None
 
 -- what is told to be a change leaves another state
 abbrev pub ChangesLeaveAnotherState : Type 0
 ChangesLeaveAnotherState =
-    (reads : List ℕ → Bool) (state : StateRows) (asked : Op) (now : ℕ) (effect : Effect) (next : StateRows) → effect_of reads state asked now ≡ Ok effect
+    (reads : Readable) (state : StateRows) (asked : Op) (now : ℕ) (effect : Effect) (next : StateRows) → effect_of reads state asked now ≡ Ok effect
     → effect.next ≡ Some next → next ≢ state
 
 -- the other DAGs, their runs, the pools and the variables are the same
@@ -69,20 +70,21 @@ pub record LeavesOthers (dag_id : List ℕ) (old new : StateRows) : Type 0 where
 -- an operation at one DAG leaves all other DAGs, their runs, the pools and the variables as they were
 abbrev pub ChangesStayAtTheirDag : Type 0
 ChangesStayAtTheirDag =
-    (reads : List ℕ → Bool) (state : StateRows) (asked : Op) (now : ℕ) (effect : Effect) (next : StateRows) (dag_id : List ℕ) → effect_of reads state asked now ≡ Ok effect
+    (reads : Readable) (state : StateRows) (asked : Op) (now : ℕ) (effect : Effect) (next : StateRows) (dag_id : List ℕ) → effect_of reads state asked now ≡ Ok effect
     → effect.next ≡ Some next → dag_of asked ≡ Some dag_id → LeavesOthers dag_id state next
 
--- the listing of all runs has exactly the runs whose DAG is read
+-- the listing of all runs has exactly the runs whose DAG is read, and of whose DAG the runs are read
 abbrev pub RunsListedAreThoseRead : Type 0
 RunsListedAreThoseRead =
-    (reads : List ℕ → Bool) (state : StateRows) (run : Run)
-    → Contains (read_rows reads (λ it. it.dag_id) state.runs) run ↔ (Contains state.runs run × (reads run.dag_id ≡ true))
+    (readable : Readable) (state : StateRows) (run : Run)
+    → Contains (read_rows (shows_runs readable) (λ it. it.dag_id) state.runs) run
+    ↔ (Contains state.runs run × (readable.dags run.dag_id ≡ true) × (readable.runs run.dag_id ≡ true))
 
--- the runs of a page, of those of one DAG and of those whose DAG is read, stand in order of their numbers, and no run stands twice
+-- the runs of a page, of those of one DAG and of those that are shown, stand in order of their numbers, and no run stands twice
 abbrev pub RunsListedGoByNumber : Type 0
 RunsListedGoByNumber =
-    (reads : List ℕ → Bool) (window : Cut) (dag_id : List ℕ) (state : StateRows) → AreRuns state.runs state.next_run
-    → IsStrictlySortedBy nat_cmp (map (λ run. run.number) (cut window (read_rows reads (λ run. run.dag_id) state.runs)))
+    (shows : List ℕ → Bool) (window : Cut) (dag_id : List ℕ) (state : StateRows) → AreRuns state.runs state.next_run
+    → IsStrictlySortedBy nat_cmp (map (λ run. run.number) (cut window (read_rows shows (λ run. run.dag_id) state.runs)))
     × IsStrictlySortedBy nat_cmp (map (λ run. run.number) (cut window (runs_of state.runs dag_id)))
 
 -- the run that is shown is the one of its DAG that has the id
@@ -117,7 +119,7 @@ pub record AddsRun (dag_id run_id : List ℕ) (date : ℕ) (old new : StateRows)
 -- made of that date; nothing else is changed
 abbrev pub TriggersAddARun : Type 0
 TriggersAddARun =
-    (reads : List ℕ → Bool) (state : StateRows) (dag_id : List ℕ) (input : Result Trigger BodyFault) (now : ℕ) (effect : Effect)
+    (reads : Readable) (state : StateRows) (dag_id : List ℕ) (input : Result Trigger BodyFault) (now : ℕ) (effect : Effect)
     → AreRuns state.runs state.next_run → effect_of reads state (op.TriggerRun dag_id input) now ≡ Ok effect
     → (asked : Trigger) × (input ≡ Ok asked)
     × ((next : StateRows) × (effect.next ≡ Some next) × ((run : Run) × AddsRun dag_id (id_or asked.dag_run_id (unwrap_or asked.logical_date now)) (unwrap_or asked.logical_date now) state next run))
@@ -126,7 +128,7 @@ TriggersAddARun =
 -- run, the state is as it was. The reply tells all runs that are added
 abbrev pub BackfillsFillTheirRange : Type 0
 BackfillsFillTheirRange =
-    (reads : List ℕ → Bool) (state : StateRows) (dag_id : List ℕ) (input : Result Backfill BodyFault) (now : ℕ) (effect : Effect)
+    (reads : Readable) (state : StateRows) (dag_id : List ℕ) (input : Result Backfill BodyFault) (now : ℕ) (effect : Effect)
     → effect_of reads state (op.BackfillDag dag_id input) now ≡ Ok effect
     → (asked : Backfill) × ((row : DagRow) × ((schedule : Schedule) × ((left : Backfills row.dag (is_scheduled schedule) asked.start_date asked.end_date state (unwrap_or effect.next state))
     × (input ≡ Ok asked) × (sched.dag_of state.dags dag_id ≡ Some row) × (row.dag.schedule ≡ Some schedule)
@@ -135,7 +137,7 @@ BackfillsFillTheirRange =
 -- a dry run of a clear leaves every state as it is
 abbrev pub DryRunsLeaveTheState : Type 0
 DryRunsLeaveTheState =
-    (reads : List ℕ → Bool) (state : StateRows) (now : ℕ) (effect : Effect)
+    (reads : Readable) (state : StateRows) (now : ℕ) (effect : Effect)
     → ((dag_id run_id : List ℕ) → effect_of reads state (op.ClearRun dag_id run_id (Ok true)) now ≡ Ok effect → effect.next ≡ None)
     × ((dag_id : List ℕ) (asked : Clear) → asked.dry_run ≡ true → effect_of reads state (op.ClearInstances dag_id (Ok asked)) now ≡ Ok effect → effect.next ≡ None)
 
@@ -143,7 +145,7 @@ DryRunsLeaveTheState =
 -- as it was; a clear of one run asks for that run, and chooses all its instances
 abbrev pub ClearsTouchChosenAlone : Type 0
 ClearsTouchChosenAlone =
-    (reads : List ℕ → Bool) (state : StateRows) (dag_id : List ℕ) (now : ℕ) (effect : Effect) (next : StateRows) → effect.next ≡ Some next
+    (reads : Readable) (state : StateRows) (dag_id : List ℕ) (now : ℕ) (effect : Effect) (next : StateRows) → effect.next ≡ Some next
     → ((input : Result Clear BodyFault) → effect_of reads state (op.ClearInstances dag_id input) now ≡ Ok effect
     → (asked : Clear) × ((row : DagRow) × (input ≡ Ok asked) × (sched.dag_of state.dags dag_id ≡ Some row)
     × (next ≡ record state { runs = map (run_after (filter_of dag_id asked) (selection_of row.dag.tasks asked)) state.runs })
@@ -156,7 +158,7 @@ ClearsTouchChosenAlone =
 -- the number that the next run gets never falls
 abbrev pub RunNumbersRise : Type 0
 RunNumbersRise =
-    (reads : List ℕ → Bool) (state : StateRows) (asked : Op) (now : ℕ) (effect : Effect) (next : StateRows) → effect_of reads state asked now ≡ Ok effect
+    (reads : Readable) (state : StateRows) (asked : Op) (now : ℕ) (effect : Effect) (next : StateRows) → effect_of reads state asked now ≡ Ok effect
     → effect.next ≡ Some next → state.next_run ≤ next.next_run
 
 -- the texts between a path's slashes are those of a pattern, where a part stands for any text that is not empty

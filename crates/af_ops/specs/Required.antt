@@ -5,7 +5,7 @@ use Rattle.af_ops.specs.declared.op.Op.{Op}
 use Rattle.af_ops.specs.Endpoints.{dag_of, endpoint_of}
 use Rattle.af_ops.specs.Table.{needs_of}
 
--- what the table requires at a DAG is required of all DAGs, or of one that is there, where the operation names none
+-- what the table requires at a DAG, or at its runs, is required for all DAGs where the operation names none
 abbrev pub at_named : Option (List ℕ) → Need → Need
 at_named None need = record need { at_dag = false }
 at_named (Some dag_id) need = need

@@ -16,6 +16,7 @@ use Rattle.af_sched.specs.Queue.{occupant_of}
 use Rattle.af_sched.specs.State.{StateRows, pools_of_row}
 use Rattle.af_vars.specs.Variables.{key_of, variable_of}
 use Rattle.af_vars.specs.declared.variable.Variable.{Variable}
+use Rattle.af_policy.specs.Grants.{Readable}
 use Rattle.af_ops.specs.declared.op.Op.{Op}
 use Rattle.af_ops.specs.declared.op.Op.TheVariants as op
 use Rattle.af_ops.specs.declared.pool_op.PoolOp.{PoolOp}
@@ -30,7 +31,7 @@ use Rattle.af_ops.specs.VariableOps as variables
 -- an operation, done for some reader at some moment, leads from one state to another
 abbrev pub Leads : Op → StateRows → StateRows → Type 0
 Leads asked old new =
-    (reads : List ℕ → Bool) × (now : ℕ) × (effect : Effect) × (effect_of reads old asked now ≡ Ok effect) × (effect.next ≡ Some new)
+    (reads : Readable) × (now : ℕ) × (effect : Effect) × (effect_of reads old asked now ≡ Ok effect) × (effect.next ≡ Some new)
 
 -- the default pool, and each pool that a task of a DAG names, is there after every operation, if it was before
 abbrev pub NeededPoolsStay : Type 0

@@ -109,6 +109,10 @@ at_dag action = record { action = action; kind = Dags; at_dag = true }
 abbrev pub at_some_dag : Action → Need
 at_some_dag action = record { action = action; kind = Dags; at_dag = false }
 
+-- an action on `DAG Runs` at the DAG that the path names
+abbrev pub at_runs : Action → Need
+at_runs action = record { action = action; kind = DagRuns; at_dag = true }
+
 -- an action on the resources of a kind
 abbrev pub on_all : Action → ResourceKind → Need
 on_all action kind = record { action = action; kind = kind; at_dag = false }
@@ -134,15 +138,15 @@ route_of endpoint.ListDags = needing Get template.Dags (at_some_dag Read ∷ [])
 route_of endpoint.GetDag = needing Get template.Dag (at_dag Read ∷ [])
 route_of endpoint.PauseDag = needing Patch template.Dag (at_dag Edit ∷ [])
 route_of endpoint.ListTasks = needing Get template.Tasks (at_dag Read ∷ on_all Read TaskInstances ∷ [])
-route_of endpoint.ListRuns = needing Get template.Runs (at_dag Read ∷ on_all Read DagRuns ∷ [])
-route_of endpoint.TriggerRun = needing Post template.Runs (at_dag Edit ∷ on_all Create DagRuns ∷ [])
-route_of endpoint.GetRun = needing Get template.Run (at_dag Read ∷ on_all Read DagRuns ∷ [])
-route_of endpoint.MarkRun = needing Patch template.Run (at_dag Edit ∷ on_all Edit DagRuns ∷ [])
-route_of endpoint.DeleteRun = needing Delete template.Run (at_dag Edit ∷ on_all action.Delete DagRuns ∷ [])
-route_of endpoint.ClearRun = needing Post template.RunClear (at_dag Edit ∷ on_all Edit DagRuns ∷ [])
-route_of endpoint.ListInstances = needing Get template.Instances (at_dag Read ∷ on_all Read DagRuns ∷ on_all Read TaskInstances ∷ [])
-route_of endpoint.GetInstance = needing Get template.Instance (at_dag Read ∷ on_all Read DagRuns ∷ on_all Read TaskInstances ∷ [])
-route_of endpoint.ClearInstances = needing Post template.Clear (at_dag Edit ∷ on_all Read DagRuns ∷ on_all Edit TaskInstances ∷ [])
+route_of endpoint.ListRuns = needing Get template.Runs (at_dag Read ∷ at_runs Read ∷ [])
+route_of endpoint.TriggerRun = needing Post template.Runs (at_dag Edit ∷ at_runs Create ∷ [])
+route_of endpoint.GetRun = needing Get template.Run (at_dag Read ∷ at_runs Read ∷ [])
+route_of endpoint.MarkRun = needing Patch template.Run (at_dag Edit ∷ at_runs Edit ∷ [])
+route_of endpoint.DeleteRun = needing Delete template.Run (at_dag Edit ∷ at_runs action.Delete ∷ [])
+route_of endpoint.ClearRun = needing Post template.RunClear (at_dag Edit ∷ at_runs Edit ∷ [])
+route_of endpoint.ListInstances = needing Get template.Instances (at_dag Read ∷ at_runs Read ∷ on_all Read TaskInstances ∷ [])
+route_of endpoint.GetInstance = needing Get template.Instance (at_dag Read ∷ at_runs Read ∷ on_all Read TaskInstances ∷ [])
+route_of endpoint.ClearInstances = needing Post template.Clear (at_dag Edit ∷ at_runs Read ∷ on_all Edit TaskInstances ∷ [])
 route_of endpoint.ListPools = needing Get template.Pools (on_all Read Pools ∷ [])
 route_of endpoint.AddPool = needing Post template.Pools (on_all Create Pools ∷ [])
 route_of endpoint.GetPool = needing Get template.Pool (on_all Read Pools ∷ [])
@@ -166,7 +170,7 @@ route_of endpoint.ChangeUser = needing Patch template.User (on_all Edit Users �
 route_of endpoint.DeleteUser = needing Delete template.User (on_all action.Delete Users ∷ [])
 route_of endpoint.GetMe = needing Get template.Me []
 route_of endpoint.SyncDag = needing Post template.Sync (on_all Edit Roles ∷ [])
-route_of endpoint.BackfillDag = needing Post template.Backfills (at_dag Edit ∷ on_all Create DagRuns ∷ [])
+route_of endpoint.BackfillDag = needing Post template.Backfills (at_dag Edit ∷ at_runs Create ∷ [])
 
 abbrev pub endpoints : List Endpoint
 endpoints = endpoint.Version ∷ endpoint.ListDags ∷ endpoint.GetDag ∷ endpoint.PauseDag ∷ endpoint.ListTasks ∷ endpoint.ListRuns ∷ endpoint.TriggerRun ∷ endpoint.GetRun ∷ endpoint.MarkRun ∷ endpoint.DeleteRun ∷ endpoint.ClearRun ∷ endpoint.ListInstances ∷ endpoint.GetInstance ∷ endpoint.ClearInstances ∷ endpoint.ListPools ∷ endpoint.AddPool ∷ endpoint.GetPool ∷ endpoint.ChangePool ∷ endpoint.DeletePool ∷ endpoint.ListVariables ∷ endpoint.AddVariable ∷ endpoint.GetVariable ∷ endpoint.ChangeVariable ∷ endpoint.DeleteVariable ∷ endpoint.ListEntries ∷ endpoint.ListRoles ∷ endpoint.AddRole ∷ endpoint.GetRole ∷ endpoint.ChangeRole ∷ endpoint.DeleteRole ∷ endpoint.ListUsers ∷ endpoint.AddUser ∷ endpoint.GetUser ∷ endpoint.ChangeUser ∷ endpoint.DeleteUser ∷ endpoint.GetMe ∷ endpoint.SyncDag ∷ endpoint.BackfillDag ∷ []

@@ -6,13 +6,13 @@ use Rattle.af_role.specs.Pairs.{PairRow}
 use Rattle.af_role.specs.declared.need.Need.{Need}
 use Rattle.af_policy.specs.Rows.{PolicyRows}
 use Rattle.af_policy.specs.Identity.{bearer_of}
-use Rattle.af_policy.specs.Grants.{first_unmet, grants, reads_dag}
+use Rattle.af_policy.specs.Grants.{first_unmet, grants, readable_by}
 use Rattle.af_sched.specs.State.{StateRows}
 use Rattle.af_ops.specs.declared.answer.OpFault.{OpFault}
 use Rattle.af_ops.specs.declared.answer.OpFault.TheVariants.{HistoryFull}
 use Rattle.af_ops.specs.declared.answer.Under.{Under}
 use Rattle.af_ops.specs.declared.op.Op.{Op}
-use Rattle.af_ops.specs.Effects.{Effect, effect_of}
+use Rattle.af_ops.specs.Effects.{Effect, effect_of, nothing_readable}
 use Rattle.af_ops.specs.Endpoints.{dag_of, endpoint_of}
 use Rattle.af_ops.specs.Required.{needs_for}
 use Rattle.af_ops.specs.Standings.{StandingRows}
@@ -49,7 +49,7 @@ done limit under (Err why) = Refuses why
 -- the verdict on what a user asks who is granted this, where a requirement is lacked, or none
 abbrev pub permitted : ℕ → (PairRow → Bool) → StandingRows → Op → ℕ → Option Need → Verdict
 permitted limit granted standing asked now (Some need) = Lacks need
-permitted limit granted standing asked now None = done limit standing.under (effect_of (reads_dag granted) standing.state asked now)
+permitted limit granted standing asked now None = done limit standing.under (effect_of (readable_by granted) standing.state asked now)
 
 abbrev pub granted_verdict : ℕ → (PairRow → Bool) → StandingRows → Op → ℕ → Verdict
 granted_verdict limit granted standing asked now =
@@ -69,5 +69,5 @@ opened (Err why) = Refuses why
 -- where there may be so many entries
 abbrev pub verdict : ℕ → PolicyRows → StandingRows → Option (List ℕ) → Op → ℕ → Verdict
 verdict limit policy standing token asked now =
-    if is_open (endpoint_of asked) then opened (effect_of (λ dag. false) standing.state asked now)
+    if is_open (endpoint_of asked) then opened (effect_of nothing_readable standing.state asked now)
     else judged limit policy standing asked now (bearer_of policy token)

@@ -1,11 +1,12 @@
 -- A small policy and a small state, for worked values: a viewer, a user who may read one DAG, one who may read its runs too, one who
--- may edit all, one without permissions, and three DAGs of one task, the first of them paused.
+-- may read all DAGs, edit one, and read and create the runs of that one, one who may edit all, one without permissions, and three DAGs of
+-- one task, the first of them paused.
 use Rattle.std.specs.Prelude.{ℕ, ◌^◌, pos, negsuc, List, [], ◌∷◌, ◌++◌, Bool, true, false, Option, Some, None, Result, Ok, codes}
 use Rattle.af_listing.specs.Windows.{Cut}
 use Rattle.af_policy.specs.declared.bad_input.Parameter.{Parameter}
-use Rattle.af_role.specs.declared.action.Action.TheVariants.{Read}
-use Rattle.af_role.specs.declared.resource.ResourceKind.TheVariants.{DagRuns}
-use Rattle.af_role.specs.Pairs.{on_dag, on_kind}
+use Rattle.af_role.specs.declared.action.Action.TheVariants.{Create, Read, Edit}
+use Rattle.af_role.specs.declared.resource.ResourceKind.TheVariants.{Dags, DagRuns}
+use Rattle.af_role.specs.Pairs.{on_dag, on_kind, on_runs}
 use Rattle.af_role.specs.Roles.{RoleRow}
 use Rattle.af_role.specs.DefaultRoles.{viewer_adds, user_adds}
 use Rattle.af_policy.specs.Rows.{UserRow, PolicyRows}
@@ -35,6 +36,7 @@ users =
     record { name = codes "bob"; digest = codes "digest of bob"; roles = codes "OnlyB" ∷ [] }
     ∷ record { name = codes "pat"; digest = codes "digest of pat"; roles = codes "Public" ∷ [] }
     ∷ record { name = codes "ron"; digest = codes "digest of ron"; roles = codes "RunsB" ∷ [] }
+    ∷ record { name = codes "sue"; digest = codes "digest of sue"; roles = codes "OwnB" ∷ [] }
     ∷ record { name = codes "uma"; digest = codes "digest of uma"; roles = codes "User" ∷ [] }
     ∷ record { name = codes "vera"; digest = codes "digest of vera"; roles = codes "Viewer" ∷ [] }
     ∷ []
@@ -42,6 +44,7 @@ users =
 abbrev pub roles : List RoleRow
 roles =
     record { name = codes "OnlyB"; pairs = on_dag Read (codes "b") ∷ [] }
+    ∷ record { name = codes "OwnB"; pairs = on_kind Read Dags ∷ on_dag Edit (codes "b") ∷ on_runs Create (codes "b") ∷ on_runs Read (codes "b") ∷ [] }
     ∷ record { name = codes "Public"; pairs = [] }
     ∷ record { name = codes "RunsB"; pairs = on_kind Read DagRuns ∷ on_dag Read (codes "b") ∷ [] }
     ∷ record { name = codes "User"; pairs = viewer_adds ++ user_adds }

@@ -68,4 +68,4 @@ abbrev pub sync_none : Change
 sync_none = change.SyncDag (record { dag = codes "b"; access = Some [] })
 
 abbrev pub sync_one : List ℕ → List ℕ → Change
-sync_one role action = change.SyncDag (record { dag = codes "b"; access = Some (record { role = role; actions = action ∷ [] } ∷ []) })
+sync_one role action = change.SyncDag (record { dag = codes "b"; access = Some (record { role = role; actions = action ∷ []; runs = [] } ∷ []) })

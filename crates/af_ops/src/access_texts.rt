@@ -1,5 +1,5 @@
-// Reading the access control of a DAG: an object of names of roles, with a list of texts for each. Each reader takes what is told of a
-// value of another kind, of a name that is none and of out of memory, so that bodies and configurations may read alike.
+// Reading the access control of a DAG: an object of names of roles, with a value for each. Each reader takes what is told of a value of
+// another kind, of a name that is none and of out of memory, so that bodies and configurations may read alike.
 ghost use Rattle.std.specs.Prelude.{◌≡◌, ◌++◌, [], map, IfOk, OnOk};
 ghost use Rattle.std.specs.BTreeMap.{insert_entry};
 ghost use Rattle.std.specs.Cmp.Lexicographic.{slice_cmp};
@@ -7,11 +7,12 @@ ghost use Rattle.std.specs.Ordering.{nat_cmp};
 ghost use Rattle.serde_json.specs.Data.{put};
 ghost use Rattle.af_base.specs.JsonValue.{members_view, view};
 ghost use Rattle.af_base.specs.Readings.{Makes, OrMemory, first_fault, seen, taking};
-ghost use Rattle.af_ops.specs.AccessTexts.{access_in, entries_view, field_of, fields_of, is_text, row_in, row_taken, text_taken, texts_in, texts_tested};
+ghost use Rattle.af_ops.specs.AccessTexts.{access_in, entries_view, field_of, field_tested, fields_of, row_in, row_taken};
 
+use crate::access_value::{read_part, test_value};
 use af_base::Json;
 use af_names::{NameError, RoleName};
-use af_role::{AccessControl, AccessRow, Text, Texts};
+use af_role::{AccessControl, AccessRow, DagPart};
 use std::alloc::{AllocError, Global};
 use std::cmp::Ordering;
 use std::collections::BTreeMap;
@@ -19,10 +20,10 @@ use std::collections::BTreeMap;
 /// So many members at most are put in order without a map.
 const FEW: usize = 8;
 
-/// Reads which roles are to have which actions on a DAG: an object, each of whose members has the name of a role and is a list of
-/// texts. The roles stand in byte order of their names; of a name that comes twice the last member counts. The first fault decides:
-/// `wrong` where the value is no object, and then where a member is no list of texts; `misnamed` where a name is no role's;
-/// `memory` only where a growth was refused.
+/// Reads which roles are to have which actions on a DAG and on its runs: an object, each of whose members has the name of a role, and is a
+/// list of texts, or an object with such lists for the DAG and for its runs. The roles stand in byte order of their names; of a name that
+/// comes twice the last member counts. The first fault decides: `wrong` where the value is no object, and then where a member is neither;
+/// `misnamed` where a name is no role's; `memory` only where a growth was refused.
 pub fn read_access<E: Copy>(
     alloc: Global,
     value: &Json<'_>,
@@ -151,35 +152,21 @@ fn listed<'v, 'a>(
     fields.into_iter().collect(alloc)
 }
 
-/// Whether each member is a list of texts.
+/// Whether each member is a list of texts, or an object of such lists.
 fn test_fields<E: Copy>(fields: &[(&str, &Json<'_>)], wrong: E) -> Result<(), E>
-    ensures { result ≡ first_fault (texts_tested wrong) (map field_of fields.now) }
+    ensures { result ≡ first_fault (field_tested wrong) (map field_of fields.now) }
 {
     for field in fields {
-        test_texts(field, wrong)?;
+        test_field(field, wrong)?;
     }
     Ok(())
 }
 
-/// Whether a member is a list of texts.
-fn test_texts<E: Copy>(field: &(&str, &Json<'_>), wrong: E) -> Result<(), E>
-    ensures { result ≡ texts_tested wrong (field_of field.now) }
+/// Whether a member is a list of texts, or an object of such lists.
+fn test_field<E: Copy>(field: &(&str, &Json<'_>), wrong: E) -> Result<(), E>
+    ensures { result ≡ field_tested wrong (field_of field.now) }
 {
-    match field.1.as_array() {
-        Some(items) => test_items(items, wrong),
-        None => Err(wrong),
-    }
-}
-
-fn test_items<E: Copy>(items: &[Json<'_>], wrong: E) -> Result<(), E>
-    ensures { result ≡ first_fault (is_text wrong) (map view items.now) }
-{
-    for item in items {
-        if item.as_str().is_none() {
-            return Err(wrong);
-        }
-    }
-    Ok(())
+    test_value(field.1, wrong)
 }
 
 /// The rows of the members.
@@ -234,55 +221,11 @@ fn read_row<E: Copy>(
         Err(NameError::OutOfMemory) => return Err(memory),
         Err(_) => return Err(misnamed),
     };
-    let actions = read_texts(alloc, field.1, wrong, memory)?;
-    Ok(AccessRow { role, actions })
-}
-
-/// A list of texts.
-fn read_texts<E: Copy>(alloc: Global, value: &Json<'_>, wrong: E, memory: E) -> Result<Texts, E>
-    ensures { OrMemory memory (texts_in wrong (view value.now)) result }
-{
-    let Some(items) = value.as_array() else {
-        return Err(wrong);
-    };
-    let texts = read_items(alloc, items, wrong, memory)?;
-    Ok(Texts::of(texts))
-}
-
-fn read_items<E: Copy>(
-    alloc: Global,
-    items: &[Json<'_>],
-    wrong: E,
-    memory: E,
-) -> Result<Vec<Text>, E>
-    ensures { OrMemory memory (taking (text_taken wrong) [] (map view items.now)) (seen (λ texts. texts.items) result) }
-{
-    let Ok(mut texts) = Vec::with_capacity(alloc, items.len()) else {
-        return Err(memory);
-    };
-    for item in items {
-        add_text(alloc, &mut texts, item, wrong, memory)?;
-    }
-    Ok(texts)
-}
-
-fn add_text<E: Copy>(
-    alloc: Global,
-    texts: &mut Vec<Text>,
-    item: &Json<'_>,
-    wrong: E,
-    memory: E,
-) -> Result<(), E>
-    ensures { Makes memory (text_taken wrong texts.old.items (view item.now)) texts.new.items result }
-{
-    let Some(text) = item.as_str() else {
-        return Err(wrong);
-    };
-    let Ok(text) = String::from_str(alloc, text) else {
-        return Err(memory);
-    };
-    match texts.push(Text::new(text)) {
-        Ok(()) => Ok(()),
-        Err(_) => Err(memory),
-    }
+    let actions = read_part(alloc, field.1, DagPart::Itself, wrong, memory)?;
+    let runs = read_part(alloc, field.1, DagPart::Runs, wrong, memory)?;
+    Ok(AccessRow {
+        role,
+        actions,
+        runs,
+    })
 }

@@ -1,6 +1,6 @@
 ghost use Rattle.std.specs.Prelude.{◌≡◌, false};
 ghost use Rattle.af_ops.specs.Decisions.{fault_verdict};
-ghost use Rattle.af_ops.specs.Effects.{effect_of};
+ghost use Rattle.af_ops.specs.Effects.{effect_of, nothing_readable};
 ghost use Rattle.af_ops.specs.Served.{IsServed, reply_told, status_of, told_openly};
 ghost use Rattle.af_ops.specs.Verdicts.{opened};
 ghost use Rattle.af_sched.specs.State.{StateRows};
@@ -20,7 +20,7 @@ use std::alloc::Global;
 
 /// Answers an operation that anybody may ask for, which changes nothing.
 pub fn openly(alloc: Global, state: &mut State, under: Under, op: &Op, now: Instant) -> Served
-    ensures served { IsServed op.now (opened (effect_of (λ dag. false) state.old.rows op.now now))
+    ensures served { IsServed op.now (opened (effect_of nothing_readable state.old.rows op.now now))
         (record { under = under; state = state.old.rows }) result (record { under = under; state = state.new.rows }) }
     ensures rows { state.new.rows ≡ state.old.rows }
 {

@@ -1,6 +1,6 @@
 ghost use Rattle.std.specs.Prelude.{◌≡◌, ◌<◌, ◌≤◌, ◌↔◌, ℕ, List, Bool, false, true, Err, IfErr, IfOk, Ok, if◌then◌else◌};
 ghost use Rattle.af_base.specs.Readings.{seen};
-ghost use Rattle.af_policy.specs.Grants.{reads_dag};
+ghost use Rattle.af_policy.specs.Grants.{Readable, readable_by};
 ghost use Rattle.af_policy.specs.Views.{held};
 ghost use Rattle.af_ops.specs.declared.answer.CallFault.{CallFault};
 ghost use Rattle.af_ops.specs.declared.answer.OpFault.TheVariants.{HistoryFull, OutOfMemory};
@@ -63,7 +63,7 @@ fn permitted(
     op: &Op,
     now: Instant,
 ) -> Result<Prepared, CallFault>
-    ensures verdict { IsDecided op.now state.old.rows (done limit under (effect_of (reads_dag (held view.now)) state.old.rows op.now now)) result }
+    ensures verdict { IsDecided op.now state.old.rows (done limit under (effect_of (readable_by (held view.now)) state.old.rows op.now now)) result }
     ensures room { IfOk result (λ prepared. CanDo state.new prepared.edit) }
     ensures exact { IfOk result (λ prepared. IsExact state.old.rows prepared.edit) }
     ensures entries { IfOk result (λ prepared. is_edit prepared.edit ≡ true → under.seq < limit) }
@@ -111,7 +111,7 @@ fn permitted_read(
     now: Instant,
 ) -> Result<Option<Body>, CallFault>
     requires { reads_only (endpoint_of op.now) ≡ true }
-    ensures verdict { (limit : ℕ) (under : Under) → IsDecided op.now state.now.rows (done limit under (effect_of (reads_dag (held view.now)) state.now.rows op.now now)) (seen told_alone result) }
+    ensures verdict { (limit : ℕ) (under : Under) → IsDecided op.now state.now.rows (done limit under (effect_of (readable_by (held view.now)) state.now.rows op.now now)) (seen told_alone result) }
 {
     match prepare_read_for(alloc, state, op, view, now) {
         Ok(prepared) => Ok(prepared.into_reply()),
@@ -133,7 +133,7 @@ fn with_room(prepared: Prepared, under: Under, limit: u32) -> Result<Prepared, O
 /// Whether a fault is told as a full history: it is out of memory for a change, for whose entry there is no room, memory or not;
 /// but of one that chooses instances the want is told.
 fn is_full(state: &State, under: Under, limit: u32, op: &Op, fault: &OpFault) -> bool
-    ensures { (reads : List ℕ → Bool) (now : ℕ) → MemoryLast OutOfMemory (effect_of reads state.now.rows op.now now) (Err fault.now)
+    ensures { (reads : Readable) (now : ℕ) → MemoryLast OutOfMemory (effect_of reads state.now.rows op.now now) (Err fault.now)
         → IsDecided op.now state.now.rows (done limit under (effect_of reads state.now.rows op.now now)) (Err (CallFault.Op (if result then HistoryFull else fault.now))) }
 {
     if !is_want(fault) {
@@ -164,7 +164,7 @@ fn is_want(fault: &OpFault) -> bool
 
 /// Whether an operation that chooses no instances changes the state, where it is not refused. It takes no memory to tell.
 fn would_change(state: &State, op: &Op) -> bool
-    ensures { (reads : List ℕ → Bool) (now : ℕ) → chooses op.now ≡ false → ChangesWhereDone (effect_of reads state.now.rows op.now now) result }
+    ensures { (reads : Readable) (now : ℕ) → chooses op.now ≡ false → ChangesWhereDone (effect_of reads state.now.rows op.now now) result }
 {
     match op {
         Op::PauseDag(dag_id, Ok(is_paused)) => would_pause(state, dag_id, *is_paused),

@@ -35,7 +35,7 @@ pub fn changes_stay_at_their_dag()
     ensures { ChangesStayAtTheirDag }
 {}
 
-/// The listing of all runs has exactly the runs whose DAG the user reads.
+/// The listing of all runs has exactly the runs whose DAG the user reads, and of whose DAG the user reads the runs.
 pub fn runs_listed_are_those_read()
     ensures { RunsListedAreThoseRead }
 {}

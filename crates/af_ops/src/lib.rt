@@ -2,6 +2,7 @@
 #![tactic(auto)]
 
 mod access_texts;
+mod access_value;
 mod answer;
 mod answering;
 mod backfill;

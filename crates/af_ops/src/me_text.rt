@@ -4,7 +4,7 @@ ghost use Rattle.serde_json.specs.Data.{array, string};
 ghost use Rattle.serde_json.specs.View.{items_of};
 ghost use Rattle.serde_json.specs.Written.{compact_text, items_text};
 ghost use Rattle.af_role.specs.Pairs.{pair_text};
-ghost use Rattle.af_role.specs.Resources.{action_text};
+ghost use Rattle.af_role.specs.Resources.{action_text, part_prefix};
 ghost use Rattle.af_ops.specs.Fields.{object_of};
 ghost use Rattle.af_ops.specs.PolicyTexts.{me_fields, sync_fields};
 ghost use Rattle.af_ops.specs.Texts.{Adds};
@@ -12,7 +12,7 @@ ghost use Rattle.af_ops.specs.Texts.{Adds};
 use crate::row::{Row, row_text_within};
 use crate::text::Text;
 use af_policy::Me;
-use af_role::{Action, Pair, Permissions, Resource};
+use af_role::{Action, DagPart, Pair, Permissions, Resource};
 use std::alloc::{AllocError, Global};
 use std::marker::Model;
 
@@ -101,18 +101,29 @@ fn put_pair_text(out: &mut Text, pair: &Pair) -> Result<(), AllocError>
     let action = action_end(pair.action());
     match pair.resource() {
         Resource::Kind(kind) => put_pieces(out, b"\"", kind.text(), action),
-        Resource::Dag(dag_id) => put_pieces(out, b"\"DAG:", dag_id.as_str(), action),
+        Resource::Dag(part, dag_id) => put_pieces(out, dag_front(*part), dag_id.as_str(), action),
+    }
+}
+
+/// What stands before the id of a DAG in the text of a permission: the quotation mark, and the prefix.
+fn dag_front(part: DagPart) -> &'static [u8]
+    ensures text { result.now ≡ 34 ∷ part_prefix part }
+    ensures short { length result.now ≤ 12 }
+{
+    match part {
+        DagPart::Itself => b"\"DAG:",
+        DagPart::Runs => b"\"DAG Run:",
     }
 }
 
 /// Appends three pieces, of which the first and the last are short.
 #[inline(always)]
 fn put_pieces(out: &mut Text, front: &[u8], middle: &str, end: &[u8]) -> Result<(), AllocError>
-    requires { length front.now + length end.now ≤ 20 }
+    requires { length front.now + length end.now ≤ 24 }
     ensures text { OnOk result (out.new.items ≡ out.old.items ++ (front.now ++ (middle.now ++ end.now))) }
     ensures room { OnOk result (4 ≤ out.new.ready) }
 {
-    out.reserve(middle.len() + 24)?;
+    out.reserve(middle.len() + 28)?;
     out.push(front);
     out.push(middle.as_bytes());
     out.push(end);

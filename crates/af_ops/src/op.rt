@@ -31,7 +31,7 @@ pub enum Op {
     PauseDag(DagId, Result<bool, BodyFault>),
     /// The tasks of a DAG.
     ListTasks(DagId),
-    /// A page of the runs of one DAG, or of those of all DAGs that the user reads.
+    /// A page of the runs of one DAG, or of all DAGs that the user reads and whose runs the user reads.
     ListRuns(Option<DagId>, Result<Window, Parameter>),
     /// A run of a DAG is triggered.
     TriggerRun(DagId, Result<Trigger, BodyFault>),

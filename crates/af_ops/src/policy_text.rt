@@ -1,7 +1,7 @@
 // Roles and users as they are told.
 ghost use Rattle.std.specs.Prelude.{◌≡◌, [], ◌∷◌, ◌++◌, IfOk, IsTrue, OnOk, codes, map, false, string_bytes, true};
 ghost use Rattle.serde_json.specs.Written.{compact_text};
-ghost use Rattle.af_role.specs.Resources.{resource_text};
+ghost use Rattle.af_role.specs.Resources.{part_prefix, resource_text};
 ghost use Rattle.af_ops.specs.Fields.{late_listing_of, listing_of};
 ghost use Rattle.af_ops.specs.PolicyTexts.{named_data, named_fields, pair_fields, reply_data, role_data, role_fields, user_data, user_fields};
 ghost use Rattle.af_ops.specs.Texts.{Adds, is_name};
@@ -10,7 +10,7 @@ use crate::row::{Row, late_listing_text, listing_text, row_text};
 use crate::text::Text;
 use af_names::{DagId, Name, NameKind, RoleName};
 use af_policy::{Page, PolicyReply, RoleShown, UserShown};
-use af_role::{Action, Pair, Permissions, Resource};
+use af_role::{Action, DagPart, Pair, Permissions, Resource};
 use std::alloc::{AllocError, Global};
 use std::marker::Model;
 
@@ -71,18 +71,18 @@ fn put_resource(alloc: Global, out: &mut Text, resource: &Resource) -> Result<()
 {
     match resource {
         Resource::Kind(kind) => put_named(alloc, out, true, "resource", kind.text()),
-        Resource::Dag(dag) => {
-            let text = dag_resource(alloc, dag)?;
+        Resource::Dag(part, dag) => {
+            let text = dag_resource(alloc, *part, dag)?;
             put_named(alloc, out, true, "resource", text.as_str())
         }
     }
 }
 
-/// The text of a single DAG as a resource.
-fn dag_resource(alloc: Global, dag: &DagId) -> Result<String, AllocError>
-    ensures { IfOk result (λ text. string_bytes text ≡ codes "DAG:" ++ dag.now) }
+/// The text of a single DAG, or of its runs, as a resource.
+fn dag_resource(alloc: Global, part: DagPart, dag: &DagId) -> Result<String, AllocError>
+    ensures { IfOk result (λ text. string_bytes text ≡ part_prefix part ++ dag.now) }
 {
-    let mut text = String::from_str(alloc, "DAG:")?;
+    let mut text = String::from_str(alloc, part.prefix())?;
     text.push_str(dag.as_str())?;
     Ok(text)
 }

@@ -1,5 +1,5 @@
 ghost use Rattle.std.specs.Prelude.{◌≡◌, IfOk, true};
-ghost use Rattle.af_policy.specs.Grants.{reads_dag};
+ghost use Rattle.af_policy.specs.Grants.{readable_by};
 ghost use Rattle.af_policy.specs.Views.{held};
 ghost use Rattle.af_ops.specs.declared.answer.OpFault.TheVariants.{OutOfMemory};
 ghost use Rattle.af_ops.specs.Effects.{effect_of};
@@ -113,7 +113,7 @@ pub(crate) fn prepare_for(
     view: &View<'_>,
     now: Instant,
 ) -> Result<Prepared, OpFault>
-    ensures told { MemoryLast OutOfMemory (effect_of (reads_dag (held view.now)) state.old.rows op.now now) (seen (done_on state.old.rows) result) }
+    ensures told { MemoryLast OutOfMemory (effect_of (readable_by (held view.now)) state.old.rows op.now now) (seen (done_on state.old.rows) result) }
     ensures room { IfOk result (λ prepared. CanDo state.new prepared.edit) }
     ensures exact { IfOk result (λ prepared. IsExact state.old.rows prepared.edit) }
     ensures rows { state.new.rows ≡ state.old.rows }
@@ -134,7 +134,7 @@ pub(crate) fn prepare_read_for(
     now: Instant,
 ) -> Result<Prepared, OpFault>
     requires { reads_only (endpoint_of op.now) ≡ true }
-    ensures told { MemoryLast OutOfMemory (effect_of (reads_dag (held view.now)) state.now.rows op.now now) (seen (done_on state.now.rows) result) }
+    ensures told { MemoryLast OutOfMemory (effect_of (readable_by (held view.now)) state.now.rows op.now now) (seen (done_on state.now.rows) result) }
     ensures room { IfOk result (λ prepared. CanDo state.now prepared.edit) }
     ensures exact { IfOk result (λ prepared. IsExact state.now.rows prepared.edit) }
 {

@@ -22,7 +22,7 @@ pub(crate) static EDIT_DAG: [Need; 1] = [Need {
     at_dag: true,
 }];
 
-/// `can_edit` on `DAGs` at the DAG that the path names, and `can_create` on `DAG Runs`.
+/// `can_edit` on `DAGs` and `can_create` on `DAG Runs`, at the DAG that the path names.
 pub(crate) static CREATE_RUN: [Need; 2] = [
     Need {
         action: Action::Edit,
@@ -32,11 +32,11 @@ pub(crate) static CREATE_RUN: [Need; 2] = [
     Need {
         action: Action::Create,
         kind: ResourceKind::DagRuns,
-        at_dag: false,
+        at_dag: true,
     },
 ];
 
-/// `can_edit` on `DAGs` at the DAG that the path names, and on `DAG Runs`.
+/// `can_edit` on `DAGs` and on `DAG Runs`, at the DAG that the path names.
 pub(crate) static EDIT_RUN: [Need; 2] = [
     Need {
         action: Action::Edit,
@@ -46,11 +46,11 @@ pub(crate) static EDIT_RUN: [Need; 2] = [
     Need {
         action: Action::Edit,
         kind: ResourceKind::DagRuns,
-        at_dag: false,
+        at_dag: true,
     },
 ];
 
-/// `can_edit` on `DAGs` at the DAG that the path names, and `can_delete` on `DAG Runs`.
+/// `can_edit` on `DAGs` and `can_delete` on `DAG Runs`, at the DAG that the path names.
 pub(crate) static DELETE_RUN: [Need; 2] = [
     Need {
         action: Action::Edit,
@@ -60,11 +60,11 @@ pub(crate) static DELETE_RUN: [Need; 2] = [
     Need {
         action: Action::Delete,
         kind: ResourceKind::DagRuns,
-        at_dag: false,
+        at_dag: true,
     },
 ];
 
-/// `can_read` on `DAGs` at the DAG that the path names, and on `DAG Runs`.
+/// `can_read` on `DAGs` and on `DAG Runs`, at the DAG that the path names.
 pub(crate) static READ_RUN: [Need; 2] = [
     Need {
         action: Action::Read,
@@ -74,7 +74,7 @@ pub(crate) static READ_RUN: [Need; 2] = [
     Need {
         action: Action::Read,
         kind: ResourceKind::DagRuns,
-        at_dag: false,
+        at_dag: true,
     },
 ];
 
@@ -92,7 +92,7 @@ pub(crate) static READ_TASK: [Need; 2] = [
     },
 ];
 
-/// `can_read` on `DAGs` at the DAG that the path names, on `DAG Runs` and on `Task Instances`.
+/// `can_read` on `DAGs` and on `DAG Runs` at the DAG that the path names, and on `Task Instances`.
 pub(crate) static READ_INSTANCE: [Need; 3] = [
     Need {
         action: Action::Read,
@@ -102,7 +102,7 @@ pub(crate) static READ_INSTANCE: [Need; 3] = [
     Need {
         action: Action::Read,
         kind: ResourceKind::DagRuns,
-        at_dag: false,
+        at_dag: true,
     },
     Need {
         action: Action::Read,
@@ -111,7 +111,7 @@ pub(crate) static READ_INSTANCE: [Need; 3] = [
     },
 ];
 
-/// `can_edit` on `DAGs` at the DAG that the path names, `can_read` on `DAG Runs` and `can_edit` on `Task Instances`.
+/// `can_edit` on `DAGs` and `can_read` on `DAG Runs` at the DAG that the path names, and `can_edit` on `Task Instances`.
 pub(crate) static CLEAR_INSTANCE: [Need; 3] = [
     Need {
         action: Action::Edit,
@@ -121,7 +121,7 @@ pub(crate) static CLEAR_INSTANCE: [Need; 3] = [
     Need {
         action: Action::Read,
         kind: ResourceKind::DagRuns,
-        at_dag: false,
+        at_dag: true,
     },
     Need {
         action: Action::Edit,
@@ -130,7 +130,8 @@ pub(crate) static CLEAR_INSTANCE: [Need; 3] = [
     },
 ];
 
-/// `can_read` on `DAGs`, or on at least one DAG that is there, and on `DAG Runs`.
+/// `can_read` on `DAGs`, or on at least one DAG that is there; and on `DAG Runs`, or on the runs of at least one DAG that is there and is
+/// read.
 pub(crate) static READ_SOME_RUN: [Need; 2] = [
     Need {
         action: Action::Read,

@@ -23,7 +23,7 @@ ghost use Rattle.af_ops.specs.Methods.{method_of};
 ghost use Rattle.af_ops.specs.Replies.{dag_data, fault_data, instance_data, run_data, task_data, version_data};
 ghost use Rattle.af_ops.specs.Served.{answer_of, fault_told, left_by};
 ghost use Rattle.af_ops.specs.Statuses.{code_of, is_fault_status};
-ghost use Rattle.af_ops.specs.Table.{at_dag, at_some_dag, endpoint_at, methods_at, on_all, segments_of, spelled};
+ghost use Rattle.af_ops.specs.Table.{at_dag, at_runs, at_some_dag, endpoint_at, methods_at, on_all, segments_of, spelled};
 ghost use Rattle.af_ops.specs.Standings.{history_limit};
 ghost use Rattle.af_ops.specs.Verdicts.{Open, Stranger, Lacks, Refuses, judged, verdict};
 ghost use Rattle.af_ops.specs.Worked.{asks, at_entries, at_work, changes, dag, ended, ended_later, first_page, first_told, full_later, is_told, is_told_then, later, no_numbers, opening, policy, second, second_told, state_with, tells, trigger, waited_told, waiting_told, with_ended};
@@ -117,6 +117,19 @@ pub fn faults_by_the_rule()
     ensures first_fault { is_fault_status status.BadRequest ≡ true }
 {}
 
+/// Who may read all DAGs, and the runs of one: of all runs, those of that one are listed and counted. To read the runs of another DAG, or to
+/// edit those of that one, a requirement is lacked, whether the run is there or not.
+pub fn own_runs_by_the_rule()
+    ensures dags { asks later (codes "sue") (op.ListDags first_page) ≡ asks later (codes "vera") (op.ListDags first_page) }
+    ensures all { asks later (codes "sue") (op.ListRuns None first_page) ≡ tells (compact_text (listing_of (codes "dag_runs") (run_data second ∷ []) 1)) }
+    ensures one { asks later (codes "sue") (op.ListRuns (Some (codes "b")) first_page) ≡ tells (compact_text (listing_of (codes "dag_runs") (run_data second ∷ []) 1)) }
+    ensures other { asks later (codes "sue") (op.ListRuns (Some (codes "a")) first_page) ≡ Lacks (at_runs Read) }
+    ensures other_run { asks later (codes "sue") (op.GetRun (codes "a") (codes "nosuch")) ≡ Lacks (at_runs Read) }
+    ensures not_triggered { asks later (codes "sue") (op.TriggerRun (codes "a") (Err BadBody)) ≡ Lacks (at_dag Edit) }
+    ensures not_marked { asks later (codes "sue") (op.MarkRun (codes "b") (codes "r2") (Err BadBody)) ≡ Lacks (at_runs Edit) }
+    ensures may_trigger { asks later (codes "sue") (op.TriggerRun (codes "b") (Err BadBody)) ≡ Refuses fault.BadBody }
+{}
+
 /// Who asks for runs: who may read one DAG and runs is told the runs of that one alone, of all too.
 pub fn runs_by_the_rule()
     ensures all { asks later (codes "ron") (op.ListRuns None first_page) ≡ tells (compact_text (listing_of (codes "dag_runs") (run_data second ∷ []) 1)) }
@@ -199,7 +212,7 @@ pub fn instances_by_the_rule()
     ensures listed { asks at_work (codes "vera") (op.ListInstances (codes "f") (codes "r") first_page) ≡ tells (compact_text (listing_of (codes "task_instances") (instance_data first_told ∷ instance_data second_told ∷ []) 2)) }
     ensures shown { asks at_work (codes "vera") (op.GetInstance (codes "f") (codes "r") (codes "t")) ≡ tells (compact_text (instance_data second_told)) }
     ensures no_instances { asks later (codes "ron") (op.ListInstances (codes "b") (codes "r2") first_page) ≡ Lacks (on_all Read TaskInstances) }
-    ensures no_runs { asks later (codes "bob") (op.GetInstance (codes "b") (codes "r2") (codes "t")) ≡ Lacks (on_all Read DagRuns) }
+    ensures no_runs { asks later (codes "bob") (op.GetInstance (codes "b") (codes "r2") (codes "t")) ≡ Lacks (at_runs Read) }
     ensures hidden { asks later (codes "ron") (op.GetInstance (codes "nosuch") (codes "r2") (codes "t")) ≡ Lacks (at_dag Read) }
     ensures no_dag { asks at_work (codes "vera") (op.GetInstance (codes "b") (codes "r2") (codes "x")) ≡ Refuses fault.NoSuchDag }
     ensures no_run { asks at_work (codes "vera") (op.GetInstance (codes "f") (codes "r2") (codes "x")) ≡ Refuses fault.NoSuchRun }

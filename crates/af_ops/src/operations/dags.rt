@@ -27,7 +27,7 @@ pub(crate) fn listed_dags<R: Reader>(
     asked: &Result<Window, Parameter>,
     reader: &R,
 ) -> Result<Prepared, OpFault>
-    ensures told { MemoryLast OutOfMemory (listed_dags (R.reads reader.now) state.now.rows asked.now) (seen (done_on state.now.rows) result) }
+    ensures told { MemoryLast OutOfMemory (listed_dags (R.reads reader.now).dags state.now.rows asked.now) (seen (done_on state.now.rows) result) }
     ensures room { IfOk result (λ prepared. CanDo state.now prepared.edit) }
     ensures exact { IfOk result (λ prepared. IsExact state.now.rows prepared.edit) }
 {
@@ -43,7 +43,7 @@ fn dags_text<R: Reader>(
     reader: &R,
     window: Window,
 ) -> Result<Vec<u8>, AllocError>
-    ensures { IfOk result (λ body. body.items ≡ compact_text (dags_data (R.reads reader.now) window dags.now)) }
+    ensures { IfOk result (λ body. body.items ≡ compact_text (dags_data (R.reads reader.now).dags window dags.now)) }
 {
     if reader.reads_all() {
         return page_text(alloc, "dags", dags, window);
@@ -58,7 +58,7 @@ fn chosen_text<R: Reader>(
     reader: &R,
     window: Window,
 ) -> Result<Vec<u8>, AllocError>
-    ensures { IfOk result (λ body. body.items ≡ compact_text (dags_data (R.reads reader.now) window dags.now)) }
+    ensures { IfOk result (λ body. body.items ≡ compact_text (dags_data (R.reads reader.now).dags window dags.now)) }
 {
     let listed = rows_read(alloc, dags, reader)?;
     let shown = cut(listed.as_slice(), window);

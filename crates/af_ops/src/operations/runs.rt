@@ -3,6 +3,7 @@ ghost use Rattle.std.specs.Prelude.{◌≡◌, IfOk, map};
 ghost use Rattle.std.specs.Option.{option_copied};
 ghost use Rattle.serde_json.specs.Written.{compact_text};
 ghost use Rattle.af_base.specs.Readings.{seen};
+ghost use Rattle.af_policy.specs.Grants.{shows_runs};
 ghost use Rattle.af_listing.specs.Pages.{cut};
 ghost use Rattle.af_runs.specs.Runs.{runs_of};
 ghost use Rattle.af_ops.specs.declared.answer.OpFault.TheVariants.{OutOfMemory};
@@ -29,7 +30,7 @@ pub(crate) fn listed_runs<R: Reader>(
     asked: &Result<Window, Parameter>,
     reader: &R,
 ) -> Result<Prepared, OpFault>
-    ensures told { MemoryLast OutOfMemory (listed_runs (R.reads reader.now) state.now.rows (option_copied dag.entry) asked.now) (seen (done_on state.now.rows) result) }
+    ensures told { MemoryLast OutOfMemory (listed_runs (shows_runs (R.reads reader.now)) state.now.rows (option_copied dag.entry) asked.now) (seen (done_on state.now.rows) result) }
     ensures room { IfOk result (λ prepared. CanDo state.now prepared.edit) }
     ensures exact { IfOk result (λ prepared. IsExact state.now.rows prepared.edit) }
 {
@@ -39,14 +40,14 @@ pub(crate) fn listed_runs<R: Reader>(
     }
 }
 
-/// The runs of all DAGs that are read.
+/// The runs of all DAGs whose runs are shown.
 fn all_runs<R: Reader>(
     alloc: Global,
     state: &State,
     asked: &Result<Window, Parameter>,
     reader: &R,
 ) -> Result<Prepared, OpFault>
-    ensures told { MemoryLast OutOfMemory (all_runs (R.reads reader.now) state.now.rows asked.now) (seen (done_on state.now.rows) result) }
+    ensures told { MemoryLast OutOfMemory (all_runs (shows_runs (R.reads reader.now)) state.now.rows asked.now) (seen (done_on state.now.rows) result) }
     ensures room { IfOk result (λ prepared. CanDo state.now prepared.edit) }
     ensures exact { IfOk result (λ prepared. IsExact state.now.rows prepared.edit) }
 {
@@ -72,16 +73,16 @@ fn runs_of_dag(
     Ok(Prepared::of(body, Edit::Nothing))
 }
 
-/// The text of a page of the runs that are read. Where all are, those of the page alone are looked at.
+/// The text of a page of the runs that are shown. Where all are, those of the page alone are looked at.
 fn all_runs_text<R: Reader>(
     alloc: Global,
     runs: &[Run],
     reader: &R,
     window: Window,
 ) -> Result<Vec<u8>, AllocError>
-    ensures { IfOk result (λ body. body.items ≡ compact_text (runs_data window (read_rows (R.reads reader.now) (λ run. run.dag_id) runs.now))) }
+    ensures { IfOk result (λ body. body.items ≡ compact_text (runs_data window (read_rows (shows_runs (R.reads reader.now)) (λ run. run.dag_id) runs.now))) }
 {
-    if reader.reads_all() {
+    if reader.reads_all() && reader.reads_all_runs() {
         return page_text(alloc, "dag_runs", runs, window);
     }
     let listed = runs_read(alloc, runs, reader)?;
@@ -97,17 +98,24 @@ fn runs_text(alloc: Global, runs: &[&Run], window: Window) -> Result<Vec<u8>, Al
     Ok(body)
 }
 
-/// The runs whose DAG is read, borrowed, in their order. `AllocError` only where a growth was refused.
+/// The runs that are shown, borrowed, in their order. `AllocError` only where a growth was refused.
 fn runs_read<'a, R: Reader>(
     alloc: Global,
     runs: &'a [Run],
     reader: &R,
 ) -> Result<Vec<&'a Run>, AllocError>
-    ensures { IfOk result (λ listed. map (λ run. run.now) listed.items ≡ read_rows (R.reads reader.now) (λ run. run.dag_id) runs.now) }
+    ensures { IfOk result (λ listed. map (λ run. run.now) listed.items ≡ read_rows (shows_runs (R.reads reader.now)) (λ run. run.dag_id) runs.now) }
 {
     runs.iter()
-        .filter(|run| reader.readable(&(*run).dag_id))
+        .filter(|run| shows_runs(reader, &(*run).dag_id))
         .collect(alloc)
+}
+
+/// Whether a reader is shown the runs of a DAG: who reads the DAG and its runs.
+fn shows_runs<R: Reader>(reader: &R, dag: &DagId) -> bool
+    ensures { result ≡ shows_runs (R.reads reader.now) dag.now }
+{
+    reader.readable(dag) && reader.runs_readable(dag)
 }
 
 /// The text of a page of the runs of a DAG. The runs of other DAGs are not looked at.

@@ -115,7 +115,7 @@ pub(crate) fn rows_read<'a, T: NamesDag, R: Reader>(
     rows: &'a [T],
     reader: &R,
 ) -> Result<Vec<&'a T>, AllocError>
-    ensures { IfOk result (λ listed. map (λ row. row.now) listed.items ≡ read_rows (R.reads reader.now) T.dag rows.now) }
+    ensures { IfOk result (λ listed. map (λ row. row.now) listed.items ≡ read_rows (R.reads reader.now).dags T.dag rows.now) }
 {
     rows.iter()
         .filter(|row| reader.readable((*row).dag_id()))

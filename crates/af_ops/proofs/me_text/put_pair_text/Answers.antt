@@ -1,4 +1,4 @@
-use Rattle.std.proofs.Common.{◌≡◌, ◌++◌, ◌∙◌, [], ◌∷◌, List, ℕ, OnOk, ap, codes, subst, sym}
+use Rattle.std.proofs.Common.{◌≡◌, ◌++◌, ◌∙◌, [], ◌∷◌, List, ℕ, OnOk, ap, subst, sym}
 use Rattle.serde_json.specs.Data.{string}
 use Rattle.serde_json.specs.Written.{compact_text}
 use Rattle.af_role.specs.Pairs.{pair_text}
@@ -17,7 +17,7 @@ returns-in-Kind-clause-text c =
 pub returns-in-Dag-clause-text : goal.returns-in-Dag-clause-text
 returns-in-Dag-clause-text c =
     let action = c.args.pair.now.action in
-    let spelled : (34 ∷ codes "DAG:") ++ (c.as_str.result.now ++ c.action_end-action.result.now) ≡ compact_text (string (pair_text c.args.pair.now)) =
-    rw (c.as_str.ensures.text, c.action_end-action.ensures.text, c.action.ensures.value) (dag_spelled c.in-Dag.dag_id action c.as_str.ensures.bytes)
+    let spelled : c.dag_front.result.now ++ (c.as_str.result.now ++ c.action_end-action.result.now) ≡ compact_text (string (pair_text c.args.pair.now)) =
+    rw (c.dag_front.ensures.text, c.as_str.ensures.text, c.action_end-action.ensures.text, c.action.ensures.value) (dag_spelled c.in-Dag.part c.in-Dag.dag_id action c.as_str.ensures.bytes)
     ∙ ap (λ (resource : Resource). compact_text (string (pair_text (record { action = action; resource = resource })))) (sym c.in-Dag.is ∙ c.resource.ensures.value) in
     subst (λ (text : List ℕ). OnOk c.put_pieces-in-Dag.result (c.put_pieces-in-Dag.new.out.items ≡ c.args.out.now.items ++ text)) spelled c.put_pieces-in-Dag.ensures.text

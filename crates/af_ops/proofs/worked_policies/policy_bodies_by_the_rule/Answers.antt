@@ -55,3 +55,35 @@ returns-clause-misnamed c = refl
 pub returns-clause-absent : goal.returns-clause-absent
 unfolding serde_json_on_literals is_utf8 chars
 returns-clause-absent c = refl
+
+pub returns-clause-runs : goal.returns-clause-runs
+unfolding serde_json_on_literals is_utf8 chars
+returns-clause-runs c = refl
+
+pub returns-clause-runs_alone : goal.returns-clause-runs_alone
+unfolding serde_json_on_literals is_utf8 chars
+returns-clause-runs_alone c = refl
+
+pub returns-clause-null_list : goal.returns-clause-null_list
+unfolding serde_json_on_literals is_utf8 chars
+returns-clause-null_list c = refl
+
+pub returns-clause-no_list : goal.returns-clause-no_list
+unfolding serde_json_on_literals is_utf8 chars
+returns-clause-no_list c = refl
+
+pub returns-clause-last_list : goal.returns-clause-last_list
+unfolding serde_json_on_literals is_utf8 chars
+returns-clause-last_list c = refl
+
+pub returns-clause-wrong_list : goal.returns-clause-wrong_list
+unfolding serde_json_on_literals is_utf8 chars
+returns-clause-wrong_list c = refl
+
+pub returns-clause-other_list : goal.returns-clause-other_list
+unfolding serde_json_on_literals is_utf8 chars
+returns-clause-other_list c = refl
+
+pub returns-clause-other_null : goal.returns-clause-other_null
+unfolding serde_json_on_literals is_utf8 chars
+returns-clause-other_null c = refl

@@ -1,7 +1,7 @@
 use Rattle.std.proofs.Common.{arith}
 use Rattle.af_base.proofs.TakingLemmas.{item_taken, items_taken}
 use Rattle.af_ops.specs.AccessTexts.{text_taken}
-use Rattle.af_ops.proofs.access_texts.read_items.Goals as goal
+use Rattle.af_ops.proofs.access_value.read_items.Goals as goal
 
 pub loop-item-preserved : goal.loop-item-preserved
 loop-item-preserved g c =

@@ -2,7 +2,7 @@ use Rattle.std.proofs.Common.{◌≡◌, drop, map}
 use Rattle.af_base.specs.JsonValue.{view}
 use Rattle.af_base.specs.Readings.{first_fault}
 use Rattle.af_ops.specs.AccessTexts.{is_text}
-use Rattle.af_ops.proofs.access_texts.test_items.Given as goal
+use Rattle.af_ops.proofs.access_value.test_items.Given as goal
 
 -- the items that are left decide the whole
 abbrev pub invariant-loop-item : goal.invariant-loop-item
