@@ -3,7 +3,7 @@ use Rattle.std.proofs.Common.{◌≡◌, ◌∙◌, refl, sym, ap, subst, ℕ, L
 use Rattle.std.specs.Prelude.{Option, Some, None, Result, Ok, Err, unwrap_or, nat_lt, if◌then◌else◌}
 use Rattle.af_role.specs.Pairs.{PairRow}
 use Rattle.af_role.specs.declared.need.Need.{Need}
-use Rattle.af_policy.specs.Grants.{reads_dag}
+use Rattle.af_policy.specs.Grants.{readable_by}
 use Rattle.af_sched.specs.State.{StateRows}
 use Rattle.af_ops.specs.declared.answer.OpFault.{OpFault}
 use Rattle.af_ops.specs.declared.answer.OpFault.TheVariants.{HistoryFull}
@@ -14,7 +14,7 @@ use Rattle.af_ops.specs.Decisions.{prepared_verdict, verdict_by}
 use Rattle.af_ops.specs.declared.edit.Edit.{Edit}
 use Rattle.af_ops.specs.declared.edit.Edit.TheVariants as edit
 use Rattle.af_ops.specs.Edits.{edited, is_edit, next_by}
-use Rattle.af_ops.specs.Effects.{Effect, effect_of}
+use Rattle.af_ops.specs.Effects.{Effect, effect_of, nothing_readable}
 use Rattle.af_ops.specs.Prepared.{Preparation}
 use Rattle.af_ops.specs.Served.{IsServed, reply_told}
 use Rattle.af_ops.specs.Standings.{StandingRows, with_entry}
@@ -49,9 +49,9 @@ done_next limit under (Err why) reply next is = cc
 pub change_is_after : (limit : ℕ) (granted : PairRow → Bool) (standing : StandingRows) (asked : Op) (t : ℕ) (lacked : Option Need) (reply : Option (List ℕ)) (next : StateRows) → permitted limit granted standing asked t lacked ≡ Changes reply next → next ≡ after_op asked t standing.state
 change_is_after limit granted standing asked t (Some need) reply next is = cc
 change_is_after limit granted standing asked t None reply next is =
-    let some : next_of (effect_of (λ dag. false) standing.state asked t) ≡ Some next =
-    no_change_depends (λ dag. false) (reads_dag granted) standing.state asked t
-    ∙ done_next limit standing.under (effect_of (reads_dag granted) standing.state asked t) reply next is in
+    let some : next_of (effect_of nothing_readable standing.state asked t) ≡ Some next =
+    no_change_depends nothing_readable (readable_by granted) standing.state asked t
+    ∙ done_next limit standing.under (effect_of (readable_by granted) standing.state asked t) reply next is in
     sym (ap (λ (made : Option StateRows). unwrap_or made standing.state) some)
 
 -- ---- what is served of what was worked out

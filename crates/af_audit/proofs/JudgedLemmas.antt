@@ -17,7 +17,7 @@ use Rattle.af_ops.specs.declared.served.Served.TheVariants as served
 use Rattle.af_ops.specs.declared.served.Served.TheVariants.{Shown}
 use Rattle.af_ops.specs.Decisions.{IsDecided, IsDoing, fault_verdict}
 use Rattle.af_ops.specs.Edits.{edited, is_edit}
-use Rattle.af_ops.specs.Effects.{effect_of}
+use Rattle.af_ops.specs.Effects.{effect_of, nothing_readable}
 use Rattle.af_ops.specs.Endpoints.{dag_of, endpoint_of}
 use Rattle.af_ops.specs.Prepared.{IsExact, Preparation}
 use Rattle.af_ops.specs.Required.{needs_for}
@@ -52,7 +52,7 @@ served_fault asked it old fault gave (inr wants) was =
 -- the verdict on what is not open
 pub closed_is : (policy : PolicyRows) (old : LedgerRows) (token : Option (List ℕ)) (asked : Op) (t : ℕ) → is_open (endpoint_of asked) ≡ false → closed_verdict policy old token asked t ≡ verdict_on policy old token asked t
 closed_is policy old token asked t closed =
-    sym (ap (λ (b : Bool). if b then opened (effect_of (λ dag. false) old.state asked t) else judged old.audit.limit policy (standing_of old) asked t (bearer_of policy token)) closed)
+    sym (ap (λ (b : Bool). if b then opened (effect_of nothing_readable old.state asked t) else judged old.audit.limit policy (standing_of old) asked t (bearer_of policy token)) closed)
 
 -- ---- where a ledger stands
 

@@ -9,7 +9,7 @@ use Rattle.af_sched.specs.Tick.{IsTick}
 use Rattle.af_sched.specs.declared.claim.Claim.{Claim}
 use Rattle.af_ops.specs.declared.answer.OpFault.{OpFault}
 use Rattle.af_ops.specs.declared.op.Op.{Op}
-use Rattle.af_ops.specs.Effects.{Effect, effect_of}
+use Rattle.af_ops.specs.Effects.{Effect, effect_of, nothing_readable}
 use Rattle.af_audit.specs.declared.act.Act.{Act}
 use Rattle.af_audit.specs.declared.act.Act.TheVariants as act
 use Rattle.af_audit.specs.declared.actor.Actor.{Actor}
@@ -22,7 +22,7 @@ next_of (Err why) = None
 
 -- the state after an operation at a moment: one that is refused leaves it; no change depends on who reads
 abbrev pub after_op : Op → ℕ → StateRows → StateRows
-after_op asked t state = unwrap_or (next_of (effect_of (λ dag. false) state asked t)) state
+after_op asked t state = unwrap_or (next_of (effect_of nothing_readable state asked t)) state
 
 -- the states before and after an act at a moment; an act that would be refused leaves the state
 abbrev pub IsAfter : Act → ℕ → StateRows → StateRows → Type 0

@@ -4,7 +4,7 @@ use Rattle.serde_json.specs.Written.{compact_text}
 use Rattle.af_listing.specs.Pages.{cut}
 use Rattle.af_listing.specs.Windows.{Cut}
 use Rattle.af_policy.specs.declared.bad_input.Parameter.{Parameter}
-use Rattle.af_policy.specs.Grants.{reads}
+use Rattle.af_policy.specs.Grants.{Readable, reads}
 use Rattle.af_policy.specs.Identity.{bearer_of}
 use Rattle.af_policy.specs.Rows.{PolicyRows}
 use Rattle.af_runs.specs.declared.run.Run.{Run}
@@ -54,10 +54,10 @@ FrontsMakeTheStateAsItWas =
     (front rest : List Entry) (opening state was : StateRows) → IsState opening → IsReplay opening (front ++ rest) state → IsReplay opening front was
     → IsReplay was rest state
 
--- what an operation changes does not depend on which DAGs the one who asks reads
+-- what an operation changes does not depend on what the one who asks may read
 abbrev pub NoChangeDependsOnTheReader : Type 0
 NoChangeDependsOnTheReader =
-    (reads others : List ℕ → Bool) (state : StateRows) (asked : Op) (t : ℕ) → next_of (effect_of reads state asked t) ≡ next_of (effect_of others state asked t)
+    (readable other : Readable) (state : StateRows) (asked : Op) (t : ℕ) → next_of (effect_of readable state asked t) ≡ next_of (effect_of other state asked t)
 
 -- a request that is no change, since nobody has the token, a requirement is lacked, it is refused, or it only tells, leaves the
 -- ledger: no entry, no other state

@@ -16,12 +16,24 @@ use af_policy::Reader;
 use std::alloc::{AllocError, Global};
 
 impl Listed for Entry {
+    ghost use Rattle.std.specs.Prelude.{false};
     ghost use Rattle.af_audit.specs.Logs.{act_dag};
 
     ghost named = { λ entry. act_dag entry.act };
 
+    ghost of_run = { λ entry. false };
+
     fn dag(&self) -> Option<&DagId> {
         self.act.dag()
+    }
+
+    /// An entry is shown by its DAG alone, whatever the act.
+    fn of_run(&self) -> bool {
+        false
+    }
+
+    fn has_runs() -> bool {
+        false
     }
 }
 
@@ -33,7 +45,7 @@ pub fn entries_page<R: Reader>(
     reader: &R,
     window: Window,
 ) -> Result<Page, AllocError>
-    ensures { IfOk result (λ page. page ≡ page_of (shows (R.reads reader.now) (λ entry. act_dag entry.act)) window entries.now) }
+    ensures { IfOk result (λ page. page ≡ page_of (shows (R.reads reader.now).dags (λ entry. act_dag entry.act)) window entries.now) }
 {
     page(alloc, entries, reader, window)
 }

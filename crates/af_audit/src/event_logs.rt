@@ -22,7 +22,7 @@ pub fn entries_text<R: Reader>(
     reader: &R,
     window: Window,
 ) -> Result<Vec<u8>, AllocError>
-    ensures { IfOk result (λ text. text.items ≡ compact_text (entries_data (R.reads reader.now) window entries.now)) }
+    ensures { IfOk result (λ text. text.items ≡ compact_text (entries_data (R.reads reader.now).dags window entries.now)) }
 {
     pages_tell_shown_rows::<Entry>();
     let page = entries_page(alloc, entries, reader, window)?;

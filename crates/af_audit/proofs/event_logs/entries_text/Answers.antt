@@ -7,7 +7,7 @@ use Rattle.af_audit.proofs.event_logs.entries_text.Goals as goal
 
 pub returns : goal.returns
 returns g c =
-    let reads : List ℕ → Bool = g.R.Reader.reads c.args.reader.now in
+    let reads : List ℕ → Bool = (g.R.Reader.reads c.args.reader.now).dags in
     let shown : List Entry = shown_entries reads c.args.entries.now in
     let told : map (λ entry. entry.now) c.as_slice.result.now ≡ cut c.args.window shown =
     told_rows (shows reads (λ entry. act_dag entry.act)) (c.pages_tell_shown_rows.ensures (shows reads (λ entry. act_dag entry.act))) c.args.window c.args.entries.now c.places.result.now (map (λ entry. entry.now) c.as_slice.result.now)
