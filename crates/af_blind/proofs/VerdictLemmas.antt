@@ -1,11 +1,13 @@
 -- The verdict on each of the seven operations, from the reader's sight alone.
 use Rattle.std.proofs.Common.{◌≡◌, ◌∙◌, refl, sym, ap, ℕ, Bool, true, false, cond, List, [], ◌∷◌}
-use Rattle.std.specs.Prelude.{◌||◌, not, Option, Some, None, Result, Ok, Err, option_map}
+use Rattle.std.specs.Prelude.{◌&&◌, ◌||◌, not, Option, Some, None, Result, Ok, Err, option_map}
 use Rattle.std.specs.List.{list_any}
-use Rattle.af_policy.specs.Grants.{first_unmet, grants, reads_dag}
+use Rattle.std.proofs.lemmas.Bool.{and_parts}
+use Rattle.af_policy.specs.Grants.{first_unmet, grants, meets_by, readable_by, reads_dag, reads_runs_of, shows_runs}
 use Rattle.af_policy.specs.Identity.{bearer_of}
 use Rattle.af_policy.specs.Rows.{PolicyRows}
-use Rattle.af_role.specs.Pairs.{PairRow, on_dag, on_kind}
+use Rattle.af_role.specs.Pairs.{PairRow, on_dag, on_kind, on_runs}
+use Rattle.af_role.specs.declared.dag_part.DagPart.TheVariants.{Runs}
 use Rattle.af_role.specs.declared.action.Action.TheVariants.{Read}
 use Rattle.af_role.specs.declared.need.Need.{Need}
 use Rattle.af_role.specs.declared.resource.ResourceKind.TheVariants.{DagRuns, Dags, TaskInstances}
@@ -24,7 +26,7 @@ use Rattle.af_ops.specs.Required.{needs_for}
 use Rattle.af_ops.specs.Rows.{Problem}
 use Rattle.af_ops.specs.Served.{answer_of, problem_told}
 use Rattle.af_ops.specs.Standings.{StandingRows}
-use Rattle.af_ops.specs.Table.{at_dag, at_some_dag, is_open, on_all, route_of}
+use Rattle.af_ops.specs.Table.{at_dag, at_runs, at_some_dag, is_open, on_all, route_of}
 use Rattle.af_ops.specs.Verdicts.{Changes, Lacks, Open, Refuses, Stranger, Tells, Verdict, dag_ids, done, granted_verdict, judged, permitted, verdict}
 use Rattle.af_ops.specs.declared.method.Method.TheVariants.{Get}
 use Rattle.af_ops.proofs.ReadingLemmas.{readings_keep}
@@ -48,69 +50,93 @@ or_right : (a b : Bool) → b ≡ true → (a || b) ≡ true
 or_right true b is = refl
 or_right false b is = is
 
+rest_met : (met : Bool) (need : Need) (rest : Option Need) → cond (not met) (Some need) rest ≡ None → rest ≡ None
+rest_met true need rest none = none
+rest_met false need rest none = absurd (cc)
+
+-- the runs of which DAGs permissions let one see
+abbrev shows : (PairRow → Bool) → List ℕ → Bool
+shows granted = shows_runs (readable_by granted)
+
+-- who lacks neither requirement at a DAG reads the DAG, and sees its runs
+both_met : (granted : PairRow → Bool) (dag_id : List ℕ) (rest : Option Need) → cond (not (reads_dag granted dag_id)) (Some (at_dag Read)) (cond (not (reads_runs_of granted dag_id)) (Some (at_runs Read)) rest) ≡ None
+    → (reads_dag granted dag_id ≡ true) × (shows granted dag_id ≡ true)
+both_met granted dag_id rest none =
+    let here = first_met (reads_dag granted dag_id) (at_dag Read) (cond (not (reads_runs_of granted dag_id)) (Some (at_runs Read)) rest) none in
+    let runs = first_met (reads_runs_of granted dag_id) (at_runs Read) rest (rest_met (reads_dag granted dag_id) (at_dag Read) (cond (not (reads_runs_of granted dag_id)) (Some (at_runs Read)) rest) none) in (
+      here,
+      (λ i. here i && runs i),
+    )
+
 module _ (granted : PairRow → Bool) (state : StateRows) where
   -- some DAG may be read exactly if some DAG of the sight may be
-  some_read : list_any (λ dag. granted (on_dag Read dag)) (dag_ids state) ≡ list_any (λ dag. granted (on_dag Read dag)) (dag_ids (sight (reads_dag granted) (reads_dag granted) state))
+  some_read : list_any (λ dag. granted (on_dag Read dag)) (dag_ids state) ≡ list_any (λ dag. granted (on_dag Read dag)) (dag_ids (sight (reads_dag granted) (shows granted) state))
   some_read =
       any_kept (λ (dag : List ℕ). granted (on_dag Read dag)) (λ (row : DagRow). row.dag.dag_id) (λ (row : DagRow). reads_dag granted row.dag.dag_id)
       (λ row is. or_right (granted (on_kind Read Dags)) (granted (on_dag Read row.dag.dag_id)) is) state.dags
+
+  -- and so with the runs of a DAG that is read
+  some_runs_read : list_any (meets_by granted Runs Read) (dag_ids state) ≡ list_any (meets_by granted Runs Read) (dag_ids (sight (reads_dag granted) (shows granted) state))
+  some_runs_read =
+      any_kept (meets_by granted Runs Read) (λ (row : DagRow). row.dag.dag_id) (λ (row : DagRow). reads_dag granted row.dag.dag_id)
+      (λ row is. (and_parts (reads_dag granted row.dag.dag_id) (granted (on_runs Read row.dag.dag_id)) is).0) state.dags
 
   -- each of the seven requires a token, lacks on a state the requirement that it lacks on the sight, is asked for by GET, and if it is
   -- permitted does on the state what it does on the sight
   pub record FromSight (asked : Op) (now : ℕ) : Type 0 where
     pub closed : is_open (endpoint_of asked) ≡ false
-    pub unmet : first_unmet granted (dag_of asked) (dag_ids state) (needs_for asked) ≡ first_unmet granted (dag_of asked) (dag_ids (sight (reads_dag granted) (reads_dag granted) state)) (needs_for asked)
+    pub unmet : first_unmet granted (dag_of asked) (dag_ids state) (needs_for asked) ≡ first_unmet granted (dag_of asked) (dag_ids (sight (reads_dag granted) (shows granted) state)) (needs_for asked)
     pub get : (route_of (endpoint_of asked)).method ≡ Get
-    pub same : first_unmet granted (dag_of asked) (dag_ids state) (needs_for asked) ≡ None → effect_of (reads_dag granted) state asked now ≡ effect_of (reads_dag granted) (sight (reads_dag granted) (reads_dag granted) state) asked now
+    pub same : first_unmet granted (dag_of asked) (dag_ids state) (needs_for asked) ≡ None → effect_of (readable_by granted) state asked now ≡ effect_of (readable_by granted) (sight (reads_dag granted) (shows granted) state) asked now
 
   pub from_sight : (asked : Op) (now : ℕ) → reads_dags asked ≡ true → FromSight asked now
   from_sight (op.ListDags asked) now is = record {
     closed = refl;
     unmet = ap (λ (some : Bool). cond (not (granted (on_kind Read Dags) || some)) (Some (at_some_dag Read)) None) some_read;
     get = refl;
-    same = λ none. listed (reads_dag granted) (reads_dag granted) state asked;
+    same = λ none. listed (reads_dag granted) (shows granted) state asked;
   }
   from_sight (op.GetDag dag_id) now is = record {
     closed = refl;
     unmet = refl;
     get = refl;
-    same = λ none. got (reads_dag granted) (reads_dag granted) state dag_id (first_met (reads_dag granted dag_id) (at_dag Read) None none);
+    same = λ none. got (reads_dag granted) (shows granted) state dag_id (first_met (reads_dag granted dag_id) (at_dag Read) None none);
   }
   from_sight (op.ListTasks dag_id) now is = record {
     closed = refl;
     unmet = refl;
     get = refl;
-    same = λ none. tasks_listed (reads_dag granted) (reads_dag granted) state dag_id (first_met (reads_dag granted dag_id) (at_dag Read) (first_unmet granted (Some dag_id) [] (on_all Read TaskInstances ∷ [])) none);
+    same = λ none. tasks_listed (reads_dag granted) (shows granted) state dag_id (first_met (reads_dag granted dag_id) (at_dag Read) (first_unmet granted (Some dag_id) [] (on_all Read TaskInstances ∷ [])) none);
   }
   from_sight (op.ListRuns None asked) now is = record {
     closed = refl;
-    unmet = ap (λ (some : Bool). cond (not (granted (on_kind Read Dags) || some)) (Some (at_some_dag Read)) (first_unmet granted None [] (on_all Read DagRuns ∷ []))) some_read;
+    unmet = λ i. cond (not (granted (on_kind Read Dags) || some_read i)) (Some (at_some_dag Read)) (cond (not (granted (on_kind Read DagRuns) || some_runs_read i)) (Some (on_all Read DagRuns)) None);
     get = refl;
-    same = λ none. all_listed (reads_dag granted) (reads_dag granted) state asked;
+    same = λ none. all_listed (reads_dag granted) (shows granted) state asked;
   }
   from_sight (op.ListRuns (Some dag_id) asked) now is = record {
     closed = refl;
     unmet = refl;
     get = refl;
-    same = λ none. let here = first_met (reads_dag granted dag_id) (at_dag Read) (first_unmet granted (Some dag_id) [] (on_all Read DagRuns ∷ [])) none in runs_listed (reads_dag granted) (reads_dag granted) state dag_id here here asked;
+    same = λ none. let both = both_met granted dag_id None none in runs_listed (reads_dag granted) (shows granted) state dag_id both.0 both.1 asked;
   }
   from_sight (op.GetRun dag_id run_id) now is = record {
     closed = refl;
     unmet = refl;
     get = refl;
-    same = λ none. let here = first_met (reads_dag granted dag_id) (at_dag Read) (first_unmet granted (Some dag_id) [] (on_all Read DagRuns ∷ [])) none in run_got (reads_dag granted) (reads_dag granted) state dag_id here here run_id;
+    same = λ none. let both = both_met granted dag_id None none in run_got (reads_dag granted) (shows granted) state dag_id both.0 both.1 run_id;
   }
   from_sight (op.ListInstances dag_id run_id asked) now is = record {
     closed = refl;
     unmet = refl;
     get = refl;
-    same = λ none. let here = first_met (reads_dag granted dag_id) (at_dag Read) (first_unmet granted (Some dag_id) [] (on_all Read DagRuns ∷ on_all Read TaskInstances ∷ [])) none in instances_listed (reads_dag granted) (reads_dag granted) state dag_id here here run_id asked;
+    same = λ none. let both = both_met granted dag_id (first_unmet granted (Some dag_id) [] (on_all Read TaskInstances ∷ [])) none in instances_listed (reads_dag granted) (shows granted) state dag_id both.0 both.1 run_id asked;
   }
   from_sight (op.GetInstance dag_id run_id task_id) now is = record {
     closed = refl;
     unmet = refl;
     get = refl;
-    same = λ none. let here = first_met (reads_dag granted dag_id) (at_dag Read) (first_unmet granted (Some dag_id) [] (on_all Read DagRuns ∷ on_all Read TaskInstances ∷ [])) none in instance_got (reads_dag granted) (reads_dag granted) state dag_id here here run_id task_id;
+    same = λ none. let both = both_met granted dag_id (first_unmet granted (Some dag_id) [] (on_all Read TaskInstances ∷ [])) none in instance_got (reads_dag granted) (shows granted) state dag_id both.0 both.1 run_id task_id;
   }
   from_sight op.Version now is = absurd (cc)
   from_sight (op.PauseDag dag_id input) now is = absurd (cc)
@@ -132,23 +158,23 @@ closed_of asked state is = (from_sight (λ pair. false) state asked 0 is).closed
 module _ (granted : PairRow → Bool) (asked : Op) (now : ℕ) (is : reads_dags asked ≡ true) where
   -- the reader's sight, under version 0 and with no entries
   abbrev sight_of : StateRows → StandingRows
-  sight_of state = record { under = record { version = 0; seq = 0 }; state = sight (reads_dag granted) (reads_dag granted) state }
+  sight_of state = record { under = record { version = 0; seq = 0 }; state = sight (reads_dag granted) (shows granted) state }
 
   -- the verdict is that on the sight, whatever the number of entries
   to_sight : (limit : ℕ) (standing : StandingRows) → granted_verdict limit granted standing asked now ≡ granted_verdict 0 granted (sight_of standing.state) asked now
   to_sight limit standing =
       let it = from_sight granted standing.state asked now is in
-      by (first_unmet granted (dag_of asked) (dag_ids standing.state) (needs_for asked)) (λ effect. readings_keep (reads_dag granted) standing.state asked now effect it.get) it.same
+      by (first_unmet granted (dag_of asked) (dag_ids standing.state) (needs_for asked)) (λ effect. readings_keep (readable_by granted) standing.state asked now effect it.get) it.same
       ∙ ap (permitted 0 granted (sight_of standing.state) asked now) it.unmet
     where
-      by : (missing : Option Need) → ((effect : Effect) → effect_of (reads_dag granted) standing.state asked now ≡ Ok effect → effect.next ≡ None) → (missing ≡ None → effect_of (reads_dag granted) standing.state asked now ≡ effect_of (reads_dag granted) (sight_of standing.state).state asked now) → permitted limit granted standing asked now missing ≡ permitted 0 granted (sight_of standing.state) asked now missing
+      by : (missing : Option Need) → ((effect : Effect) → effect_of (readable_by granted) standing.state asked now ≡ Ok effect → effect.next ≡ None) → (missing ≡ None → effect_of (readable_by granted) standing.state asked now ≡ effect_of (readable_by granted) (sight_of standing.state).state asked now) → permitted limit granted standing asked now missing ≡ permitted 0 granted (sight_of standing.state) asked now missing
       by (Some need) keeps same = refl
-      by None keeps same = done_alike limit 0 standing.under (sight_of standing.state).under (effect_of (reads_dag granted) standing.state asked now) keeps ∙ ap (done 0 (sight_of standing.state).under) (same refl)
+      by None keeps same = done_alike limit 0 standing.under (sight_of standing.state).under (effect_of (readable_by granted) standing.state asked now) keeps ∙ ap (done 0 (sight_of standing.state).under) (same refl)
 
-  pub granted_alike : (limit another : ℕ) (standing other : StandingRows) → Alike (reads_dag granted) (reads_dag granted) standing.state other.state → granted_verdict limit granted standing asked now ≡ granted_verdict another granted other asked now
+  pub granted_alike : (limit another : ℕ) (standing other : StandingRows) → Alike (reads_dag granted) (shows granted) standing.state other.state → granted_verdict limit granted standing asked now ≡ granted_verdict another granted other asked now
   granted_alike limit another standing other alike =
       to_sight limit standing
-      ∙ ap (λ (state : StateRows). granted_verdict 0 granted (record { under = record { version = 0; seq = 0 }; state = state }) asked now) (one_sight (reads_dag granted) (reads_dag granted) standing.state other.state alike)
+      ∙ ap (λ (state : StateRows). granted_verdict 0 granted (record { under = record { version = 0; seq = 0 }; state = state }) asked now) (one_sight (reads_dag granted) (shows granted) standing.state other.state alike)
       ∙ sym (to_sight another other)
 
 -- of whoever the token's user is, or nobody

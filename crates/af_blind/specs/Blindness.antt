@@ -1,8 +1,10 @@
--- What a user's answers can show of DAGs that the user may not read: nothing (Airflow 2, "Access Control": a user sees the DAGs that
--- the user's roles let the user read). Two states are alike for a user if the user can't tell them apart; each operation that reads
--- DAGs, tasks, runs or instances has the same status and body on both.
+-- What the answers to the seven operations that read can show of DAGs that the user may not read, and of runs that the user may not read:
+-- nothing (Airflow 2, "Access
+-- Control": a user sees the DAGs that the user's roles let the user read; that runs may be hidden where their DAG is not is this product's
+-- own rule). Two states are alike for a user if the user can't tell them apart; each operation that reads DAGs, tasks, runs or instances
+-- has the same status and body on both.
 use Rattle.std.specs.Prelude.{◌≡◌, ℕ, List, map, Bool, true, false, Option, Some, option_map, filter, not}
-use Rattle.af_policy.specs.Grants.{reads}
+use Rattle.af_policy.specs.Grants.{readable, reads, shows_runs}
 use Rattle.af_policy.specs.Identity.{bearer_of}
 use Rattle.af_policy.specs.Rows.{PolicyRows}
 use Rattle.af_runs.specs.declared.run.Run.{Run}
@@ -30,19 +32,19 @@ unnumbered run = record run { number = 0 }
 abbrev pub dags_read : (List ℕ → Bool) → StateRows → List DagRow
 dags_read reads state = read_rows reads (λ row. row.dag.dag_id) state.dags
 
--- the runs of the DAGs whose runs may be read, in their order, each with its instances and without its number
+-- the runs of the DAGs whose runs are shown, in their order, each with its instances and without its number
 abbrev pub runs_read : (List ℕ → Bool) → StateRows → List Run
 runs_read shows state = map unnumbered (read_rows shows (λ run. run.dag_id) state.runs)
 
--- Of these DAGs, and of the runs of these, both states have the same rows. Other DAGs and other runs, run numbers, pools and variables
--- may differ.
+-- Both states have the same rows of the DAGs that may be read, and the same runs of the DAGs whose runs are shown. Other DAGs and other runs,
+-- run numbers, pools and variables may differ.
 pub record Alike (reads shows : List ℕ → Bool) (state other : StateRows) : Type 0 where
   pub dags : dags_read reads state ≡ dags_read reads other
   pub runs : runs_read shows state ≡ runs_read shows other
 
--- both states are alike for a user, who may read the runs of the DAGs that the user may read
+-- both states are alike for a user, who is shown the runs of a DAG where the user may read the DAG and its runs
 abbrev pub AlikeFor : PolicyRows → List ℕ → StateRows → StateRows → Type 0
-AlikeFor policy user state other = Alike (reads policy user) (reads policy user) state other
+AlikeFor policy user state other = Alike (reads policy user) (shows_runs (readable policy user)) state other
 
 -- ---- answers that are the same
 
@@ -97,6 +99,24 @@ HiddenIsAnsweredAsAbsent =
     → bearer_of policy token ≡ Some user → reads policy user dag_id ≡ false
     → option_map status_and_body (answer_of asked standing.under (verdict limit policy standing token asked now))
     ≡ option_map status_and_body (answer_of asked standing.under (verdict limit policy (record standing { state = without_dag dag_id standing.state }) token asked now))
+
+-- the state without the runs of a DAG, which is still there
+abbrev pub without_runs : List ℕ → StateRows → StateRows
+without_runs dag_id state = record state { runs = filter (λ run. not (is_of dag_id run)) state.runs }
+
+-- a state and the same state without the runs of a DAG are alike for a user to whom these runs are not shown: the user may not read them, or
+-- not the DAG
+abbrev pub HiddenRunsMightBeAbsent : Type 0
+HiddenRunsMightBeAbsent =
+    (policy : PolicyRows) (user dag_id : List ℕ) (state : StateRows) → shows_runs (readable policy user) dag_id ≡ false → AlikeFor policy user state (without_runs dag_id state)
+
+-- so a user to whom the runs of a DAG are not shown is answered as if it had none
+abbrev pub HiddenRunsAreAnsweredAsAbsent : Type 0
+HiddenRunsAreAnsweredAsAbsent =
+    (limit : ℕ) (policy : PolicyRows) (standing : StandingRows) (token : Option (List ℕ)) (user dag_id : List ℕ) (asked : Op) (now : ℕ) → reads_dags asked ≡ true
+    → bearer_of policy token ≡ Some user → shows_runs (readable policy user) dag_id ≡ false
+    → option_map status_and_body (answer_of asked standing.under (verdict limit policy standing token asked now))
+    ≡ option_map status_and_body (answer_of asked standing.under (verdict limit policy (record standing { state = without_runs dag_id standing.state }) token asked now))
 
 -- a run under another number
 abbrev pub renumbered : (Run → ℕ) → Run → Run
