@@ -41,14 +41,14 @@ use Rattle.af_ops.specs.PolicyVerdicts.{PolicyVerdict, me_verdict, policy_verdic
 use Rattle.af_ops.specs.PoolEffects.{told}
 use Rattle.af_ops.specs.Replies.{dag_data, instance_data, run_data, variable_data}
 use Rattle.af_ops.specs.Rows.{InstanceTold}
-use Rattle.af_ops.specs.Table.{at_dag, on_all}
+use Rattle.af_ops.specs.Table.{at_dag, at_runs, on_all}
 use Rattle.af_ops.specs.Verdicts.{dag_ids}
 use Rattle.af_world.specs.Moving.{Move, stays}
 use Rattle.af_world.specs.OneRow.{IsOfDag, IsOfInstance, IsOfMe, IsOfPool, IsOfRole, IsOfRun, IsOfUser, IsOfVariable, PolicyRowsShownStand, ReadsAll, RowsShownStand, ShownTo}
 use Rattle.af_world.specs.Publishing.{made}
 use Rattle.af_world.specs.Rules.{ListsFor}
 use Rattle.af_world.specs.Worlds.{World, has_session, last_version}
-use Rattle.af_world.proofs.ListingLemmas.{may_read}
+use Rattle.af_world.proofs.ListingLemmas.{may_read, may_see_runs}
 use Rattle.af_world.proofs.PublishLemmas.{is_latest}
 use Rattle.af_world.proofs.RuleLemmas.{none_lacked}
 use Rattle.af_world.proofs.TextLemmas.{OnlyTells, op_tells}
@@ -56,22 +56,19 @@ use Rattle.af_world.proofs.WorldLemmas.{either}
 
 -- ---- who may read
 
--- a requirement of another kind than DAGs is met by a permission on that kind alone
-reads_kind : (policy : PolicyRows) (user : List ℕ) (dag : Option (List ℕ)) (dags : List (List ℕ)) (kind : ResourceKind) → kind ≢ Dags → ListsFor policy user dag dags (on_all Read kind) → ReadsAll kind policy user
+-- a requirement of another kind than DAGs and their runs is met by a permission on that kind alone
+reads_kind : (policy : PolicyRows) (user : List ℕ) (dag : Option (List ℕ)) (dags : List (List ℕ)) (kind : ResourceKind) → (kind ≢ Dags) × (kind ≢ DagRuns) → ListsFor policy user dag dags (on_all Read kind) → ReadsAll kind policy user
 reads_kind policy user dag dags kind other (inl all) = all
-reads_kind policy user dag dags kind other (inr at) = absurd (other at.0)
+reads_kind policy user dag dags kind other (inr (inl at)) = absurd (other.0 at.0)
+reads_kind policy user dag dags kind other (inr (inr at)) = absurd (other.1 at.0)
 
 module _ (policy : PolicyRows) (user : List ℕ) (dag : Option (List ℕ)) (dags : List (List ℕ)) where
-  pub reads_one : (kind : ResourceKind) → kind ≢ Dags → first_unmet (grants policy user) dag dags (on_all Read kind ∷ []) ≡ None → ReadsAll kind policy user
+  pub reads_one : (kind : ResourceKind) → (kind ≢ Dags) × (kind ≢ DagRuns) → first_unmet (grants policy user) dag dags (on_all Read kind ∷ []) ≡ None → ReadsAll kind policy user
   reads_one kind other lacks =
       reads_kind policy user dag dags kind other (none_lacked policy user dag dags (on_all Read kind ∷ []) lacks).0
 
-  -- the second requirement, and the third
-  reads_second : (need : Need) (kind : ResourceKind) (needs : List Need) → kind ≢ Dags → first_unmet (grants policy user) dag dags (need ∷ on_all Read kind ∷ needs) ≡ None → ReadsAll kind policy user
-  reads_second need kind needs other lacks =
-      reads_kind policy user dag dags kind other (none_lacked policy user dag dags (need ∷ on_all Read kind ∷ needs) lacks).1.0
-
-  reads_third : (need other_need : Need) (kind : ResourceKind) → kind ≢ Dags → first_unmet (grants policy user) dag dags (need ∷ other_need ∷ on_all Read kind ∷ []) ≡ None → ReadsAll kind policy user
+  -- the third requirement
+  reads_third : (need other_need : Need) (kind : ResourceKind) → (kind ≢ Dags) × (kind ≢ DagRuns) → first_unmet (grants policy user) dag dags (need ∷ other_need ∷ on_all Read kind ∷ []) ≡ None → ReadsAll kind policy user
   reads_third need other_need kind other lacks =
       reads_kind policy user dag dags kind other (none_lacked policy user dag dags (need ∷ other_need ∷ on_all Read kind ∷ []) lacks).1.1.0
 
@@ -128,10 +125,7 @@ rows_stand w s token t m shown e ok =
             text = it.text;
             under = it.under;
             bearer = it.bearer;
-            may = (
-              may_read it.policy it.user dag_id (dag_ids state) (on_all Read DagRuns ∷ []) it.lacks,
-              reads_second it.policy it.user (Some dag_id) (dag_ids state) (at_dag Read) DagRuns [] (λ c. cc) it.lacks,
-            );
+            may = may_see_runs it.policy it.user dag_id (dag_ids state) [] it.lacks;
             body = it.body;
             is = it.is;
           },
@@ -144,11 +138,8 @@ rows_stand w s token t m shown e ok =
             under = it.under;
             bearer = it.bearer;
             may = (
-              (
-                may_read it.policy it.user dag_id (dag_ids state) (on_all Read DagRuns ∷ on_all Read TaskInstances ∷ []) it.lacks,
-                reads_second it.policy it.user (Some dag_id) (dag_ids state) (at_dag Read) DagRuns (on_all Read TaskInstances ∷ []) (λ c. cc) it.lacks,
-              ),
-              reads_third it.policy it.user (Some dag_id) (dag_ids state) (at_dag Read) (on_all Read DagRuns) TaskInstances (λ c. cc) it.lacks,
+              may_see_runs it.policy it.user dag_id (dag_ids state) (on_all Read TaskInstances ∷ []) it.lacks,
+              reads_third it.policy it.user (Some dag_id) (dag_ids state) (at_dag Read) (at_runs Read) TaskInstances (λ c. cc, λ c. cc) it.lacks,
             );
             body = it.body;
             is = it.is;
@@ -161,7 +152,7 @@ rows_stand w s token t m shown e ok =
             text = it.text;
             under = it.under;
             bearer = it.bearer;
-            may = reads_one it.policy it.user None (dag_ids state) Pools (λ c. cc) it.lacks;
+            may = reads_one it.policy it.user None (dag_ids state) Pools (λ c. cc, λ c. cc) it.lacks;
             body = it.body;
             is = it.is;
           },
@@ -173,7 +164,7 @@ rows_stand w s token t m shown e ok =
             text = it.text;
             under = it.under;
             bearer = it.bearer;
-            may = reads_one it.policy it.user None (dag_ids state) Variables (λ c. cc) it.lacks;
+            may = reads_one it.policy it.user None (dag_ids state) Variables (λ c. cc, λ c. cc) it.lacks;
             body = it.body;
             is = it.is;
           },
@@ -259,12 +250,12 @@ policy_rows_stand w s token m shown e ok = (
   λ name is.
       met_says w s m shown (policy_verdict w.versions token (asks.Read (Role name))) (ShownTo w token shown (ReadsAll Roles) (IsOfRole name)) is e
       (read_bearer w token shown ok (Role name) (ReadsAll Roles) (IsOfRole name)
-      (λ user bearer lacks. role_row w token shown ok name user bearer (reads_one w.versions.latest user None [] Roles (λ c. cc) lacks) (found_role w.versions.latest.roles name) refl)
+      (λ user bearer lacks. role_row w token shown ok name user bearer (reads_one w.versions.latest user None [] Roles (λ c. cc, λ c. cc) lacks) (found_role w.versions.latest.roles name) refl)
       (bearer_of w.versions.latest token) refl),
   λ name is.
       met_says w s m shown (policy_verdict w.versions token (asks.Read (User name))) (ShownTo w token shown (ReadsAll Users) (IsOfUser name)) is e
       (read_bearer w token shown ok (User name) (ReadsAll Users) (IsOfUser name)
-      (λ user bearer lacks. user_row w token shown ok name user bearer (reads_one w.versions.latest user None [] Users (λ c. cc) lacks) (found_user w.versions.latest.users name) refl)
+      (λ user bearer lacks. user_row w token shown ok name user bearer (reads_one w.versions.latest user None [] Users (λ c. cc, λ c. cc) lacks) (found_user w.versions.latest.users name) refl)
       (bearer_of w.versions.latest token) refl),
   λ is.
       met_says w s m shown (policy_verdict w.versions token asks.Me) (ShownTo w token shown (λ policy user. ⊤) (IsOfMe (last_version w))) is e

@@ -28,6 +28,7 @@ use Rattle.af_sched.specs.State.{StateRows, dag_of, is_of_id, pools_of_row, with
 use Rattle.af_sched.specs.declared.dag_row.DagRow.{DagRow}
 use Rattle.af_vars.specs.Variables as variables
 use Rattle.af_vars.specs.declared.variable.Variable.{Variable}
+use Rattle.af_policy.specs.Grants.{Readable, shows_runs}
 use Rattle.af_ops.specs.declared.answer.OpFault.{OpFault}
 use Rattle.af_ops.specs.declared.answer.OpFault.TheVariants.{NoSchedule, NoSuchDag, NoSuchTask, TooMany}
 use Rattle.af_ops.specs.declared.backfill.Backfill.{Backfill}
@@ -42,7 +43,7 @@ use Rattle.af_ops.specs.declared.variable_op.VariableOp.TheVariants as variable
 use Rattle.af_ops.specs.BackfillEffects.{backfilling, may_make, range_or, unless_too_many}
 use Rattle.af_ops.specs.ClearEffects.{all_tasks, clearing, filter_of, known_run, known_tasks, one_run, selection_of}
 use Rattle.af_ops.specs.EffectParts.{Effect, dag_or, input_or, kept, left_with, run_or, window_or}
-use Rattle.af_ops.specs.Effects.{added_run, dags_data, deleting, differs, effect_of, free_by, free_id, id_or, instance_of, instances_data, marking, new_run, pausing, runs_data, tasks_data, with_marked_run}
+use Rattle.af_ops.specs.Effects.{added_run, dags_data, deleting, differs, effect_of, free_by, free_id, id_or, instance_of, instances_data, marking, new_run, nothing_readable, pausing, runs_data, tasks_data, with_marked_run}
 use Rattle.af_ops.specs.Listings.{read_rows}
 use Rattle.af_ops.specs.PoolEffects.{pool_effect, pool_or, pools_data, settable, setting, told}
 use Rattle.af_ops.specs.PoolEffects.{adding as adding_pool, unless_fault as unless_pool_fault}
@@ -205,40 +206,40 @@ module _ (state : StateRows) (ready : IsReady state) where
       bound (range_or state dag asked) (λ news. Ok (backfilling state (backfilled state news)))
       (λ news is. one_of (nat_lt (length state.runs) (length (backfilled state news).runs)) (backfilled state news) (with_all state.dags news state (range_whole dag asked news is) (ready, refl)).0)
 
-  op_leaves : (reads : List ℕ → Bool) (asked : Op) (t : ℕ) → Leaves (effect_of reads state asked t)
-  op_leaves reads op.Version t = tt
-  op_leaves reads (op.ListDags asked) t = bound (window_or asked) (λ window. Ok (kept (dags_data reads window state.dags))) (λ window is. tt)
-  op_leaves reads (op.GetDag dag) t = with_dag dag (λ row. Ok (kept (dag_data row))) (λ row is. tt)
-  op_leaves reads (op.PauseDag dag input) t =
+  op_leaves : (readable : Readable) (asked : Op) (t : ℕ) → Leaves (effect_of readable state asked t)
+  op_leaves readable op.Version t = tt
+  op_leaves readable (op.ListDags asked) t = bound (window_or asked) (λ window. Ok (kept (dags_data readable.dags window state.dags))) (λ window is. tt)
+  op_leaves readable (op.GetDag dag) t = with_dag dag (λ row. Ok (kept (dag_data row))) (λ row is. tt)
+  op_leaves readable (op.PauseDag dag input) t =
       bound (input_or input) (λ is_paused. dag_or state dag >>= (λ row. Ok (pausing state dag row is_paused)))
       (λ is_paused is. with_dag dag (λ row. Ok (pausing state dag row is_paused)) (λ row found. one_of (differs row is_paused) (record state { dags = with_paused state.dags dag is_paused }) (ready_paused dag is_paused)))
-  op_leaves reads (op.ListTasks dag) t = with_dag dag (λ row. Ok (kept (tasks_data row.dag.tasks))) (λ row is. tt)
-  op_leaves reads (op.ListRuns None asked) t =
-      bound (window_or asked) (λ window. Ok (kept (runs_data window (read_rows reads (λ (run : Run). run.dag_id) state.runs)))) (λ window is. tt)
-  op_leaves reads (op.ListRuns (Some dag) asked) t =
+  op_leaves readable (op.ListTasks dag) t = with_dag dag (λ row. Ok (kept (tasks_data row.dag.tasks))) (λ row is. tt)
+  op_leaves readable (op.ListRuns None asked) t =
+      bound (window_or asked) (λ window. Ok (kept (runs_data window (read_rows (shows_runs readable) (λ (run : Run). run.dag_id) state.runs)))) (λ window is. tt)
+  op_leaves readable (op.ListRuns (Some dag) asked) t =
       bound (window_or asked) (λ window. dag_or state dag >>= (λ row. Ok (kept (runs_data window (runs_of state.runs dag)))))
       (λ window is. with_dag dag (λ row. Ok (kept (runs_data window (runs_of state.runs dag)))) (λ row found. tt))
-  op_leaves reads (op.TriggerRun dag input) t = bound (input_or input) (triggers dag t) (λ asked is. trigger_leaves dag t asked)
-  op_leaves reads (op.GetRun dag run) t = with_run_of dag run (λ row it. Ok (kept (run_data it))) (λ row it. tt)
-  op_leaves reads (op.MarkRun dag run input) t =
+  op_leaves readable (op.TriggerRun dag input) t = bound (input_or input) (triggers dag t) (λ asked is. trigger_leaves dag t asked)
+  op_leaves readable (op.GetRun dag run) t = with_run_of dag run (λ row it. Ok (kept (run_data it))) (λ row it. tt)
+  op_leaves readable (op.MarkRun dag run input) t =
       bound (input_or input) (λ mark. dag_or state dag >>= (λ row. run_or state dag run >>= (λ it. Ok (marking state dag run it mark t))))
       (λ mark is. with_run_of dag run (λ row it. Ok (marking state dag run it mark t)) (λ row it. other_of (is_marked mark it) (with_marked_run state dag run mark t) (ready_marked dag run mark t)))
-  op_leaves reads (op.DeleteRun dag run) t =
+  op_leaves readable (op.DeleteRun dag run) t =
       with_run_of dag run (λ row it. Ok (deleting state dag run)) (λ row it. ready_fewer state (λ other. not (is_run dag run other)) ready)
-  op_leaves reads (op.ClearRun dag run input) t =
+  op_leaves readable (op.ClearRun dag run input) t =
       bound (input_or input) (λ dry_run. dag_or state dag >>= (λ row. run_or state dag run >>= (λ it. Ok (clearing state row.dag.tasks (one_run dag run) (all_tasks row.dag.tasks) dry_run))))
       (λ dry_run is. with_run_of dag run (λ row it. Ok (clearing state row.dag.tasks (one_run dag run) (all_tasks row.dag.tasks) dry_run)) (λ row it. clear_leaves row.dag.tasks (one_run dag run) (all_tasks row.dag.tasks) dry_run))
-  op_leaves reads (op.ListInstances dag run asked) t =
+  op_leaves readable (op.ListInstances dag run asked) t =
       bound (window_or asked) (λ window. dag_or state dag >>= (λ row. run_or state dag run >>= (λ it. Ok (kept (instances_data window row.dag.tasks it)))))
       (λ window is. with_run_of dag run (λ row it. Ok (kept (instances_data window row.dag.tasks it))) (λ row it. tt))
-  op_leaves reads (op.GetInstance dag run task) t =
+  op_leaves readable (op.GetInstance dag run task) t =
       with_run_of dag run (λ row it. ok_or (instance_of row.dag.tasks it task) NoSuchTask >>= (λ told. Ok (kept (instance_data told))))
       (λ row it. bound (ok_or (instance_of row.dag.tasks it task) NoSuchTask) (λ told. Ok (kept (instance_data told))) (λ told at. tt))
-  op_leaves reads (op.ClearInstances dag input) t = bound (input_or input) (clears dag) (λ asked is. clears_leave dag asked)
-  op_leaves reads (op.BackfillDag dag input) t =
+  op_leaves readable (op.ClearInstances dag input) t = bound (input_or input) (clears dag) (λ asked is. clears_leave dag asked)
+  op_leaves readable (op.BackfillDag dag input) t =
       bound (input_or input) (λ asked. range_or state dag asked >>= (λ news. Ok (backfilling state (backfilled state news)))) (λ asked is. backfill_leaves dag asked)
-  op_leaves reads (op.Pool it) t = pool_leaves it
-  op_leaves reads (op.Variable it) t = variable_leaves it
+  op_leaves readable (op.Pool it) t = pool_leaves it
+  op_leaves readable (op.Variable it) t = variable_leaves it
 
   -- what it comes to
   left_by : (effect : Result Effect OpFault) → Leaves effect → IsReady (unwrap_or (next_of effect) state)
@@ -250,4 +251,4 @@ module _ (state : StateRows) (ready : IsReady state) where
       of (Some next) is = is
 
   pub after_ready : (asked : Op) (t : ℕ) → IsReady (after_op asked t state)
-  after_ready asked t = left_by (effect_of (λ dag. false) state asked t) (op_leaves (λ dag. false) asked t)
+  after_ready asked t = left_by (effect_of nothing_readable state asked t) (op_leaves nothing_readable asked t)

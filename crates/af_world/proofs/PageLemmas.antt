@@ -30,7 +30,7 @@ pages_stand w s token window t m shown e ok =
             text = it.text;
             under = it.under;
             bearer = it.bearer;
-            may = reads_one it.policy it.user None (dag_ids state) Pools (λ c. cc) it.lacks;
+            may = reads_one it.policy it.user None (dag_ids state) Pools (λ c. cc, λ c. cc) it.lacks;
             body = it.body;
             is = it.is;
           },
@@ -42,7 +42,7 @@ pages_stand w s token window t m shown e ok =
             text = it.text;
             under = it.under;
             bearer = it.bearer;
-            may = reads_one it.policy it.user None (dag_ids state) Variables (λ c. cc) it.lacks;
+            may = reads_one it.policy it.user None (dag_ids state) Variables (λ c. cc, λ c. cc) it.lacks;
             body = it.body;
             is = it.is;
           },
@@ -53,11 +53,11 @@ policy_pages_stand w s token span m shown e ok = (
   λ is.
       met_says w s m shown (policy_verdict w.versions token (asks.Read (read.Roles span))) (ShownTo w token shown (ReadsAll Roles) (IsOfRoles span)) is e
       (read_bearer w token shown ok (read.Roles span) (ReadsAll Roles) (IsOfRoles span)
-      (λ user bearer lacks. text_shown w token shown ok (ReadsAll Roles) (IsOfRoles span) user _ bearer (reads_one w.versions.latest user None [] Roles (λ c. cc) lacks) refl)
+      (λ user bearer lacks. text_shown w token shown ok (ReadsAll Roles) (IsOfRoles span) user _ bearer (reads_one w.versions.latest user None [] Roles (λ c. cc, λ c. cc) lacks) refl)
       (bearer_of w.versions.latest token) refl),
   λ is.
       met_says w s m shown (policy_verdict w.versions token (asks.Read (read.Users span))) (ShownTo w token shown (ReadsAll Users) (IsOfUsers span)) is e
       (read_bearer w token shown ok (read.Users span) (ReadsAll Users) (IsOfUsers span)
-      (λ user bearer lacks. text_shown w token shown ok (ReadsAll Users) (IsOfUsers span) user _ bearer (reads_one w.versions.latest user None [] Users (λ c. cc) lacks) refl)
+      (λ user bearer lacks. text_shown w token shown ok (ReadsAll Users) (IsOfUsers span) user _ bearer (reads_one w.versions.latest user None [] Users (λ c. cc, λ c. cc) lacks) refl)
       (bearer_of w.versions.latest token) refl),
 )

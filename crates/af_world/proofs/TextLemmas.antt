@@ -3,7 +3,7 @@ use Rattle.std.proofs.Common.{◌≡◌, ◌∙◌, refl, sym, ap, subst, ℕ, L
 use Rattle.std.specs.Prelude.{⊤, Option, Some, None, Ok, Err, Result, unwrap_or, if◌then◌else◌}
 use Rattle.serde_json.specs.Written.{compact_text}
 use Rattle.af_role.specs.declared.need.Need.{Need}
-use Rattle.af_policy.specs.Grants.{first_unmet, grants, reads_dag}
+use Rattle.af_policy.specs.Grants.{first_unmet, grants, readable_by, reads_dag}
 use Rattle.af_policy.specs.Identity.{bearer_of}
 use Rattle.af_policy.specs.Rows.{PolicyRows}
 use Rattle.af_listing.specs.Windows.{Cut}
@@ -15,7 +15,7 @@ use Rattle.af_ops.specs.declared.op.Op.{Op}
 use Rattle.af_ops.specs.declared.shown_answer.Shown.{Shown}
 use Rattle.af_ops.specs.declared.status.Status.TheVariants.{Unauthorized, Forbidden}
 use Rattle.af_ops.specs.declared.status.Status.TheVariants as status
-use Rattle.af_ops.specs.Effects.{Effect, effect_of}
+use Rattle.af_ops.specs.Effects.{Effect, effect_of, nothing_readable}
 use Rattle.af_ops.specs.Endpoints.{dag_of, endpoint_of}
 use Rattle.af_ops.specs.Faults.{problem_of}
 use Rattle.af_ops.specs.Required.{needs_for}
@@ -73,7 +73,7 @@ module _ (w : World) (asked : Asked) (IsText : PolicyRows → List ℕ → List 
 -- ---- an operation on the state
 
 module _ (w : World) (token : Option (List ℕ)) (it : Op) (t : ℕ) (IsText : PolicyRows → List ℕ → List ℕ → Type 0) (shown : Shown) (ok : shown.status ≡ status.Ok) (closed : is_open (endpoint_of it) ≡ false)
-    (tells : (policy : PolicyRows) (user : List ℕ) → OnlyTells (IsText policy user) (effect_of (reads_dag (grants policy user)) w.ledger.state it t)) where
+    (tells : (policy : PolicyRows) (user : List ℕ) → OnlyTells (IsText policy user) (effect_of (readable_by (grants policy user)) w.ledger.state it t)) where
   abbrev asked : Asked
   asked = record { token = token; call = call.State it }
 
@@ -93,7 +93,7 @@ module _ (w : World) (token : Option (List ℕ)) (it : Op) (t : ℕ) (IsText : P
     op_lacked user bearer (Some need) lacks e =
         (let f : Forbidden ≡ status.Ok = not_ok w asked IsText shown ok (answer_of it (standing_of w.ledger).under (Lacks need)) e in absurd (cc))
     op_lacked user bearer None lacks e =
-        op_done user bearer lacks (effect_of (reads_dag (grants policy user)) w.ledger.state it t) (tells policy user) e
+        op_done user bearer lacks (effect_of (readable_by (grants policy user)) w.ledger.state it t) (tells policy user) e
 
     op_bearer : (bearer : Option (List ℕ)) → bearer_of policy token ≡ bearer → answer_of it (standing_of w.ledger).under (judged w.ledger.audit.limit policy (standing_of w.ledger) it t bearer) ≡ Some shown → Tells
     op_bearer None is e =
@@ -105,7 +105,7 @@ module _ (w : World) (token : Option (List ℕ)) (it : Op) (t : ℕ) (IsText : P
   op_acted s None under e = absurd (cc)
   op_acted s (Some policy) under e =
       op_bearer policy under (bearer_of policy token) refl
-      (subst (λ (told_openly : Bool). answer_of it (standing_of w.ledger).under (if told_openly then opened (effect_of (λ dag. false) w.ledger.state it t) else judged w.ledger.audit.limit policy (standing_of w.ledger) it t (bearer_of policy token)) ≡ Some shown) closed e)
+      (subst (λ (told_openly : Bool). answer_of it (standing_of w.ledger).under (if told_openly then opened (effect_of nothing_readable w.ledger.state it t) else judged w.ledger.audit.limit policy (standing_of w.ledger) it t (bearer_of policy token)) ≡ Some shown) closed e)
 
   pub op_tells : (s : ℕ) (m : Move) → Moves w (step.Act s token (call.State it) t) m → m.answer ≡ Some shown → Tells
   op_tells s m is =

@@ -4,14 +4,14 @@ use Rattle.std.specs.Prelude.{⊤, Option, Some, None, Result, Ok, Err, unwrap_o
 use Rattle.af_role.specs.declared.need.Need.{Need}
 use Rattle.af_listing.specs.Windows.{Cut}
 use Rattle.af_policy.specs.declared.bad_input.Parameter.{Parameter}
-use Rattle.af_policy.specs.Grants.{first_unmet, grants, reads_dag}
+use Rattle.af_policy.specs.Grants.{Readable, first_unmet, grants, readable_by, reads_dag}
 use Rattle.af_policy.specs.Identity.{bearer_of}
 use Rattle.af_policy.specs.Rows.{PolicyRows}
 use Rattle.af_sched.specs.State.{StateRows}
 use Rattle.af_ops.specs.declared.answer.OpFault.{OpFault}
 use Rattle.af_ops.specs.declared.answer.OpFault.TheVariants.{HistoryFull}
 use Rattle.af_ops.specs.declared.op.Op.{Op}
-use Rattle.af_ops.specs.Effects.{Effect, effect_of}
+use Rattle.af_ops.specs.Effects.{Effect, effect_of, nothing_readable}
 use Rattle.af_ops.specs.Endpoints.{dag_of, endpoint_of}
 use Rattle.af_ops.specs.Required.{needs_for}
 use Rattle.af_ops.specs.Table.{is_open}
@@ -72,21 +72,21 @@ module _ (policy : PolicyRows) (ledger : LedgerRows) (token : Option (List ℕ))
   means_room asks reply next made true room = (asks, (made, room))
   means_room asks reply next made false room = asks
 
-  means_recorded : AsksOp None → (reads : List ℕ → Bool) (reply : Option (List ℕ)) (made : Option StateRows) → next_of (effect_of reads ledger.state asked t) ≡ made → MeansOp (recorded ledger.audit.limit (standing_of ledger).under reply made)
-  means_recorded asks reads reply None is = asks
-  means_recorded asks reads reply (Some next) is =
-      let same : next_of (effect_of (λ dag. false) ledger.state asked t) ≡ Some next = no_change_depends (λ dag. false) reads ledger.state asked t ∙ is in
+  means_recorded : AsksOp None → (readable : Readable) (reply : Option (List ℕ)) (made : Option StateRows) → next_of (effect_of readable ledger.state asked t) ≡ made → MeansOp (recorded ledger.audit.limit (standing_of ledger).under reply made)
+  means_recorded asks readable reply None is = asks
+  means_recorded asks readable reply (Some next) is =
+      let same : next_of (effect_of nothing_readable ledger.state asked t) ≡ Some next = no_change_depends nothing_readable readable ledger.state asked t ∙ is in
       means_room asks reply next (sym (ap (λ (made : Option StateRows). unwrap_or made ledger.state) same)) (has_room ledger.audit) refl
 
-  means_done : AsksOp None → (reads : List ℕ → Bool) (effect : Result Effect OpFault) → effect_of reads ledger.state asked t ≡ effect → MeansOp (done ledger.audit.limit (standing_of ledger).under effect)
-  means_done asks reads (Ok effect) is = means_recorded asks reads effect.reply effect.next (ap next_of is)
-  means_done asks reads (Err why) is = asks
+  means_done : AsksOp None → (readable : Readable) (effect : Result Effect OpFault) → effect_of readable ledger.state asked t ≡ effect → MeansOp (done ledger.audit.limit (standing_of ledger).under effect)
+  means_done asks readable (Ok effect) is = means_recorded asks readable effect.reply effect.next (ap next_of is)
+  means_done asks readable (Err why) is = asks
 
   means_permitted : (user : List ℕ) → bearer_of policy token ≡ Some user → (lacked : Option Need) → first_unmet (grants policy user) (dag_of asked) (dag_ids ledger.state) (needs_for asked) ≡ lacked → MeansOp (permitted ledger.audit.limit (grants policy user) (standing_of ledger) asked t lacked)
   means_permitted user bearer (Some need) lacks = record { user = user; bearer = bearer; lacks = lacks }
   means_permitted user bearer None lacks =
-      means_done (record { user = user; bearer = bearer; lacks = lacks }) (reads_dag (grants policy user))
-      (effect_of (reads_dag (grants policy user)) ledger.state asked t) refl
+      means_done (record { user = user; bearer = bearer; lacks = lacks }) (readable_by (grants policy user))
+      (effect_of (readable_by (grants policy user)) ledger.state asked t) refl
 
   means_judged : (bearer : Option (List ℕ)) → bearer_of policy token ≡ bearer → MeansOp (judged ledger.audit.limit policy (standing_of ledger) asked t bearer)
   means_judged None is = is
@@ -95,7 +95,7 @@ module _ (policy : PolicyRows) (ledger : LedgerRows) (token : Option (List ℕ))
 
   pub means_op : is_open (endpoint_of asked) ≡ false → MeansOp (verdict_on policy ledger token asked t)
   means_op closed =
-      subst (λ (told_openly : Bool). MeansOp (if told_openly then opened (effect_of (λ dag. false) ledger.state asked t) else judged ledger.audit.limit policy (standing_of ledger) asked t (bearer_of policy token)))
+      subst (λ (told_openly : Bool). MeansOp (if told_openly then opened (effect_of nothing_readable ledger.state asked t) else judged ledger.audit.limit policy (standing_of ledger) asked t (bearer_of policy token)))
       (sym closed) (means_judged (bearer_of policy token) refl)
 
 -- ---- event logs

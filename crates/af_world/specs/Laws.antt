@@ -38,7 +38,7 @@ use Rattle.af_world.specs.declared.step.Step.TheVariants as step
 use Rattle.af_world.specs.Asked.{Asked, acts, asked_of, dag_asked, dags_asked, hands_in, needs_asked}
 use Rattle.af_world.specs.Granted.{AreGranted}
 use Rattle.af_world.specs.Moving.{Move}
-use Rattle.af_world.specs.Rules.{IsFirstLacked, ListsForEach, MayRead}
+use Rattle.af_world.specs.Rules.{IsFirstLacked, ListsForEach, MayRead, MaySeeRuns}
 use Rattle.af_world.specs.Runs.{IsRun, Reaches, session_of, told}
 use Rattle.af_world.specs.Steps.{Moves}
 use Rattle.af_world.specs.Worlds.{OpeningRows, World, last_version, policy_at, seen_by}
@@ -208,35 +208,36 @@ RefusalsChangeNothing =
 
 -- ---- listings
 
--- of all rows just those are kept, in their order, whose DAG the user's roles let the user read, or that name none
-pub record KeepsWhatIsRead {X : Type 0} (policy : PolicyRows) (user : List ℕ) (dag : X → Option (List ℕ)) (all kept : List X) : Type 0 where
+-- of all rows just those are kept, in their order, that the user's roles let the user see by their DAG, or that name none
+pub record KeepsWhatIsRead {X : Type 0} (May : List ℕ → Type 0) (dag : X → Option (List ℕ)) (all kept : List X) : Type 0 where
   pub keeps : List ℕ → Bool
-  pub reads : (id : List ℕ) → Decides (keeps id) (MayRead policy user id)
+  pub reads : (id : List ℕ) → Decides (keeps id) (May id)
   pub filtered : kept ≡ filter (shows keeps dag) all
 
 -- the answer tells the page of the rows that are kept under the version that it names, and how many they are
-pub record ListedRightly {X : Type 0} (w : World) (token : Option (List ℕ)) (window : Cut) (dag : X → Option (List ℕ)) (all : List X) (told : List X → ℕ → Data) (shown : Shown) : Type 0 where
+pub record ListedRightly {X : Type 0} (w : World) (token : Option (List ℕ)) (window : Cut) (May : PolicyRows → List ℕ → List ℕ → Type 0) (dag : X → Option (List ℕ)) (all : List X) (told : List X → ℕ → Data) (shown : Shown) : Type 0 where
   pub policy : PolicyRows
   pub user : List ℕ
   pub under : IsUnder w shown policy
   pub bearer : bearer_of policy token ≡ Some user
   pub rows : List X
-  pub kept : KeepsWhatIsRead policy user dag all rows
+  pub kept : KeepsWhatIsRead (May policy user) dag all rows
   pub body : shown.body ≡ Some (compact_text (told (cut window rows) (length rows)))
 
 abbrev pub ListsDags : World → Option (List ℕ) → Cut → Shown → Type 0
 ListsDags w token window shown =
-    ListedRightly w token window (λ (row : DagRow). Some row.dag.dag_id) w.ledger.state.dags (λ rows total. listing_of (codes "dags") (map dag_data rows) total) shown
+    ListedRightly w token window MayRead (λ (row : DagRow). Some row.dag.dag_id) w.ledger.state.dags (λ rows total. listing_of (codes "dags") (map dag_data rows) total) shown
 
 abbrev pub ListsRuns : World → Option (List ℕ) → Cut → Shown → Type 0
 ListsRuns w token window shown =
-    ListedRightly w token window (λ (run : Run). Some run.dag_id) w.ledger.state.runs (λ runs total. listing_of (codes "dag_runs") (map run_data runs) total) shown
+    ListedRightly w token window MaySeeRuns (λ (run : Run). Some run.dag_id) w.ledger.state.runs (λ runs total. listing_of (codes "dag_runs") (map run_data runs) total) shown
 
 abbrev pub ListsEntries : World → Option (List ℕ) → Cut → Shown → Type 0
 ListsEntries w token window shown =
-    ListedRightly w token window (λ (entry : Entry). act_dag entry.act) w.ledger.audit.entries logs_data shown
+    ListedRightly w token window MayRead (λ (entry : Entry). act_dag entry.act) w.ledger.audit.entries logs_data shown
 
--- listings of the DAGs, of the runs of all DAGs, and of the event logs tell exactly what the user's roles let the user read
+-- listings of the DAGs, of the runs of all DAGs, and of the event logs tell exactly what the user's roles let the user read: DAGs and event
+-- logs by the DAG, runs by the DAG and its runs
 abbrev pub ListingsTellWhatIsRead : Type 0
 ListingsTellWhatIsRead =
     (w : World) (session : ℕ) (token : Option (List ℕ)) (window : Cut) (t : ℕ) (move : Move) (shown : Shown) → move.answer ≡ Some shown → shown.status ≡ status.Ok
@@ -244,14 +245,14 @@ ListingsTellWhatIsRead =
     × (Moves w (step.Act session token (call.State (op.ListRuns None (Ok window))) t) move → ListsRuns w token window shown)
     × (Moves w (step.Act session token (call.Entries (Ok window)) t) move → ListsEntries w token window shown)
 
--- a text is told of a DAG, which the user's roles let the user read under the version that the answer names
-pub record ToldOfDag (w : World) (token : Option (List ℕ)) (dag_id : List ℕ) (shown : Shown) (IsTold : List ℕ → Type 0) : Type 0 where
+-- a text is told of a DAG, which the user's roles let the user see under the version that the answer names
+pub record ToldOfDag (w : World) (token : Option (List ℕ)) (May : PolicyRows → List ℕ → Type 0) (shown : Shown) (IsTold : List ℕ → Type 0) : Type 0 where
   pub policy : PolicyRows
   pub user : List ℕ
   pub text : List ℕ
   pub under : IsUnder w shown policy
   pub bearer : bearer_of policy token ≡ Some user
-  pub reads : MayRead policy user dag_id
+  pub reads : May policy user
   pub body : shown.body ≡ Some text
   pub told : IsTold text
 
@@ -276,10 +277,10 @@ TellsInstances w dag_id run_id window text =
     × IsPageOf (instances_told row.dag.tasks run) (λ rows total. listing_of (codes "task_instances") (map instance_data rows) total) window text
 
 -- listings of one DAG, of its tasks, its runs, and the instances of a run, tell just its rows, and only to a user whose roles let the
--- user read it
+-- user read it, and its runs if they tell runs or instances
 abbrev pub ListingsOfADagAreRead : Type 0
 ListingsOfADagAreRead =
     (w : World) (session : ℕ) (token : Option (List ℕ)) (dag_id run_id : List ℕ) (window : Cut) (t : ℕ) (move : Move) (shown : Shown) → move.answer ≡ Some shown → shown.status ≡ status.Ok
-    → (Moves w (step.Act session token (call.State (op.ListTasks dag_id)) t) move → ToldOfDag w token dag_id shown (TellsTasks w dag_id))
-    × (Moves w (step.Act session token (call.State (op.ListRuns (Some dag_id) (Ok window))) t) move → ToldOfDag w token dag_id shown (TellsRuns w dag_id window))
-    × (Moves w (step.Act session token (call.State (op.ListInstances dag_id run_id (Ok window))) t) move → ToldOfDag w token dag_id shown (TellsInstances w dag_id run_id window))
+    → (Moves w (step.Act session token (call.State (op.ListTasks dag_id)) t) move → ToldOfDag w token (λ policy user. MayRead policy user dag_id) shown (TellsTasks w dag_id))
+    × (Moves w (step.Act session token (call.State (op.ListRuns (Some dag_id) (Ok window))) t) move → ToldOfDag w token (λ policy user. MaySeeRuns policy user dag_id) shown (TellsRuns w dag_id window))
+    × (Moves w (step.Act session token (call.State (op.ListInstances dag_id run_id (Ok window))) t) move → ToldOfDag w token (λ policy user. MaySeeRuns policy user dag_id) shown (TellsInstances w dag_id run_id window))

@@ -4,7 +4,7 @@ use Rattle.std.specs.Prelude.{◌≡◌, ℕ, List, Option, Some, ⊤}
 use Rattle.serde_json.specs.Written.{compact_text}
 use Rattle.af_role.specs.declared.action.Action.TheVariants.{Read}
 use Rattle.af_role.specs.declared.resource.ResourceKind.{ResourceKind}
-use Rattle.af_role.specs.declared.resource.ResourceKind.TheVariants.{DagRuns, Pools, Roles, TaskInstances, Users, Variables}
+use Rattle.af_role.specs.declared.resource.ResourceKind.TheVariants.{Pools, Roles, TaskInstances, Users, Variables}
 use Rattle.af_role.specs.Pairs.{on_kind}
 use Rattle.af_role.specs.Roles.{RoleRow}
 use Rattle.af_policy.specs.declared.policy_read.PolicyRead.TheVariants as read
@@ -36,7 +36,7 @@ use Rattle.af_ops.specs.Rows.{InstanceTold}
 use Rattle.af_world.specs.declared.step.Step.TheVariants as step
 use Rattle.af_world.specs.Laws.{IsUnder}
 use Rattle.af_world.specs.Moving.{Move}
-use Rattle.af_world.specs.Rules.{MayRead, RolesList}
+use Rattle.af_world.specs.Rules.{MayRead, MaySeeRuns, RolesList}
 use Rattle.af_world.specs.Steps.{Moves}
 use Rattle.af_world.specs.Worlds.{World, last_version}
 
@@ -58,7 +58,7 @@ abbrev pub ReadsAll : ResourceKind → PolicyRows → List ℕ → Type 0
 ReadsAll kind policy user = RolesList policy user (on_kind Read kind)
 
 abbrev pub ReadsRunsOf : List ℕ → PolicyRows → List ℕ → Type 0
-ReadsRunsOf dag_id policy user = MayRead policy user dag_id × ReadsAll DagRuns policy user
+ReadsRunsOf dag_id policy user = MaySeeRuns policy user dag_id
 
 abbrev pub ReadsInstancesOf : List ℕ → PolicyRows → List ℕ → Type 0
 ReadsInstancesOf dag_id policy user = ReadsRunsOf dag_id policy user × ReadsAll TaskInstances policy user

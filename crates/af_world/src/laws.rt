@@ -1,4 +1,4 @@
-ghost use Rattle.af_world.specs.Blind.{ActsAreBlind, HiddenActsAsAbsent};
+ghost use Rattle.af_world.specs.Blind.{ActsAreBlind, HiddenActsAsAbsent, HiddenRunActsAsAbsent};
 ghost use Rattle.af_world.specs.OneRow.{PolicyRowsShownStand, RowsShownStand};
 ghost use Rattle.af_world.specs.Pages.{PagesShownStand, PolicyPagesShownStand};
 ghost use Rattle.af_world.specs.Permitted.{RefusedChangesArePermitted};
@@ -98,7 +98,7 @@ pub fn listings_tell_what_is_read()
 {}
 
 /// In every world, a listing of the tasks, of the runs or of the instances of one DAG tells just its rows, and only where the user's
-/// roles let the user read that DAG.
+/// roles let the user read that DAG, and its runs if it tells runs or instances.
 pub fn listings_of_a_dag_are_read()
     ensures { ListingsOfADagAreRead }
 {}
@@ -112,6 +112,12 @@ pub fn acts_are_blind()
 /// In every world, such an act of a user whose roles don't let the user read a DAG is answered as in the world without that DAG and its runs.
 pub fn hidden_acts_as_absent()
     ensures { HiddenActsAsAbsent }
+{}
+
+/// In every world, such an act of a user whose roles don't let the user read both a DAG and its runs is answered as in the world without these
+/// runs.
+pub fn hidden_run_acts_as_absent()
+    ensures { HiddenRunActsAsAbsent }
 {}
 
 /// In every world, a DAG, a run, an instance, a pool or a variable that is shown is the one of that name in the state at that step, and the
