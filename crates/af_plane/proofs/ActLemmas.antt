@@ -13,7 +13,7 @@ use Rattle.af_ops.specs.declared.op.Op.{Op}
 use Rattle.af_ops.specs.declared.served.Served.{Served}
 use Rattle.af_ops.specs.declared.served.Served.TheVariants as served
 use Rattle.af_ops.specs.declared.shown_answer.Shown.{Shown}
-use Rattle.af_ops.specs.Effects.{Effect, effect_of}
+use Rattle.af_ops.specs.Effects.{Effect, effect_of, nothing_readable}
 use Rattle.af_ops.specs.Endpoints.{endpoint_of}
 use Rattle.af_ops.specs.Served.{IsServed, answer_of}
 use Rattle.af_ops.specs.Table.{is_open}
@@ -36,8 +36,8 @@ opened_left who asked t ledger (Err why) = refl
 -- it leaves the ledger
 pub open_left : (policy : PolicyRows) (ledger : LedgerRows) (token : Option (List ℕ)) (asked : Op) (t : ℕ) → is_open (endpoint_of asked) ≡ true → ledger_left (bearer_of policy token) asked t ledger (verdict_on policy ledger token asked t) ≡ ledger
 open_left policy ledger token asked t opens =
-    ap (λ (b : Bool). ledger_left (bearer_of policy token) asked t ledger (if b then opened (effect_of (λ dag. false) ledger.state asked t) else judged ledger.audit.limit policy (standing_of ledger) asked t (bearer_of policy token))) opens
-    ∙ opened_left (bearer_of policy token) asked t ledger (effect_of (λ dag. false) ledger.state asked t)
+    ap (λ (b : Bool). ledger_left (bearer_of policy token) asked t ledger (if b then opened (effect_of nothing_readable ledger.state asked t) else judged ledger.audit.limit policy (standing_of ledger) asked t (bearer_of policy token))) opens
+    ∙ opened_left (bearer_of policy token) asked t ledger (effect_of nothing_readable ledger.state asked t)
 
 pub open_stays : (policy : PolicyRows) (old new : LedgerRows) (token : Option (List ℕ)) (asked : Op) (t : ℕ) (gave : Served) → is_open (endpoint_of asked) ≡ true → IsServed asked (verdict_on policy old token asked t) (standing_of old) gave (standing_of new) → MayEnter (bearer_of policy token) asked t old new → new ≡ old
 open_stays policy old new token asked t (served.Shown shown) opens is entry =

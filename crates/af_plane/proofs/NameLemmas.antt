@@ -18,7 +18,7 @@ use Rattle.af_ops.specs.declared.served.Served.TheVariants as served
 use Rattle.af_ops.specs.declared.shown_answer.Shown.{Shown}
 use Rattle.af_ops.specs.declared.variable_op.VariableOp.{VariableOp}
 use Rattle.af_ops.specs.declared.variable_op.VariableOp.TheVariants as variable
-use Rattle.af_ops.specs.Effects.{effect_of}
+use Rattle.af_ops.specs.Effects.{effect_of, nothing_readable}
 use Rattle.af_ops.specs.Endpoints.{endpoint_of}
 use Rattle.af_ops.specs.Faults.{problem_of}
 use Rattle.af_ops.specs.PolicyFaults.{no_policy, submit_problem}
@@ -100,7 +100,7 @@ variable_closed (variable.Change key input) is = never is
 variable_closed (variable.Delete key) is = never is
 
 -- it names none
-open_names : (asked : Op) (t : ℕ) (ledger : LedgerRows) (shown : Shown) → is_open (endpoint_of asked) ≡ true → answer_of asked (standing_of ledger).under (opened (effect_of (λ dag. false) ledger.state asked t)) ≡ Some shown → shown.version ≡ None
+open_names : (asked : Op) (t : ℕ) (ledger : LedgerRows) (shown : Shown) → is_open (endpoint_of asked) ≡ true → answer_of asked (standing_of ledger).under (opened (effect_of nothing_readable ledger.state asked t)) ≡ Some shown → shown.version ≡ None
 open_names op.Version t ledger shown opens told = ap (λ (s : Shown). s.version) (sym (the_shown _ shown told))
 open_names (op.ListDags asked) t ledger shown opens told = absurd (never opens)
 open_names (op.GetDag dag) t ledger shown opens told = absurd (never opens)

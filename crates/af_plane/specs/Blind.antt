@@ -1,4 +1,4 @@
--- What the plane answers about DAGs, tasks, runs and instances shows nothing of a DAG that the user may not read.
+-- What the plane answers about DAGs, tasks, runs and instances shows nothing of a DAG, or of runs, that the user may not read.
 use Rattle.std.specs.Prelude.{◌≡◌, ℕ, List, true, Option, Some, None, option_map, ⊤}
 use Rattle.af_policy.specs.Identity.{bearer_of}
 use Rattle.af_policy.specs.Rows.{PolicyRows}

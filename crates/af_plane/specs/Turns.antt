@@ -6,7 +6,7 @@ use Rattle.af_ops.specs.declared.call.Call.{Call}
 use Rattle.af_ops.specs.declared.call.Call.TheVariants as call
 use Rattle.af_ops.specs.declared.op.Op.{Op}
 use Rattle.af_ops.specs.declared.served.Served.{Served}
-use Rattle.af_ops.specs.Effects.{effect_of}
+use Rattle.af_ops.specs.Effects.{effect_of, nothing_readable}
 use Rattle.af_ops.specs.Endpoints.{endpoint_of}
 use Rattle.af_ops.specs.Served.{IsServed}
 use Rattle.af_ops.specs.Table.{is_open}
@@ -36,7 +36,7 @@ IsUnderVersion (call.Policy asked) = ⊥
 -- an open operation was served, which is decided under no policy and looks at nothing
 abbrev pub IsOpenly : Op → ℕ → LedgerRows → Served → Type 0
 IsOpenly asked t ledger gave =
-    IsServed asked (opened (effect_of (λ dag. false) ledger.state asked t)) (standing_of ledger) gave (standing_of ledger)
+    IsServed asked (opened (effect_of nothing_readable ledger.state asked t)) (standing_of ledger) gave (standing_of ledger)
 
 -- It was decided under this version, which is the last that the session has then seen, and at which the plane has looked last: the verdict under
 -- its policy was served, and what that changes is done.
@@ -47,7 +47,7 @@ pub record IsActedUnder (site : Site) (asked : RequestRows) (old : PlaneRows) (w
   pub met : HasMet old was new now ⊎ ((only_reads asked.call ≡ true) × HasRead old was new now)
   pub same : HasSame site was.grounds m
   pub applied : Applies (policy_of site m) (looked m.version old.ledger) asked.token asked.call asked.at (Some gave) new.ledger
-  -- what is read of DAGs, tasks, runs and instances shows nothing of a DAG that the token's owner may not read
+  -- what is read of DAGs, tasks, runs and instances shows nothing of a DAG, or of runs, that the token's owner may not read
   pub blind : TellsWhatIsRead (policy_of site m) (looked m.version old.ledger) asked.token asked.call asked.at (Some gave)
 
 -- nothing was decided, and the ledger stays

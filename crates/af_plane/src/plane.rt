@@ -117,8 +117,8 @@ impl Plane {
 
     /// Decides an operation on the state, or a request for event logs, under the version that was looked at, of which this is the mark; none
     /// if the call is an operation on the policy, which is not the plane's. Where the state changes there is one entry, of the token's owner.
-    /// After `NothingDone`, out of memory, the plane is as before. What is read of DAGs, tasks, runs and instances shows nothing of a DAG that
-    /// the user may not read: status and body are those on every state that the user can't tell from this one (`blind`).
+    /// After `NothingDone`, out of memory, the plane is as before. What is read of DAGs, tasks, runs and instances shows nothing of a DAG,
+    /// or of runs, that the user may not read: status and body are those on every state that the user can't tell from this one (`blind`).
     pub fn apply(
         &mut self,
         alloc: Global,

@@ -19,7 +19,7 @@ use Rattle.af_ops.specs.declared.served.Served.{Served}
 use Rattle.af_ops.specs.declared.served.Served.TheVariants as served
 use Rattle.af_ops.specs.declared.shown_answer.Shown.{Shown}
 use Rattle.af_ops.specs.Calls.{unread}
-use Rattle.af_ops.specs.Effects.{effect_of}
+use Rattle.af_ops.specs.Effects.{effect_of, nothing_readable}
 use Rattle.af_ops.specs.Endpoints as operations
 use Rattle.af_ops.specs.Endpoints.{endpoint_of}
 use Rattle.af_ops.specs.PolicyServed.{reply_at}
@@ -135,9 +135,9 @@ module _ (old new : DeskRows) (token : Option (List ℕ)) (op : Op) (opens : is_
   abbrev there : Stand
   there = stand_of old
 
-  open_verdict : (shown : Shown) → answer_of op (standing_of there.ledger).under (opened (effect_of (λ dag. false) there.ledger.state op there.now)) ≡ Some shown → answer_of op (standing_of there.ledger).under (verdict_on there.policy there.ledger token op there.now) ≡ Some shown
+  open_verdict : (shown : Shown) → answer_of op (standing_of there.ledger).under (opened (effect_of nothing_readable there.ledger.state op there.now)) ≡ Some shown → answer_of op (standing_of there.ledger).under (verdict_on there.policy there.ledger token op there.now) ≡ Some shown
   open_verdict shown told =
-      ap (λ (b : Bool). answer_of op (standing_of there.ledger).under (if b then opened (effect_of (λ dag. false) there.ledger.state op there.now) else judged there.ledger.audit.limit there.policy (standing_of there.ledger) op there.now (bearer_of there.policy token))) opens
+      ap (λ (b : Bool). answer_of op (standing_of there.ledger).under (if b then opened (effect_of nothing_readable there.ledger.state op there.now) else judged there.ledger.audit.limit there.policy (standing_of there.ledger) op there.now (bearer_of there.policy token))) opens
       ∙ told
 
   told_openly : (gave : Served) → IsOpenly op old.now old.solo.plane.ledger gave → TellsSo there token (call.State op) gave (stand_of new)

@@ -13,6 +13,7 @@ use Rattle.af_policy.specs.declared.ask.Ask.{Ask}
 use Rattle.af_policy.specs.declared.ask.Ask.TheVariants.{Made, Bad}
 use Rattle.af_policy.specs.declared.bad_input.BadInput.TheVariants as input
 use Rattle.af_policy.specs.declared.change.Change.TheVariants.{AddRole, SetRole, DropRole, AddUser, SetUser, DropUser, SyncDag}
+use Rattle.af_policy.specs.Grants.{Readable}
 use Rattle.af_ops.specs.declared.answer.OpFault.{OpFault}
 use Rattle.af_ops.specs.declared.answer.OpFault.TheVariants.{OutOfMemory}
 use Rattle.af_ops.specs.declared.endpoint.Endpoint.{Endpoint}
@@ -21,7 +22,7 @@ use Rattle.af_ops.specs.declared.policy_op.PolicyOp.{PolicyOp}
 use Rattle.af_ops.specs.declared.policy_op.PolicyOp.TheVariants as asks
 use Rattle.af_ops.specs.declared.shown_answer.Shown.{Shown}
 use Rattle.af_ops.specs.declared.status.Status.TheVariants as status
-use Rattle.af_ops.specs.Effects.{Effect, effect_of}
+use Rattle.af_ops.specs.Effects.{Effect, effect_of, nothing_readable}
 use Rattle.af_ops.specs.Endpoints.{dag_of, endpoint_of, unread}
 use Rattle.af_ops.specs.Faults.{fault_of}
 use Rattle.af_ops.specs.PolicyOps as policies
@@ -50,7 +51,7 @@ module _ {X : Type 0} (kept : LedgerRows → X) (policy : PolicyRows) (ledger : 
 
   -- One is as the other, but that its body was not read: where it is answered, the other is answered so.
   module _ (whole half : Op) (dag : dag_of half ≡ dag_of whole) (place : endpoint_of half ≡ endpoint_of whole)
-      (want : (reads : List ℕ → Bool) → effect_of reads ledger.state half t ≡ Err OutOfMemory) (p : Shown × X) where
+      (want : (readable : Readable) → effect_of readable ledger.state half t ≡ Err OutOfMemory) (p : Shown × X) where
     by_need : (granted : PairRow → Bool) (need : Option Need)
         → told_op half (permitted ledger.audit.limit granted (standing_of ledger) half t need) ≡ Some p
         → told_op whole (permitted ledger.audit.limit granted (standing_of ledger) whole t need) ≡ Some p
@@ -73,18 +74,18 @@ module _ {X : Type 0} (kept : LedgerRows → X) (policy : PolicyRows) (ledger : 
         (subst P (ap (λ (d : Option (List ℕ)). need d (endpoint_of half)) dag ∙ ap (need (dag_of whole)) place) told)
 
     by_open : (opens : Bool)
-        → told_op half (if opens then opened (effect_of (λ dag. false) ledger.state half t) else judged ledger.audit.limit policy (standing_of ledger) half t (bearer_of policy token)) ≡ Some p
-        → told_op whole (if opens then opened (effect_of (λ dag. false) ledger.state whole t) else judged ledger.audit.limit policy (standing_of ledger) whole t (bearer_of policy token)) ≡ Some p
+        → told_op half (if opens then opened (effect_of nothing_readable ledger.state half t) else judged ledger.audit.limit policy (standing_of ledger) half t (bearer_of policy token)) ≡ Some p
+        → told_op whole (if opens then opened (effect_of nothing_readable ledger.state whole t) else judged ledger.audit.limit policy (standing_of ledger) whole t (bearer_of policy token)) ≡ Some p
     by_open true told =
         let none : told_op half (opened (Err OutOfMemory)) ≡ Some p =
-        subst (λ (e : Result Effect OpFault). told_op half (opened e) ≡ Some p) (want (λ dag. false)) told in
+        subst (λ (e : Result Effect OpFault). told_op half (opened e) ≡ Some p) (want nothing_readable) told in
         absurd (cc none)
     by_open false told = by_user (bearer_of policy token) told
 
     pub half_told : told_op half (verdict_on policy ledger token half t) ≡ Some p → told_op whole (verdict_on policy ledger token whole t) ≡ Some p
     half_told told =
         by_open (is_open (endpoint_of whole))
-        (subst (λ (e : Endpoint). told_op half (if is_open e then opened (effect_of (λ dag. false) ledger.state half t) else judged ledger.audit.limit policy (standing_of ledger) half t (bearer_of policy token)) ≡ Some p) place told)
+        (subst (λ (e : Endpoint). told_op half (if is_open e then opened (effect_of nothing_readable ledger.state half t) else judged ledger.audit.limit policy (standing_of ledger) half t (bearer_of policy token)) ≡ Some p) place told)
 
   without : (whole half : Op) → IsUnread whole half → (p : Shown × X)
       → told_op half (verdict_on policy ledger token half t) ≡ Some p

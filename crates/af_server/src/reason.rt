@@ -27,7 +27,7 @@ pub enum Reason {
     Duplicate,
     /// A role that a user has, or that access control names, is not there.
     Role,
-    /// An action is none of the four; in access control, none of the three that a single DAG carries.
+    /// An action is none of the four; in access control, none that a single DAG, or its runs, carry.
     Action,
     /// A resource is not known, or `can_create` is listed on a single DAG.
     Pair,

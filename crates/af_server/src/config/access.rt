@@ -1,4 +1,4 @@
-// The access control of the DAGs of the configuration: which roles have which actions on each of them alone.
+// The access control of the DAGs of the configuration: which roles have which actions on each of them alone, and on its runs alone.
 ghost use Rattle.std.specs.Prelude.{map};
 ghost use Rattle.af_base.specs.JsonValue.{view};
 ghost use Rattle.af_base.specs.Readings.{OrMemory, Makes, taking};
