@@ -52,11 +52,12 @@ fn texts(rt: &impl Abort, alloc: Global, items: &[&str]) -> Texts {
 fn access_rows(rt: &impl Abort, alloc: Global, rows: &[Access]) -> Vec<AccessRow> {
     let mut access = Vec::new(alloc);
     for (role, actions) in rows {
-        let role = role_name(rt, alloc, role);
-        let actions = texts(rt, alloc, actions);
-        access
-            .push(AccessRow { role, actions })
-            .expect(rt, "room for a role's actions");
+        let row = AccessRow {
+            role: role_name(rt, alloc, role),
+            actions: texts(rt, alloc, actions),
+            runs: texts(rt, alloc, &[]),
+        };
+        access.push(row).expect(rt, "room for a role's actions");
     }
     access
 }

@@ -1,7 +1,7 @@
 //! The policy that each board opens with: three roles and the eight users of the sample configuration.
 use af_names::{DagId, Name, NameKind, RoleName, UserName};
 use af_policy::{Policy, PolicyDraft, User};
-use af_role::{Action, Pair, Permissions, Resource, ResourceKind, Role};
+use af_role::{Action, DagPart, Pair, Permissions, Resource, ResourceKind, Role};
 use std::alloc::Global;
 use std::process::Abort;
 
@@ -85,7 +85,7 @@ pub fn names<K: NameKind>(rt: &impl Abort, alloc: Global, texts: &[&str]) -> Vec
 /// The permission to do this to the DAG b.
 fn on_b(rt: &impl Abort, alloc: Global, action: Action) -> Pair {
     let b = DagId::parse(alloc, "b").expect(rt, "the id of a DAG");
-    Pair::new(action, Resource::Dag(b)).expect(rt, "a permission")
+    Pair::new(action, Resource::Dag(DagPart::Itself, b)).expect(rt, "a permission")
 }
 
 /// The permissions of a role.

@@ -1,10 +1,10 @@
 //! Compiled policies beside the plain walk.
-use crate::tests::making::{DAGS, USERS, action, dag_of, kind, made, user_of};
+use crate::tests::making::{DAGS, USERS, action, dag_of, kind, made, part, user_of};
 use crate::tests::numbers::Numbers;
-use crate::tests::plain::{Asked, Plain};
+use crate::tests::plain::{Asked, On, Plain};
 use af_mask::{Compiled, Reader, View};
 use af_names::{DagId, UserName};
-use af_role::Need;
+use af_role::{DagPart, Need};
 use std::alloc::Global;
 use std::process::Abort;
 
@@ -102,11 +102,33 @@ fn is_same(
     missing(rt, alloc, compiled, &user, asked) == plain.missing(at.user, asked)
 }
 
-/// Whether the view of a user reads each DAG where the plain walk does.
+/// Whether the view of a user reads each DAG, and its runs, where the plain walk does.
 fn reads_same(rt: &impl Abort, alloc: Global, view: &View<'_>, plain: &Plain, user: usize) -> bool {
     for dag in 0..DAGS.len() {
         let id = dag_of(rt, alloc, dag);
-        if view.readable(&id) != plain.reads(user, dag) {
+        if view.readable(&id) != plain.reads(user, DagPart::Itself, dag)
+            || view.runs_readable(&id) != plain.reads(user, DagPart::Runs, dag)
+        {
+            return false;
+        }
+    }
+    true
+}
+
+/// Whether the view of a user has the next action on each DAG, or on its runs, where the plain walk finds it.
+fn holds_same(
+    rt: &impl Abort,
+    alloc: Global,
+    numbers: &mut Numbers,
+    view: &View<'_>,
+    plain: &Plain,
+    user: usize,
+) -> bool {
+    for dag in 0..DAGS.len() {
+        let id = dag_of(rt, alloc, dag);
+        let action = action(numbers);
+        let part = part(numbers);
+        if view.holds_on(part, action, &id) != plain.grants(user, action, On::Dag(part, dag)) {
             return false;
         }
     }
@@ -130,6 +152,8 @@ fn compare(
     let view = compiled.view(&user);
     let reads_same = reads_same(rt, alloc, &view, plain, at.user);
     row_holds(rt, reads_same, "what is read", at);
+    let holds_same = holds_same(rt, alloc, numbers, &view, plain, at.user);
+    row_holds(rt, holds_same, "what is held", at);
 }
 
 #[test]

@@ -4,7 +4,8 @@ use crate::tests::plain::{Had, Listed, On, Plain};
 use af_names::{DagId, RoleName, UserName};
 use af_policy::{Change, DagAccess, Policy, PolicyDraft, User};
 use af_role::{
-    AccessControl, AccessRow, Action, Pair, Permissions, Resource, ResourceKind, Role, Text, Texts,
+    AccessControl, AccessRow, Action, DagPart, Pair, Permissions, Resource, ResourceKind, Role,
+    Text, Texts,
 };
 use std::alloc::Global;
 use std::process::Abort;
@@ -43,25 +44,34 @@ pub fn action(numbers: &mut Numbers) -> Action {
     Action::ALL[numbers.below(4)]
 }
 
-/// The next kind, `DAGs` in half of all cases.
+/// The next kind, `DAGs` or `DAG Runs` in most cases.
 pub fn kind(numbers: &mut Numbers) -> ResourceKind {
-    if numbers.is_even() {
-        return ResourceKind::Dags;
+    match numbers.below(3) {
+        0 => ResourceKind::Dags,
+        1 => ResourceKind::DagRuns,
+        _ => ResourceKind::ALL[numbers.below(8)],
     }
-    ResourceKind::ALL[numbers.below(8)]
+}
+
+/// The next part of a DAG.
+pub fn part(numbers: &mut Numbers) -> DagPart {
+    if numbers.is_even() {
+        return DagPart::Itself;
+    }
+    DagPart::Runs
 }
 
 fn on(numbers: &mut Numbers) -> On {
     if numbers.below(4) == 0 {
         return On::Kind(kind(numbers));
     }
-    On::Dag(numbers.below(6))
+    On::Dag(part(numbers), numbers.below(6))
 }
 
 fn resource_of(rt: &impl Abort, alloc: Global, on: On) -> Resource {
     match on {
         On::Kind(kind) => Resource::Kind(kind),
-        On::Dag(dag) => Resource::Dag(dag_of(rt, alloc, dag)),
+        On::Dag(part, dag) => Resource::Dag(part, dag_of(rt, alloc, dag)),
     }
 }
 
@@ -142,7 +152,29 @@ fn opened(rt: &impl Abort, alloc: Global, numbers: &mut Numbers, plain: &mut Pla
     draft.finish(alloc).expect(rt, "a policy")
 }
 
-/// What the role of a number is to have on a DAG: the next actions.
+/// The next of these actions, which the role of a number is to have on a DAG or on its runs.
+fn listed(
+    rt: &impl Abort,
+    alloc: Global,
+    numbers: &mut Numbers,
+    plain: &mut Plain,
+    role: usize,
+    on: On,
+    actions: &[Action],
+) -> Texts {
+    let mut texts = Vec::new(alloc);
+    for action in actions {
+        if numbers.is_even() {
+            let text = String::from_str(alloc, action.text()).expect(rt, "a text");
+            texts.push(Text::new(text)).expect(rt, "room for an action");
+            let action = *action;
+            plain.list(rt, Listed { role, action, on });
+        }
+    }
+    Texts::of(texts)
+}
+
+/// What the role of a number is to have on a DAG and on its runs: the next actions.
 fn access_row(
     rt: &impl Abort,
     alloc: Global,
@@ -151,26 +183,12 @@ fn access_row(
     role: usize,
     dag: usize,
 ) -> AccessRow {
-    let mut actions = Vec::new(alloc);
-    for action in ON_A_DAG {
-        if numbers.is_even() {
-            let text = String::from_str(alloc, action.text()).expect(rt, "a text");
-            actions
-                .push(Text::new(text))
-                .expect(rt, "room for an action");
-            plain.list(
-                rt,
-                Listed {
-                    role,
-                    action,
-                    on: On::Dag(dag),
-                },
-            );
-        }
-    }
+    let itself = On::Dag(DagPart::Itself, dag);
+    let runs = On::Dag(DagPart::Runs, dag);
     AccessRow {
         role: role_of(rt, alloc, role),
-        actions: Texts::of(actions),
+        actions: listed(rt, alloc, numbers, plain, role, itself, &ON_A_DAG),
+        runs: listed(rt, alloc, numbers, plain, role, runs, &Action::ALL),
     }
 }
 

@@ -1,13 +1,13 @@
 //! A policy in plain rows, and the plain walk over them.
-use af_role::{Action, Need, ResourceKind};
+use af_role::{Action, DagPart, Need, ResourceKind};
 use std::alloc::Global;
 use std::process::Abort;
 
-/// What a permission is about: a kind, or the DAG of a number.
+/// What a permission is about: a kind, or the DAG of a number, or the runs of that DAG.
 #[derive(Clone, Copy)]
 pub enum On {
     Kind(ResourceKind),
-    Dag(usize),
+    Dag(DagPart, usize),
 }
 
 /// A permission that the role of a number was given.
@@ -43,8 +43,21 @@ pub struct Asked<'a> {
 fn is_same(one: On, other: On) -> bool {
     match (one, other) {
         (On::Kind(one), On::Kind(other)) => one == other,
-        (On::Dag(one), On::Dag(other)) => one == other,
+        (On::Dag(part, one), On::Dag(its, other)) => part == its && one == other,
         _ => false,
+    }
+}
+
+/// Whether it is the DAG of a number, or its runs.
+fn is_on(on: On, dag: usize) -> bool {
+    is_same(on, On::Dag(DagPart::Itself, dag)) || is_same(on, On::Dag(DagPart::Runs, dag))
+}
+
+/// The kind that all DAGs are, or the runs of all DAGs.
+fn all_of(part: DagPart) -> ResourceKind {
+    match part {
+        DagPart::Itself => ResourceKind::Dags,
+        DagPart::Runs => ResourceKind::DagRuns,
     }
 }
 
@@ -67,10 +80,9 @@ impl Plain {
         self.had.push(had).expect(rt, "room for a role");
     }
 
-    /// Takes out what is listed on one DAG alone.
+    /// Takes out what is listed on one DAG alone, or on its runs.
     pub fn take_dag(&mut self, dag: usize) {
-        self.listed
-            .retain(|listed| !is_same(listed.on, On::Dag(dag)));
+        self.listed.retain(|listed| !is_on(listed.on, dag));
     }
 
     fn lists(&self, role: usize, action: Action, on: On) -> bool {
@@ -92,15 +104,17 @@ impl Plain {
         false
     }
 
-    /// Whether the user reads a DAG, by a permission on it or on all DAGs.
-    pub fn reads(&self, user: usize, dag: usize) -> bool {
-        self.grants(user, Action::Read, On::Kind(ResourceKind::Dags))
-            || self.grants(user, Action::Read, On::Dag(dag))
+    /// Whether the user reads a DAG, or its runs, by a permission on it or on all.
+    pub fn reads(&self, user: usize, part: DagPart, dag: usize) -> bool {
+        self.grants(user, Action::Read, On::Kind(all_of(part)))
+            || self.grants(user, Action::Read, On::Dag(part, dag))
     }
 
-    fn grants_some(&self, user: usize, action: Action, dags: &[usize]) -> bool {
+    /// Whether the user has an action on one of these DAGs, or on the runs of one that the user reads.
+    fn grants_some(&self, user: usize, part: DagPart, action: Action, dags: &[usize]) -> bool {
         for dag in dags {
-            if self.grants(user, action, On::Dag(*dag)) {
+            let counts = part == DagPart::Itself || self.reads(user, DagPart::Itself, *dag);
+            if counts && self.grants(user, action, On::Dag(part, *dag)) {
                 return true;
             }
         }
@@ -108,19 +122,25 @@ impl Plain {
     }
 
     /// Whether a requirement is met: by its own permission; one on `DAGs` at the DAG of the request also by a permission on that
-    /// DAG, and one on all DAGs also by a permission on one of those that are there.
+    /// DAG, and one on all DAGs also by a permission on one of those that are there; and so one on `DAG Runs` by the runs of that
+    /// DAG, or of one that is there and is read.
     fn meets(&self, user: usize, need: Need, asked: Asked<'_>) -> bool {
         if self.grants(user, need.action, On::Kind(need.kind)) {
             return true;
         }
-        if need.kind != ResourceKind::Dags {
-            return false;
+        match need.kind {
+            ResourceKind::Dags => self.meets_on(user, DagPart::Itself, need, asked),
+            ResourceKind::DagRuns => self.meets_on(user, DagPart::Runs, need, asked),
+            _ => false,
         }
+    }
+
+    fn meets_on(&self, user: usize, part: DagPart, need: Need, asked: Asked<'_>) -> bool {
         if !need.at_dag {
-            return self.grants_some(user, need.action, asked.dags);
+            return self.grants_some(user, part, need.action, asked.dags);
         }
         match asked.dag {
-            Some(dag) => self.grants(user, need.action, On::Dag(dag)),
+            Some(dag) => self.grants(user, need.action, On::Dag(part, dag)),
             None => false,
         }
     }

@@ -7,9 +7,9 @@ use crate::tests::words::{
     ADAM, ADAMS, ADMIN, ANOTHER, BAD_CAN_FLY, BAD_FLY, BAD_LARGE_READ, BOB, BOBS, CAN_CREATE,
     CAN_EDIT, CAN_FLY, CAN_READ, CY, DAG_A, DAG_B, DAG_RUN_B, DAGS, DEFAULT_ROLE, DONE, EDNA,
     EDNAS, EVE, EXISTS, FLY, LARGE_READ, LAST, LAST_ADMIN, MORE, NO_CREATE_AT_B, NO_DAG,
-    NO_READ_AT_NO_DAG, NO_READ_OF_RUN_B, NO_SUCH_ROLE, NO_SUCH_USER, NONE, ONLY_B, OP, PAT, PATS,
-    POOLS, PUBLIC, ROLE_7, ROLE_IN_USE, SEA, SKY, SMALL_DAGS, TOO_MANY, UNKNOWN_SKY, VERA, VERAS,
-    VIEWER, X, Y,
+    NO_READ_AT_NO_DAG, NO_READ_OF_NO_RUN, NO_RUN, NO_SUCH_ROLE, NO_SUCH_USER, NONE, ONLY_B, OP,
+    PAT, PATS, POOLS, PUBLIC, ROLE_7, ROLE_IN_USE, SEA, SKY, SMALL_DAGS, TOO_MANY, UNKNOWN_SKY,
+    VERA, VERAS, VIEWER, X, Y,
 };
 
 /// Each fault of each change of a role, two at once in their order, and what is accepted between them.
@@ -28,11 +28,11 @@ const OF_ROLES: &[Case] = &[
         Step::AddRole(X, &[(CAN_READ, NO_DAG), (CAN_READ, SMALL_DAGS)]),
         NO_READ_AT_NO_DAG,
     ),
-    Makes(Step::AddRole(X, &[(CAN_READ, DAG_RUN_B)]), NO_READ_OF_RUN_B),
+    Makes(Step::AddRole(X, &[(CAN_READ, NO_RUN)]), NO_READ_OF_NO_RUN),
     Makes(Step::AddRole(VIEWER, &[]), EXISTS),
     Makes(Step::AddRole(ONLY_B, &[]), EXISTS),
     Makes(
-        Step::AddRole(X, &[(CAN_EDIT, DAG_B), (CAN_CREATE, POOLS)]),
+        Step::AddRole(X, &[(CAN_CREATE, DAG_RUN_B), (CAN_CREATE, POOLS)]),
         DONE,
     ),
     Makes(Step::AddRole(X, &[]), EXISTS),

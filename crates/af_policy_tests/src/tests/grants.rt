@@ -1,16 +1,18 @@
 //! Rows worked by hand: who brings a token, which requirement a denial names, and what is refused of a policy's rows.
 use crate::tests::asserts::holds;
 use crate::tests::openings::{Added, Row, THE_FIVE, finished, names};
-use crate::tests::stories::Case::{self, Bearer, Grants};
+use crate::tests::steps::{Pairs, Step};
+use crate::tests::stories::Case::{self, Bearer, Grants, Makes};
 use crate::tests::stories::{Story, play};
 use crate::tests::words::{
-    A, ADAM, ADAMS, B, BOB, BOBS, CAN_READ, CUT_SHORT, DAG_B, EDNA, EVE, LARGE_B, NONE, PAT,
-    SMALL_VIEWER, STRANGERS, USERS, VERA, VERAS, VIEWER,
+    A, ADAM, ADAMS, B, BOB, BOBS, CAN_CREATE, CAN_EDIT, CAN_READ, CUT_SHORT, DAG_B, DAG_RUN_A,
+    DAG_RUN_B, DAGS, DONE, EDNA, EVE, LARGE_B, NONE, ONLY_B, PAT, SMALL_VIEWER, STRANGERS, USERS,
+    VERA, VERAS, VIEWER,
 };
-use Granted::{Has, Lacks, Reads, ReadsAll, ReadsPools};
+use Granted::{Has, Lacks, Reads, ReadsAll, ReadsPools, ReadsRuns};
 use af_names::{DagId, UserName};
 use af_policy::{Policy, Presented, Reader, RowFault, View};
-use af_role::{Action, Need, ResourceKind};
+use af_role::{Action, DagPart, Need, ResourceKind};
 use std::alloc::Global;
 use std::process::Abort;
 
@@ -21,8 +23,10 @@ pub enum Granted {
     Lacks(&'static [Need], &'static [&'static str], Option<Need>),
     /// Whether the user reads it.
     Reads(bool),
-    /// Whether the user reads all DAGs by a permission on all of them.
-    ReadsAll(bool),
+    /// Whether the user reads its runs.
+    ReadsRuns(bool),
+    /// Whether the user reads all DAGs by a permission on all of them, and whether the runs of all.
+    ReadsAll(bool, bool),
     /// Whether the user has an action on it, or on all DAGs.
     Has(Action, bool),
     /// Whether the user reads pools.
@@ -51,6 +55,18 @@ const READ_RUNS: Need = Need {
     action: Action::Read,
     kind: ResourceKind::DagRuns,
     at_dag: false,
+};
+
+const READ_RUNS_AT: Need = Need {
+    action: Action::Read,
+    kind: ResourceKind::DagRuns,
+    at_dag: true,
+};
+
+const CREATE_RUNS_AT: Need = Need {
+    action: Action::Create,
+    kind: ResourceKind::DagRuns,
+    at_dag: true,
 };
 
 /// The DAGs that are there.
@@ -93,11 +109,53 @@ const ASKED: &[Case] = &[
     Grants(BOB, A, Reads(false)),
     Grants(BOB, B, Reads(true)),
     Grants(BOB, LARGE_B, Reads(false)),
-    Grants(ADAM, B, ReadsAll(true)),
-    Grants(VERA, B, ReadsAll(true)),
-    Grants(BOB, B, ReadsAll(false)),
-    Grants(PAT, B, ReadsAll(false)),
-    Grants(EVE, B, ReadsAll(false)),
+    Grants(ADAM, B, ReadsAll(true, true)),
+    Grants(VERA, B, ReadsAll(true, true)),
+    Grants(BOB, B, ReadsAll(false, false)),
+    Grants(PAT, B, ReadsAll(false, false)),
+    Grants(EVE, B, ReadsAll(false, false)),
+    Grants(VERA, A, Lacks(&[READ_RUNS_AT], A_AND_B, None)),
+    Grants(BOB, B, Lacks(&[READ_RUNS_AT], A_AND_B, Some(READ_RUNS_AT))),
+    Grants(BOB, B, ReadsRuns(false)),
+];
+
+/// What bob has, who reads b: its runs are read and created, and those of a are read and edited.
+const RUNS: Pairs = &[
+    (CAN_READ, DAG_B),
+    (CAN_READ, DAG_RUN_B),
+    (CAN_CREATE, DAG_RUN_B),
+    (CAN_READ, DAG_RUN_A),
+    (CAN_EDIT, DAG_RUN_A),
+];
+
+/// What bob has who reads all DAGs, and the runs of b.
+const ALL_DAGS: Pairs = &[(CAN_READ, DAGS), (CAN_READ, DAG_RUN_B)];
+
+/// What is granted by permissions on runs.
+const OF_RUNS: &[Case] = &[
+    Makes(Step::SetRole(ONLY_B, RUNS), DONE),
+    Grants(BOB, B, Lacks(&[READ_AT, CREATE_RUNS_AT], A_ALONE, None)),
+    Grants(BOB, B, Lacks(&[EDIT_AT], A_AND_B, Some(EDIT_AT))),
+    Grants(
+        BOB,
+        A,
+        Lacks(
+            &[READ_RUNS_AT, CREATE_RUNS_AT],
+            A_AND_B,
+            Some(CREATE_RUNS_AT),
+        ),
+    ),
+    Grants(BOB, A, Lacks(&[READ_RUNS], A_AND_B, None)),
+    Grants(BOB, A, Lacks(&[READ_RUNS], A_ALONE, Some(READ_RUNS))),
+    Grants(BOB, A, Reads(false)),
+    Grants(BOB, A, ReadsRuns(true)),
+    Grants(BOB, LARGE_B, ReadsRuns(false)),
+    Makes(Step::SetRole(ONLY_B, ALL_DAGS), DONE),
+    Grants(BOB, A, Lacks(&[READ_RUNS], A_AND_B, None)),
+    Grants(BOB, A, Lacks(&[READ_RUNS], A_ALONE, Some(READ_RUNS))),
+    Grants(BOB, B, ReadsAll(true, false)),
+    Grants(BOB, A, ReadsRuns(false)),
+    Grants(BOB, B, ReadsRuns(true)),
 ];
 
 /// Whether this is the name of who brings a token; the empty text is nobody's.
@@ -147,7 +205,8 @@ fn is_granted_to(
             lacked == wanted
         }
         Reads(wanted) => view.readable(dag) == wanted,
-        ReadsAll(wanted) => view.reads_all() == wanted,
+        ReadsRuns(wanted) => view.runs_readable(dag) == wanted,
+        ReadsAll(dags, runs) => view.reads_all() == dags && view.reads_all_runs() == runs,
         Has(action, wanted) => has(&view, dag, action) == wanted,
         ReadsPools(wanted) => view.holds_on_kind(Action::Read, ResourceKind::Pools) == wanted,
     }
@@ -155,7 +214,7 @@ fn is_granted_to(
 
 /// Whether a user has an action on a DAG, or on all DAGs.
 fn has(view: &View<'_>, dag: &DagId, action: Action) -> bool {
-    view.holds_on_dag(action, dag) || view.holds_on_kind(action, ResourceKind::Dags)
+    view.holds_on(DagPart::Itself, action, dag) || view.holds_on_kind(action, ResourceKind::Dags)
 }
 
 /// Whether bob reads the DAG b, edits it, and pat reads it, or not, as this says; and vera reads it and adam deletes it.
@@ -171,7 +230,7 @@ pub fn have(rt: &impl Abort, alloc: Global, policy: &Policy, wanted: (bool, bool
 const GRANTS: &[Story] = &[Story {
     members: THE_FIVE,
     left: 0,
-    parts: &[("what is granted", ASKED)],
+    parts: &[("what is granted", ASKED), ("what of runs", OF_RUNS)],
 }];
 
 #[test]

@@ -9,8 +9,12 @@ use std::process::Abort;
 /// Permissions, as texts of actions and resources.
 pub type Pairs = &'static [(&'static str, &'static str)];
 
-/// Access control: roles and their actions.
-pub type Access = &'static [(&'static str, &'static [&'static str])];
+/// Access control: roles, their actions on the DAG and those on its runs.
+pub type Access = &'static [(
+    &'static str,
+    &'static [&'static str],
+    &'static [&'static str],
+)];
 
 /// Names of roles.
 pub type Roles = &'static [&'static str];
@@ -84,15 +88,16 @@ pub fn access(rt: &impl Abort, alloc: Global, rows: Option<Access>) -> Option<Ac
     }
 }
 
-/// Roles and their actions.
+/// Roles and their actions on the DAG and on its runs.
 fn access_rows(rt: &impl Abort, alloc: Global, rows: Access) -> Vec<AccessRow> {
     let mut access = Vec::new(alloc);
-    for (role, actions) in rows {
-        let role = role_name(rt, alloc, role);
-        let actions = texts(rt, alloc, actions);
-        access
-            .push(AccessRow { role, actions })
-            .expect(rt, "room for a role's actions");
+    for (role, actions, runs) in rows {
+        let row = AccessRow {
+            role: role_name(rt, alloc, role),
+            actions: texts(rt, alloc, actions),
+            runs: texts(rt, alloc, runs),
+        };
+        access.push(row).expect(rt, "room for a role's actions");
     }
     access
 }

@@ -28,6 +28,8 @@ pub const BAD_FLY: &str = "bad action: fly";
 
 pub const BAD_LARGE_READ: &str = "bad action: Can_Read";
 
+pub const BAD_SINK: &str = "bad action: sink";
+
 pub const BLANK: &str = " ";
 
 pub const BOB: &str = "bob";
@@ -63,6 +65,8 @@ pub const DAGS: &str = "DAGs";
 pub const DAG_A: &str = "DAG:a";
 
 pub const DAG_B: &str = "DAG:b";
+
+pub const DAG_RUN_A: &str = "DAG Run:a";
 
 pub const DAG_RUN_B: &str = "DAG Run:b";
 
@@ -117,7 +121,9 @@ pub const NO_DAG: &str = "DAG:a b";
 
 pub const NO_READ_AT_NO_DAG: &str = "not allowed: DAG:a b.can_read";
 
-pub const NO_READ_OF_RUN_B: &str = "not allowed: DAG Run:b.can_read";
+pub const NO_READ_OF_NO_RUN: &str = "not allowed: DAG Run:a b.can_read";
+
+pub const NO_RUN: &str = "DAG Run:a b";
 
 pub const NO_SUCH_ANSWER: &str = "no such answer";
 

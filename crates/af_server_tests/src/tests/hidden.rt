@@ -1,12 +1,14 @@
-//! DAGs that a user may not read, as they are answered where they are there, and where they are not.
+//! DAGs and runs that a user may not read, as they are answered where they are there, and where they are not.
 mod bodies;
 mod readings;
+mod run_readings;
 
 use super::BASE;
 use super::asserts::all_go;
 use super::rows::{Step, Story, fault_in};
 use bodies::RUN;
 use readings::READINGS;
+use run_readings::RUN_READINGS;
 
 /// The sample configuration without the DAGs `a` and `c`.
 const WITHOUT: &str = r#"{"roles":[
@@ -110,4 +112,22 @@ fn a_hidden_dag_is_answered_as_an_absent_one(rt: HostRuntime) {
         Story::After(&RUNS_OF_ONE, &READINGS),
     );
     all_go(&rt, fault, "the answers without the DAGs, in pieces of");
+}
+
+#[test]
+fn a_hidden_run_is_answered_as_an_absent_one(rt: HostRuntime) {
+    let fault = fault_in(
+        &rt,
+        rt.alloc(),
+        BASE,
+        Story::After(&RUNS_OF_THREE, &RUN_READINGS),
+    );
+    all_go(&rt, fault, "the answers with the runs, in pieces of");
+    let fault = fault_in(
+        &rt,
+        rt.alloc(),
+        BASE,
+        Story::After(&RUNS_OF_ONE, &RUN_READINGS),
+    );
+    all_go(&rt, fault, "the answers without the runs, in pieces of");
 }

@@ -1,7 +1,7 @@
 //! Who asks.
 use af_names::{DagId, RoleName, UserName};
 use af_policy::{Policy, PolicyDraft, User};
-use af_role::{Action, Pair, Permissions, Resource, ResourceKind, Role};
+use af_role::{Action, DagPart, Pair, Permissions, Resource, ResourceKind, Role};
 use sha2::{Digest, Sha256};
 use std::alloc::Global;
 use std::test::Fail;
@@ -72,7 +72,10 @@ fn add_pair(permissions: &mut Permissions, pair: Option<Pair>) -> Result<(), Fai
 /// Adds the permission to do this to the DAG b.
 fn add_on_b(alloc: Global, permissions: &mut Permissions, action: Action) -> Result<(), Fail> {
     let b = DagId::parse(alloc, "b")?;
-    add_pair(permissions, Pair::new(action, Resource::Dag(b)))
+    add_pair(
+        permissions,
+        Pair::new(action, Resource::Dag(DagPart::Itself, b)),
+    )
 }
 
 /// Adds the permission to read all runs.

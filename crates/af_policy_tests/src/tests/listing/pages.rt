@@ -6,11 +6,12 @@ use af_names::DagId;
 use std::alloc::{AllocGlobal, Global};
 use std::process::Abort;
 
-const RUNS: &[&str] = &["a", "b", "b", "a", "b"];
+const RUNS: &[&str] = &["*a", "*b", "*b", "*a", "*b"];
 
 const SOME_WITHOUT: &[&str] = &["a", "-", "b", "-"];
 
-const FIVE: &[&str] = &["a", "-", "b", "a", "c"];
+/// Rows of which two are those of runs.
+const FIVE: &[&str] = &["a", "-", "*b", "*a", "b"];
 
 /// The DAGs of rows, a query, the places of the rows that are shown, and how many there are in all.
 type Row = (
@@ -20,7 +21,7 @@ type Row = (
     usize,
 );
 
-/// What who reads b is shown. Rows without a DAG are shown.
+/// What who reads b and its runs is shown. Rows without a DAG are shown.
 const PAGES: &[Row] = &[
     (RUNS, b"limit=2&offset=1", &[2, 4], 3),
     (RUNS, b"offset=9", &[], 3),
@@ -30,6 +31,14 @@ const PAGES: &[Row] = &[
     (RUNS, b"limit=1&offset=2", &[4], 3),
     (RUNS, b"offset=999999999999999999999999999999", &[], 3),
     (SOME_WITHOUT, b"offset=1", &[2, 3], 3),
+    (FIVE, b"limit=1&offset=1", &[2], 3),
+];
+
+/// What who reads b, and the runs of a, is shown: of runs none.
+const WITHOUT_RUNS: &[Row] = &[
+    (RUNS, b"", &[], 0),
+    (FIVE, b"", &[1, 4], 2),
+    (FIVE, b"limit=1&offset=1", &[4], 2),
 ];
 
 /// Whether a page has these places of so many.
@@ -49,7 +58,8 @@ fn are_pages(rt: &(impl AllocGlobal + Abort), rows: &[Row], who: Who, what: &str
 
 #[test]
 fn pages_are_of_shown_rows(rt: HostRuntime) {
-    are_pages(&rt, PAGES, Who::Of("b"), "pages");
+    are_pages(&rt, PAGES, Who::Of("b", "b"), "pages");
+    are_pages(&rt, WITHOUT_RUNS, Who::Of("b", "a"), "pages without runs");
 }
 
 #[test]
@@ -59,7 +69,7 @@ fn ids_are_rows(rt: HostRuntime) {
         &rt,
         rt.alloc(),
         ids.as_slice(),
-        Who::Of("a"),
+        Who::Of("a", "b"),
         Window::first(),
     );
     drop(ids);
@@ -95,7 +105,7 @@ fn a_page_has_a_hundred_rows_at_most(rt: HostRuntime) {
         rt.alloc(),
         letters.as_slice(),
         b"limit=101",
-        Who::Of("b"),
+        Who::Of("b", "a"),
     );
     drop(letters);
     let is_full = is_full(&page);
@@ -103,7 +113,7 @@ fn a_page_has_a_hundred_rows_at_most(rt: HostRuntime) {
     holds(&rt, is_full, "a page of many");
 }
 
-/// What who reads all DAGs is shown.
+/// What who reads all DAGs and all runs is shown.
 const WHOLE_PAGES: &[Row] = &[
     (FIVE, b"", &[0, 1, 2, 3, 4], 5),
     (FIVE, b"limit=2&offset=1", &[1, 2], 5),
@@ -116,8 +126,16 @@ const WHOLE_PAGES: &[Row] = &[
     (FIVE, b"offset=999999999999999999999999999999", &[], 5),
 ];
 
+/// What who reads all DAGs and no runs is shown.
+const ALL_BUT_RUNS: &[Row] = &[
+    (FIVE, b"", &[0, 1, 4], 3),
+    (FIVE, b"limit=1&offset=2", &[4], 3),
+    (RUNS, b"", &[], 0),
+];
+
 #[test]
 fn who_reads_all_is_shown_the_list_itself(rt: HostRuntime) {
-    are_pages(&rt, WHOLE_PAGES, Who::All(true), "all, by one look");
-    are_pages(&rt, WHOLE_PAGES, Who::All(false), "all, row by row");
+    are_pages(&rt, WHOLE_PAGES, Who::All(true, true), "all, by one look");
+    are_pages(&rt, WHOLE_PAGES, Who::All(false, true), "all, row by row");
+    are_pages(&rt, ALL_BUT_RUNS, Who::All(true, false), "all but runs");
 }

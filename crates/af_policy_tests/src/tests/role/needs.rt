@@ -28,7 +28,7 @@ const NEEDS: &[(Need, &str, &str)] = &[
         Need {
             action: Action::Create,
             kind: ResourceKind::DagRuns,
-            at_dag: false,
+            at_dag: true,
         },
         "DAG Runs.can_create",
         "DAG Runs.can_create",

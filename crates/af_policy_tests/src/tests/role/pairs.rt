@@ -18,6 +18,14 @@ const READ: &[(Pairs, &str)] = &[
     ),
     (&[("can_create", "DAGs")], "DAGs.can_create,"),
     (
+        &[
+            ("can_create", "DAG Run:b"),
+            ("can_read", "DAG Run:a"),
+            ("can_edit", "DAG:b"),
+        ],
+        "DAG:b.can_edit,DAG Run:a.can_read,DAG Run:b.can_create,",
+    ),
+    (
         &[("can_read", "Dags"), ("can_fly", "DAGs"), ("read", "DAGs")],
         "no action can_fly",
     ),
@@ -29,6 +37,11 @@ const READ: &[(Pairs, &str)] = &[
         &[("can_read", "DAGs"), ("can_read", "DAG:")],
         "not allowed can_read DAG:",
     ),
+    (
+        &[("can_read", "DAG Run:b"), ("can_read", "DAG Runs:b")],
+        "not allowed can_read DAG Runs:b",
+    ),
+    (&[("can_edit", "DAG Run:")], "not allowed can_edit DAG Run:"),
     (&[("", "DAGs")], "no action "),
 ];
 

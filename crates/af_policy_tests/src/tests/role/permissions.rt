@@ -8,6 +8,7 @@ use std::process::Abort;
 
 /// Texts of actions and resources.
 const TEXTS: &[(&str, &str)] = &[
+    ("can_create", "DAG Run:B"),
     ("can_read", "DAG:b"),
     ("can_read", "Users"),
     ("can_create", "DAG:b"),
@@ -49,7 +50,8 @@ pub fn role_of(rt: &impl Abort, alloc: Global, name: &str, texts: &[(&str, &str)
     Role::new(name, permissions)
 }
 
-const LISTED: &str = "DAGs.can_read,Users.can_read,DAG:B.can_read,DAG:b.can_read,DAG:b.can_edit,";
+const LISTED: &str =
+    "DAGs.can_read,Users.can_read,DAG:B.can_read,DAG:b.can_read,DAG:b.can_edit,DAG Run:B.can_create,";
 
 #[test]
 fn permissions_stand_in_order_and_once(rt: HostRuntime) {
@@ -58,7 +60,7 @@ fn permissions_stand_in_order_and_once(rt: HostRuntime) {
     telling.tell_permissions(&rt, rt.alloc(), &permissions);
     let count = permissions.len();
     drop(permissions);
-    holds(&rt, count == 5, "five pairs");
+    holds(&rt, count == 6, "six pairs");
     holds(&rt, telling.is_wanted(), "in order");
 }
 

@@ -10,8 +10,23 @@ use std::process::Abort;
 
 /// The roles before each sync.
 const ROLES: &[(&str, &[(&str, &str)])] = &[
-    ("Admin", &[("can_edit", "DAGs"), ("can_read", "DAG:b")]),
-    ("one", &[("can_edit", "DAG:b"), ("can_read", "DAG:c")]),
+    (
+        "Admin",
+        &[
+            ("can_edit", "DAGs"),
+            ("can_read", "DAG:b"),
+            ("can_edit", "DAG Run:b"),
+        ],
+    ),
+    (
+        "one",
+        &[
+            ("can_edit", "DAG:b"),
+            ("can_read", "DAG:c"),
+            ("can_create", "DAG Run:b"),
+            ("can_read", "DAG Run:c"),
+        ],
+    ),
     ("two", &[]),
 ];
 
@@ -22,50 +37,57 @@ const SYNCS: &[Synced] = &[
     (
         None,
         "done",
-        "Admin: DAGs.can_edit,DAG:b.can_read, one: DAG:b.can_edit,DAG:c.can_read, two:  ",
+        "Admin: DAGs.can_edit,DAG:b.can_read,DAG Run:b.can_edit, one: DAG:b.can_edit,DAG:c.can_read,DAG Run:b.can_create,DAG Run:c.can_read, two:  ",
     ),
     (
         Some(&[]),
         "done",
-        "Admin: DAGs.can_edit,DAG:b.can_read, one: DAG:c.can_read, two:  ",
+        "Admin: DAGs.can_edit,DAG:b.can_read,DAG Run:b.can_edit, one: DAG:c.can_read,DAG Run:c.can_read, two:  ",
     ),
     (
-        Some(&[("two", &["can_edit", "can_read", "can_edit"])]),
+        Some(&[("two", &["can_edit", "can_read", "can_edit"], &[])]),
         "done",
-        "Admin: DAGs.can_edit,DAG:b.can_read, one: DAG:c.can_read, two: DAG:b.can_read,DAG:b.can_edit, ",
+        "Admin: DAGs.can_edit,DAG:b.can_read,DAG Run:b.can_edit, one: DAG:c.can_read,DAG Run:c.can_read, two: DAG:b.can_read,DAG:b.can_edit, ",
     ),
     (
-        Some(&[("Admin", &["can_delete"])]),
+        Some(&[("Admin", &["can_delete"], &["can_create"])]),
         "done",
-        "Admin: DAGs.can_edit,DAG:b.can_read,DAG:b.can_delete, one: DAG:c.can_read, two:  ",
-    ),
-    (
-        Some(&[("one", &["can_read"]), ("one", &["can_delete"])]),
-        "done",
-        "Admin: DAGs.can_edit,DAG:b.can_read, one: DAG:b.can_read,DAG:b.can_delete,DAG:c.can_read, two:  ",
-    ),
-    (
-        Some(&[("one", &[])]),
-        "done",
-        "Admin: DAGs.can_edit,DAG:b.can_read, one: DAG:c.can_read, two:  ",
+        "Admin: DAGs.can_edit,DAG:b.can_read,DAG:b.can_delete,DAG Run:b.can_create,DAG Run:b.can_edit, one: DAG:c.can_read,DAG Run:c.can_read, two:  ",
     ),
     (
         Some(&[
-            ("three", &["can_read"]),
-            ("one", &["can_read", "can_create"]),
+            ("one", &["can_read"], &["can_edit"]),
+            ("one", &["can_delete"], &["can_create", "can_edit"]),
+        ]),
+        "done",
+        "Admin: DAGs.can_edit,DAG:b.can_read,DAG Run:b.can_edit, one: DAG:b.can_read,DAG:b.can_delete,DAG:c.can_read,DAG Run:b.can_create,DAG Run:b.can_edit,DAG Run:c.can_read, two:  ",
+    ),
+    (
+        Some(&[("one", &[], &[]), ("two", &[], &["can_delete"])]),
+        "done",
+        "Admin: DAGs.can_edit,DAG:b.can_read,DAG Run:b.can_edit, one: DAG:c.can_read,DAG Run:c.can_read, two: DAG Run:b.can_delete, ",
+    ),
+    (
+        Some(&[
+            ("three", &["can_read"], &["can_create"]),
+            ("one", &["can_read", "can_create"], &[]),
         ]),
         "no action can_create",
-        "Admin: DAGs.can_edit,DAG:b.can_read, one: DAG:b.can_edit,DAG:c.can_read, two:  ",
+        "Admin: DAGs.can_edit,DAG:b.can_read,DAG Run:b.can_edit, one: DAG:b.can_edit,DAG:c.can_read,DAG Run:b.can_create,DAG Run:c.can_read, two:  ",
     ),
     (
-        Some(&[("three", &["can_fly"])]),
-        "no action can_fly",
-        "Admin: DAGs.can_edit,DAG:b.can_read, one: DAG:b.can_edit,DAG:c.can_read, two:  ",
+        Some(&[("three", &["can_fly"], &["can_read", "fly"])]),
+        "no action fly",
+        "Admin: DAGs.can_edit,DAG:b.can_read,DAG Run:b.can_edit, one: DAG:b.can_edit,DAG:c.can_read,DAG Run:b.can_create,DAG Run:c.can_read, two:  ",
     ),
     (
-        Some(&[("one", &["can_read"]), ("three", &[]), ("four", &[])]),
+        Some(&[
+            ("one", &["can_read"], &[]),
+            ("three", &[], &[]),
+            ("four", &[], &[]),
+        ]),
         "no role three",
-        "Admin: DAGs.can_edit,DAG:b.can_read, one: DAG:b.can_edit,DAG:c.can_read, two:  ",
+        "Admin: DAGs.can_edit,DAG:b.can_read,DAG Run:b.can_edit, one: DAG:b.can_edit,DAG:c.can_read,DAG Run:b.can_create,DAG Run:c.can_read, two:  ",
     ),
 ];
 

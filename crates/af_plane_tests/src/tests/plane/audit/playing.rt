@@ -13,20 +13,28 @@ use af_sched::{Claim, Outcome, ReportFault};
 use std::alloc::Global;
 use std::test::Fail;
 
-/// Who reads all DAGs, or none.
+/// Who reads all DAGs and all runs, or none.
 #[derive(Clone, Copy)]
 pub struct Readers {
     pub all: bool,
 }
 
 impl Reader for Readers {
-    ghost reads = { λ reader dag. reader.all };
+    ghost reads = { λ reader. record { dags = λ dag. reader.all; runs = λ dag. reader.all } };
 
     fn readable(&self, _dag: &DagId) -> bool {
         self.all
     }
 
+    fn runs_readable(&self, _dag: &DagId) -> bool {
+        self.all
+    }
+
     fn reads_all(&self) -> bool {
+        self.all
+    }
+
+    fn reads_all_runs(&self) -> bool {
         self.all
     }
 }

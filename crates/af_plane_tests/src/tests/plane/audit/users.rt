@@ -1,7 +1,7 @@
 //! Who asks: each user's name is the token.
 use af_names::{DagId, RoleName, UserName};
 use af_policy::{Policy, PolicyDraft, User};
-use af_role::{Action, Pair, Permissions, Resource, ResourceKind, Role};
+use af_role::{Action, DagPart, Pair, Permissions, Resource, ResourceKind, Role};
 use sha2::{Digest, Sha256};
 use std::alloc::Global;
 use std::test::Fail;
@@ -24,7 +24,7 @@ fn add_reading(permissions: &mut Permissions, resource: Resource) -> Result<(), 
 
 /// The DAG b.
 fn dag_b(alloc: Global) -> Result<Resource, Fail> {
-    Ok(Resource::Dag(DagId::parse(alloc, "b")?))
+    Ok(Resource::Dag(DagPart::Itself, DagId::parse(alloc, "b")?))
 }
 
 /// Adds that event logs are read, and of the DAGs b alone.
