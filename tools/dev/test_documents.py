@@ -325,9 +325,9 @@ class Requirements(unittest.TestCase):
     def needs_of(needs):
         """The requirements of a row of the table, as documents write them."""
         spelled = []
-        for kind, action, resource in re.findall(r"(at_some_dag|at_dag|on_all) (?:action\.)?(\w+) ?(\w*)", needs):
+        for kind, action, resource in re.findall(r"(at_some_dag|at_dag|at_runs|on_all) (?:action\.)?(\w+) ?(\w*)", needs):
             words = re.sub(r"(?<=[a-z])(?=[A-Z])", " ", resource).replace("Dag ", "DAG ")
-            spelled.append(f"{words if kind == 'on_all' else 'DAGs'}.can_{action.lower()}")
+            spelled.append(f"{({'on_all': words, 'at_runs': 'DAG Runs'}).get(kind, 'DAGs')}.can_{action.lower()}")
         return spelled
 
     @staticmethod
