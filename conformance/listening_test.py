@@ -64,14 +64,20 @@ class FewOpenFiles(unittest.TestCase):
         with Serving([BUILT], BASE, WORKERS) as server:
             soft = resource.prlimit(server.process.pid, resource.RLIMIT_NOFILE)[0]
             self.limit(server, server.open_files())
-            waiting = [socket.create_connection(("127.0.0.1", server.port), timeout=SECONDS) for _ in range(WORKERS)]
-            time.sleep(0.5)
+            # A worker that waits for a connection already has the number of the file that it will be: it takes one more.
+            waiting, answered = [], 0
+            while len(waiting) < WORKERS:
+                stream = socket.create_connection(("127.0.0.1", server.port), timeout=SECONDS)
+                stream.settimeout(0.5)
+                stream.sendall(LIST)
+                try:
+                    self.assertEqual(stream.recv(12), b"HTTP/1.1 200")
+                    stream.close()
+                    answered += 1
+                except TimeoutError:
+                    waiting.append(stream)
+                self.assertLessEqual(answered, WORKERS)
             self.assertTrue(server.runs())
-            for stream in waiting:
-                stream.settimeout(0.1)
-                with self.assertRaises(TimeoutError):
-                    stream.sendall(LIST)
-                    stream.recv(1)
             self.limit(server, soft)
             for stream in waiting:
                 stream.settimeout(SECONDS)
