@@ -7,7 +7,7 @@ use Rattle.std.proofs.lemmas.List.{drop_all, take_all}
 use Rattle.std.proofs.lemmas.List.FromFn.{length-range_with_len}
 use Rattle.af_listing.specs.Windows.{Cut}
 use Rattle.af_policy.specs.Grants.{Readable}
-use Rattle.af_listing.specs.Pages.{Told, cut, is_shown, page_of, read_by, shown_places, whole_page}
+use Rattle.af_listing.specs.Pages.{cut, is_shown, page_of, read_by, whole_page}
 
 -- ---- numbers in a row, cut
 

@@ -1,5 +1,5 @@
 -- A test of the names of an object's members, each once, is one of the members as the text has them.
-use Rattle.std.proofs.Common.{◌≡◌, ◌∙◌, ℕ, List, [], ◌∷◌, Bool, true, false, ◌&&◌, Bor, Ordering, Less, Equal, Greater, nat_cmp, nat_eq, refl, sym, ap}
+use Rattle.std.proofs.Common.{◌≡◌, ◌∙◌, ℕ, List, [], ◌∷◌, Bool, true, false, ◌&&◌, Bor, Ordering, Less, Equal, Greater, nat_cmp, refl, sym, ap}
 use Rattle.std.specs.List.{list_all}
 use Rattle.std.specs.Cmp.Lexicographic.{bytes_decides, slice_cmp, texts_ties}
 use Rattle.std.specs.Ordering.{is_eq, match_ordering}

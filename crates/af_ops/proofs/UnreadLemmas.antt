@@ -1,6 +1,6 @@
 -- An operation whose body was not read names what the whole one names; it is the whole one where none is read, and else wants
 -- memory, whatever the state.
-use Rattle.std.proofs.Common.{◌≡◌, ◌⊎◌, inl, inr, refl, ℕ, Bool, List}
+use Rattle.std.proofs.Common.{◌≡◌, ◌⊎◌, inl, inr, refl, ℕ}
 use Rattle.std.specs.Prelude.{Err}
 use Rattle.af_sched.specs.State.{StateRows}
 use Rattle.af_policy.specs.Grants.{Readable}

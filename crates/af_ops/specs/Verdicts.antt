@@ -1,7 +1,7 @@
 -- The verdict on an operation, under one policy and on one state, at a moment (this product's own rule, after Airflow 2,
 -- "Access Control"): who asks is the user of the token; the first requirement that this user lacks denies; else the operation
 -- is done, or refused. All that is told, and the state that is left, are read off the verdict.
-use Rattle.std.specs.Prelude.{ℕ, List, Bool, nat_lt, map, false, Option, Some, None, Result, Ok, Err, if◌then◌else◌}
+use Rattle.std.specs.Prelude.{ℕ, List, Bool, nat_lt, map, Option, Some, None, Result, Ok, Err, if◌then◌else◌}
 use Rattle.af_role.specs.Pairs.{PairRow}
 use Rattle.af_role.specs.declared.need.Need.{Need}
 use Rattle.af_policy.specs.Rows.{PolicyRows}

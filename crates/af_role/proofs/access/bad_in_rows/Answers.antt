@@ -1,5 +1,4 @@
-use Rattle.std.proofs.Common.{ap, sym, ◌∙◌}
-use Rattle.std.specs.Option.{option_copied}
+use Rattle.std.proofs.Common.{sym}
 use Rattle.af_role.proofs.AccessLemmas.{bad_found, bad_none_more}
 use Rattle.af_role.proofs.access.bad_in_rows.Goals as goal
 
