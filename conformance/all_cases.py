@@ -14,12 +14,17 @@ import state_cases
 import trace_cases
 import worked_calls
 import worked_cases
+import worked_forms
 import worked_messages
 import worked_policies
+import worked_traces
 from oracle_table import having
 from worked_rows import exchanges
 
 ROOT = os.path.dirname(os.path.dirname(os.path.realpath(__file__)))
+sys.path.insert(0, os.path.join(ROOT, "tools"))
+import trace_of  # noqa: E402
+
 NOW = "2024-01-01T00:00:00Z"
 CONFIGS = {"viewer": "base.json", "pause": "base.json", "backfill": "daily.json"}  # the examples that are not over team.json
 CUT_SHORT = ("refusals",)  # the examples whose last message is refused, so that the program ends with status 1
@@ -44,18 +49,27 @@ def examples():
         yield stem, ["once", os.path.join(folder, CONFIGS.get(stem, "team.json")), NOW], data, expected
 
 
-def worked():
-    """Of each connection that was worked out by hand its title, what the program has, its configuration, its moment, its input, and how the program ends: its
-    exit status, standard output and standard error."""
-    with open(os.path.join(ROOT, "examples", "base.json"), "rb") as file:
-        base = json.load(file)
+def worked_connections():
+    """Of each connection of steps that was worked out by hand its title, what the program has, its configuration, its moment, its input, and how the program
+    ends: its exit status, standard output and standard error."""
     for title, has, now, members, steps in worked_cases.CONNECTIONS + worked_policies.CONNECTIONS:
         asked, wanted = (b"".join(texts) for texts in zip(*exchanges(steps)))
-        yield title, has, json.dumps({**base, **members}).encode(), now, asked, (0, wanted, b"")
+        yield title, has, json.dumps({**worked_traces.BASE, **members}).encode(), now, asked, (0, wanted, b"")
+
+
+def worked():
+    """The same of these, of messages and of configurations."""
+    yield from worked_connections()
     for title, asked, status, wanted in worked_messages.CASES:
-        yield f"message: {title}", "landed", json.dumps(base).encode(), NOW, asked, (status, wanted, b"")
+        yield f"message: {title}", "landed", json.dumps(worked_traces.BASE).encode(), NOW, asked, (status, wanted, b"")
     for title, config, asked, wanted in worked_calls.CONFIGURATIONS:
         yield f"configuration: {title}", "landed", config, NOW, asked, wanted
+
+
+def traces_of_connections():
+    """Of each connection that was worked out by hand its title, and the bytes of its trace."""
+    for title, _, config, now, asked, (_, wanted, _) in worked_connections():
+        yield title, trace_of.written(config, trace_of.trace_of(now, asked, wanted, lambda said: None))
 
 
 def played(folder):
@@ -70,7 +84,9 @@ def played(folder):
 
     for title, has, config, now, asked, wanted in worked():
         yield f"worked: {title}", has, ["once", written(config), now], asked, wanted
-    for title, trace, wanted in worked_calls.TRACES:
+    for title, trace in traces_of_connections():
+        yield f"worked: trace: {title}", "landed", ["verify", written(trace)], b"", worked_traces.AGREES
+    for title, trace, wanted in worked_calls.TRACES + worked_traces.TRACES + worked_forms.FORMS:
         yield f"worked: trace: {title}", "landed", ["verify", written(trace)], b"", wanted
     for words, wanted in worked_calls.WORDS:
         yield f"worked: words {words}", "landed", words, b"", wanted

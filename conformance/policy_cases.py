@@ -153,6 +153,9 @@ def fixed_full():
         add = [request_cases.with_body(b"POST %s HTTP/1.1" % path.encode(), b"test", it) for it in bodies]
         fields = [b"Host: h", b"Authorization: Bearer test"]
         gone = request_cases.head(b"DELETE %s/x HTTP/1.1" % path.encode(), fields)
+        if name == "users":
+            # of a user too many an unknown role is told first
+            add.append(request_cases.with_body(b"POST /api/v1/users HTTP/1.1", b"test", b'{"username":"z","roles":[{"name":"Sky"}],"token_sha256":"%064x"}' % 7))
         absent, listing = (request_cases.head(b"GET %s%s HTTP/1.1" % (path.encode(), it), fields) for it in (b"/y", b""))
         requests = b"".join([*add, absent, listing, gone, *add, listing])
         yield config, requests + request_cases.list_request(b"test")

@@ -12,16 +12,58 @@ TOP = os.path.dirname(os.path.dirname(os.path.realpath(__file__)))
 BASE = os.path.join(TOP, "examples", "base.json")
 NOW, TASK = "2024-01-01T00:00:00Z", '{"task_id":"t"}'
 USAGE = b"usage: afplane once CONFIG NOW | serve CONFIG PORT WORKERS | verify TRACE\n"
-ADMIN = (
-    '"users":[{"username":"u","roles":[{"name":"Admin"}],'
-    '"token_sha256":"8c6976e5b5410415bde908bd4dee15dfb167a9c873fc4bb8a81f6f2ab448a918"}]'
-)
+DIGEST = "8c6976e5b5410415bde908bd4dee15dfb167a9c873fc4bb8a81f6f2ab448a918"
+ADMIN = f'"users":[{{"username":"u","roles":[{{"name":"Admin"}}],"token_sha256":"{DIGEST}"}}]'
 
 WHOLE = [
     ("syntax", "{"),
     ("shape", "[]"),
     ("admin", "{}"),
     ("pair", '{"roles":[{"name":"R","actions":[{"action":{"name":"can_read"},"resource":{"name":"Nothing"}}]}]}'),
+    ("syntax", ""),
+    ("syntax", '{} {}'),
+    ("syntax", '{"users":1e999}'),
+    ("shape", '{"roles":{}}'),
+    ("shape", '{"roles":null,"users":7}'),
+    ("admin", '{"pools":7,"dags":7}'),
+    ("shape", '{"roles":[5]}'),
+    ("shape", '{"roles":[{"name":"R"}]}'),
+    ("name", '{"roles":[{"name":"","actions":[]}]}'),
+    ("shape", '{"roles":[{"name":"R","actions":[{"action":{"name":"can_read"}}]}]}'),
+    ("action", '{"roles":[{"name":"R","actions":[{"action":{"name":"can_run"},"resource":{"name":"Nothing"}}]}]}'),
+    ("action", '{"roles":[{"name":"R","actions":[{"action":{"name":"can_read"},"resource":{"name":"Nothing"}},{"action":{"name":"can_run"},"resource":{"name":"DAGs"}}]}]}'),
+    ("pair", '{"roles":[{"name":"R","actions":[{"action":{"name":"can_create"},"resource":{"name":"DAG:a"}}]}]}'),
+    ("pair", '{"roles":[{"name":"R","actions":[{"action":{"name":"can_read"},"resource":{"name":"DAG:a b"}}]}]}'),
+    ("duplicate", '{"roles":[{"name":"Viewer","actions":[]}]}'),
+    ("duplicate", '{"roles":[{"name":"R","actions":[]},{"name":"R","actions":[]}]}'),
+    ("shape", '{"users":[{"username":"u","roles":[],"token_sha256":"00"}]}'),
+    ("role", '{"users":[{"username":"u","roles":[{"name":"Nobody"}],"token_sha256":"' + DIGEST + '"}]}'),
+    ("name", '{"users":[{"username":"u","roles":[{"name":""}],"token_sha256":"00"}]}'),
+    ("admin", '{"users":[{"username":"u","roles":[{"name":"Viewer"}],"token_sha256":"' + DIGEST + '"}]}'),
+    ("duplicate", '{"users":[{"username":"u","roles":[{"name":"Admin"}],"token_sha256":"' + DIGEST + '"},{"username":"v","roles":[],"token_sha256":"8C6976E5B5410415BDE908BD4DEE15DFB167A9C873FC4BB8A81F6F2AB448A918"}]}'),
+]
+# Pools and DAGs, beside an administrator: each row, and each of its faults before those of the rows below it.
+ROWS = [
+    ("taken", '"pools":null,"dags":null'),
+    ("taken", '"pools":[{"name":"p","slots":1000000}]'),
+    ("taken", '"pools":[{"name":"default_pool","slots":0},{"name":"q","slots":1}]'),
+    ("shape", '"pools":{}'),
+    ("shape", '"pools":[{"slots":1}]'),
+    ("shape", '"pools":[{"name":"p"}]'),
+    ("name", '"pools":[{"name":"","slots":"1"}]'),
+    ("shape", '"pools":[{"name":"p","slots":"1"}]'),
+    ("shape", '"pools":[{"name":"p","slots":1.0}]'),
+    ("limit", '"pools":[{"name":"p","slots":-1}]'),
+    ("limit", '"pools":[{"name":"p","slots":1000001}]'),
+    ("duplicate", '"pools":[{"name":"p","slots":1},{"name":"p","slots":1}]'),
+    ("duplicate", '"pools":[{"name":"default_pool","slots":1},{"name":"default_pool","slots":1}]'),
+    ("limit", '"pools":[{"name":"p","slots":1000001}],"dags":7'),
+    ("shape", '"dags":[{}]'),
+    ("name", '"dags":[{"dag_id":"a/b","schedule":7.5}]'),
+    ("graph", '"dags":[{"dag_id":"a"}]'),
+    ("graph", '"dags":[{"dag_id":"a","tasks":[]}]'),
+    ("shape", '"dags":[{"dag_id":"a","tasks":{}}]'),
+    ("duplicate", '"dags":[{"dag_id":"a","tasks":[{"task_id":"t"}]},{"dag_id":"b","tasks":[{"task_id":"t"}]},{"dag_id":"a","tasks":[{"task_id":"t"}]}]'),
 ]
 # A role, before a user with the role Admin.
 OF_A_ROLE = [
@@ -171,6 +213,7 @@ LIMITS = [
 
 FRAMES = [
     ("a configuration", "%s", WHOLE),
+    ("pools and DAGs", f"{{{ADMIN},%s}}", ROWS),
     ("a role", f'{{"roles":[{{"name":"R","actions":[{{"action":{{"name":%s}}}}]}}],{ADMIN}}}', OF_A_ROLE),
     ("a DAG", f'{{{ADMIN},"dags":[{{"dag_id":"a",%s,"tasks":[{TASK}]}}]}}', OF_A_DAG),
     ("tasks", f'{{{ADMIN},"pools":[{{"name":"p","slots":1}}],"dags":[{{"dag_id":"a","tasks":[%s]}}]}}', TASKS),
@@ -206,6 +249,7 @@ WORDS = [
     (["once", BASE + "x", NOW], ended("unreadable")),
     *((["serve", BASE + "x", *it], ended("unreadable")) for it in (["0", "1"], ["65535", "16"], ["008080", "04"])),
     (["verify", BASE], ended("trace")),
+    *((["verify", it], ended("unreadable")) for it in (BASE + "x", os.path.join(TOP, NOW), "")),
 ]
 
 

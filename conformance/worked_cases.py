@@ -3,8 +3,8 @@
 A connection is its title, what the program has to have, the moment, members that the configuration has in place of its own, and the steps
 (worked_rows.exchanges). Those of bodies stand in worked_bodies.py, those of denials at a DAG in worked_denials.py and those of backfills in
 worked_backfills.py, which are among these; those of event logs in worked_logs.py, those of roles and users in worked_policies.py and worked_faults.py, and
-those of permissions on the runs of one DAG in worked_run_pairs.py. Rows that are added, changed and deleted are in worked_stories.py and worked_accounts.py, lists in worked_lists.py, and paths in worked_paths.py; these are
-among them too.
+those of permissions on the runs of one DAG in worked_run_pairs.py, and what is hidden in worked_hidden.py. Rows that are added, changed and deleted are in
+worked_stories.py and worked_accounts.py, lists in worked_lists.py, and paths in worked_paths.py; these are among them too.
 """
 from worked_accounts import ACCOUNTS
 from worked_backfills import BACKFILLS

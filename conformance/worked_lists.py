@@ -1,6 +1,8 @@
 """Connections over examples/base.json whose answers were worked out by hand: pages of lists, long lists, rows in their order, and histories that are full.
 Their form is that of worked_cases.py.
 """
+import json
+
 from worked_bodies import SECOND
 from worked_rows import MIDNIGHT, NOW, dag_row, instance_row, listed, pool_row, run_row, variable_row
 from worked_stories import RUN_OF_F, TASK
@@ -26,6 +28,20 @@ GRANTING = {
     ],
 }
 UNSORTED = {"variables": [{"key": "b", "value": "1"}, {"key": "B", "value": ""}, {"key": "a", "value": "\u00e9"}]}
+# A schedule, its start date, and the first point at or after it, if there is one.
+STARTS = [
+    ("@hourly", "2024-02-28T23:00:00.000001Z", "2024-02-29T00:00:00+00:00"),
+    ("@daily", "2024-02-29T00:00:00Z", "2024-02-29T00:00:00+00:00"),
+    ("@weekly", "2024-01-01T00:00:00Z", "2024-01-07T00:00:00+00:00"),
+    ("@monthly", "2024-01-01T00:00:01Z", "2024-02-01T00:00:00+00:00"),
+    (7, "2024-01-01T00:00:01.5Z", "2024-01-01T00:00:01.500000+00:00"),
+    ("@monthly", "9998-12-31T00:00:00Z", None),
+]
+STARTING = {"dags": [{"dag_id": f"d{n}", "schedule": it, "start_date": start, "is_paused": True, "tasks": ONE_TASK} for n, (it, start, _) in enumerate(STARTS)]}
+FIRST_POINTS = [
+    dag_row(f"d{n}", "true").replace('"next_dagrun":null,"schedule_interval":null', f'"next_dagrun":{json.dumps(first)},"schedule_interval":{json.dumps(it)}')
+    for n, (it, _, first) in enumerate(STARTS)
+]
 
 
 def of_task(row, task):
@@ -33,6 +49,9 @@ def of_task(row, task):
 
 
 LISTS = [
+    ("the first point of each schedule, of DAGs that are paused", "landed", NOW, STARTING, [
+        ("vera", "GET /dags", "", 200, listed("dags", 6, *FIRST_POINTS), 0),
+    ]),
     ("pages of runs, by odd queries", "baseline,pages", NOW, {}, [
         *(("uma", f"POST /dags/{dag}/dagRuns", f'{{"dag_run_id":"r{n}","logical_date":"2024-01-0{n}T00:00:00Z"}}', 200,
            run_row(dag, f"r{n}", f"2024-01-0{n}T00:00:00+00:00"), n) for n, dag in enumerate("abbab", 1)),

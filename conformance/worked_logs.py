@@ -2,7 +2,7 @@
 
 Their form is that of worked_cases.py.
 """
-from worked_rows import ENDED, NOW, T1
+from worked_rows import ENDED, MIDNIGHT, NOW, T1
 from worked_rows import dag_row, entry_row, listed, new_role, new_user, pairs_text, pool_row, role_row, roles_alone, run_row, user_row, variable_row
 
 ON, OFF = '{"is_paused":true}', '{"is_paused":false}'
@@ -17,6 +17,15 @@ FIFTEEN = [
     *["post_variable", "patch_variable", "delete_variable"],
 ]
 ENTRIES = [entry_row(n, it.split(" ")[0], "uma" if " b" in it else "adam", *it.split(" ")[1:]) for n, it in enumerate(FIFTEEN, 1)]
+THIRD, FOURTH = "2024-01-03T00:00:00.000001+00:00", "2024-01-04T00:00:00+00:00"
+MANUAL, ALL = f"manual__{MIDNIGHT}", '"dry_run":false,"only_failed":false'
+# What is asked of b, and which run its entry names: of a trigger the one that it added, of a clear the one that its body names.
+NAMED = [
+    *[f"trigger_dag_run {MANUAL}", "trigger_dag_run x:1", f"trigger_dag_run manual__{THIRD}", "trigger_dag_run ~~", f"trigger_dag_run manual__{FOURTH}"],
+    *[f"patch_dag_run {MANUAL}", "clear_task_instances null", f"patch_dag_run {MANUAL}", f"clear_task_instances {MANUAL}", f"delete_dag_run {MANUAL}"],
+]
+OF_NAMED = [entry_row(n, it.split(" ")[0], "uma", "b", it.split(" ")[1]) for n, it in enumerate(NAMED, 1)]
+OF_MANUAL = f'{{"task_instances":[{{"dag_id":"b","dag_run_id":"{MANUAL}","logical_date":"{MIDNIGHT}","task_id":"t"}}]}}'
 OF_ANN = [entry_row(2, "patch_dag", "uma", "b", version=2), entry_row(3, "post_variable", "adam", version=2), entry_row(5, "patch_dag", "uma", "b", version=2)]
 
 LOGS = [
@@ -43,6 +52,20 @@ LOGS = [
         ("adam", "GET /eventLogs", "", 200, listed("event_logs", 1, entry_row(1, "trigger_dag_run", "uma", "c", "x:1", when=T1)), 1),
         ("uma", "POST /dags/b/dagRuns", "{}", 200, run_row("b", f"manual__{T1}", T1), 2),
         ("adam", "GET /eventLogs?offset=1", "", 200, listed("event_logs", 2, entry_row(2, "trigger_dag_run", "uma", "b", f"manual__{T1}", when=T1)), 2),
+    ]),
+    ("the runs that entries name", "landed", NOW, {}, [
+        ("uma", "POST /dags/b/dagRuns", "{}", 200, run_row("b", MANUAL, MIDNIGHT), 1),
+        ("uma", "POST /dags/b/dagRuns", f'{{"dag_run_id":"x:1","logical_date":"{SECOND}"}}', 200, run_row("b", "x:1", SECOND), 2),
+        ("uma", "POST /dags/b/dagRuns", f'{{"logical_date":"{THIRD}"}}', 200, run_row("b", f"manual__{THIRD}", THIRD), 3),
+        ("uma", "POST /dags/b/dagRuns", '{"dag_run_id":"x:1"}', 409, "run exists: x:1", 3),
+        ("uma", "POST /dags/b/dagRuns", '{"dag_run_id":"~~","logical_date":"2024-01-05T00:00:00Z"}', 200, run_row("b", "~~", "2024-01-05T00:00:00+00:00"), 4),
+        ("uma", "POST /dags/b/dagRuns", f'{{"execution_date":"{FOURTH}"}}', 200, run_row("b", f"manual__{FOURTH}", FOURTH), 5),
+        ("uma", f"PATCH /dags/b/dagRuns/{MANUAL}", '{"state":"failed"}', 200, run_row("b", MANUAL, MIDNIGHT, "failed", ENDED), 6),
+        ("uma", CLEAR, f'{{{ALL},"task_ids":["t"],"end_date":"{MIDNIGHT}"}}', 200, OF_MANUAL, 7),
+        ("uma", f"PATCH /dags/b/dagRuns/{MANUAL}", '{"state":"failed"}', 200, run_row("b", MANUAL, MIDNIGHT, "failed", ENDED), 8),
+        ("uma", CLEAR, f'{{{ALL},"dag_run_id":"{MANUAL}"}}', 200, OF_MANUAL, 9),
+        ("uma", f"DELETE /dags/b/dagRuns/{MANUAL}", "", 204, "", 10),
+        ("adam", "GET /eventLogs", "", 200, listed("event_logs", 10, *OF_NAMED), 10),
     ]),
     ("each kind of entry, and what adds none", "baseline,pages,audit", NOW, {}, [
         ("uma", "PATCH /dags/b", ON, 200, dag_row("b", "true"), 1),

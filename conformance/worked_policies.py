@@ -1,9 +1,10 @@
-"""Connections over examples/base.json whose answers were worked out by hand: roles, users, who am I, sync; and all of this kind, with event logs, faults and
-permissions on the runs of one DAG.
+"""Connections over examples/base.json whose answers were worked out by hand: roles, users, who am I, sync; and all of this kind, with event logs, faults,
+permissions on the runs of one DAG, and what is hidden.
 
 Their form is that of worked_cases.py.
 """
 from worked_faults import FAULTS
+from worked_hidden import HIDDEN
 from worked_logs import LOGS
 from worked_rows import ADMIN, NOW, OP, USER, VIEWER
 from worked_rows import dag_row, listed, me_row, new_role, role_row, roles_alone, synced, user_row
@@ -136,4 +137,4 @@ POLICIES = [
     ]),
 ]  # fmt: skip
 
-CONNECTIONS = LOGS + POLICIES + FAULTS + RUN_PAIRS
+CONNECTIONS = LOGS + POLICIES + FAULTS + RUN_PAIRS + HIDDEN

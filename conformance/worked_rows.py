@@ -29,11 +29,14 @@ def request(name, asked, body=""):
     return (head + (f"Content-Length: {len(body.encode())}\r\n" if body else "") + "\r\n" + body).encode()
 
 
+def problem(status, detail):
+    """The body of a fault."""
+    return f'{{"detail":{json.dumps(detail, ensure_ascii=False)},"status":{status},"title":"{REASONS[status]}","type":"about:blank"}}'
+
+
 def answer(asked, status, told, version, seq):
     """The bytes of an answer: a body, or the detail of a fault; of a 405 the methods that the path has. No version or number where that is none."""
-    detail = "method not allowed" if status == 405 else told
-    problem = f'{{"detail":{json.dumps(detail, ensure_ascii=False)},"status":{status},"title":"{REASONS[status]}","type":"about:blank"}}'
-    body = (told if status < 300 else problem).encode()
+    body = (told if status < 300 else problem(status, "method not allowed" if status == 405 else told)).encode()
     kind = "application/json" if status < 300 else "application/problem+json"
     fields = [] if status == 204 else [f"Content-Type: {kind}", f"Content-Length: {len(body)}"]
     fields += [f"Allow: {told}"] if status == 405 else ["WWW-Authenticate: Bearer"] if status == 401 else []
