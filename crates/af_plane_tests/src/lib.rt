@@ -1,4 +1,4 @@
-//! What the ledger, worlds, the plane and the server for one thread tell of calls, ticks, claims and reports.
+//! What sessions over one plane see of one another, and what stands after a request for which there may be no memory.
 #![tactic(auto)]
 
 #[cfg(test)]

@@ -1,16 +1,8 @@
 mod asserts;
-mod changes;
-mod grants;
-mod history;
 mod listing;
 mod openings;
-mod reads;
 mod role;
 mod steps;
-mod stories;
-mod syncs;
 mod tables;
 mod telling;
-mod told;
-mod versions;
-mod words;
+mod tokens;

@@ -1,5 +1,4 @@
-//! Whole connections under configurations, what the program says, why configurations are refused, and traces that agree, differ or
-//! are refused.
+//! Workers over loopback, a connection in pieces, files that fail, and what there is no memory for.
 #![tactic(auto)]
 
 #[cfg(test)]

@@ -1,21 +1,11 @@
-//! Whole connections under the sample configuration, byte for byte, in pieces, with readers and writers that fail, and over loopback; and reasons for which
-//! a configuration is refused.
+//! A whole connection under the sample configuration, in pieces; workers over loopback; files that fail, and what there is no memory for. What a request,
+//! a configuration, a trace or the words of a call show is not tested here: conformance plays it.
 mod asserts;
-mod backfills;
-mod calls;
 mod configurations;
 mod connections;
-mod consoles;
-mod faults;
-mod hidden;
-mod histories;
+mod files;
 mod loopback;
-mod many;
 mod memory;
-mod programs;
-mod rows;
-mod traces;
-mod verifying;
 
 use af_http::{Counted, Ended};
 use af_names::Instant;

@@ -66,7 +66,7 @@ pub fn report_fault(rt: &impl Abort, alloc: Global, report: &mut Report<'_>, fau
         report.add_version(rt, alloc, mark.version());
     }
     match fault.told() {
-        Refusal::Refused(fault) => report_change_fault(report, &fault),
+        Refusal::Refused(ChangeFault::Exists) => report.add("exists"),
         Refusal::Moved(version) => {
             report.add_number(rt, alloc, "moved to version ", version as usize);
         }
@@ -80,30 +80,9 @@ fn word_of(rt: &impl Abort, refusal: &Refusal) -> &'static str {
     has_memory(rt, !matches!(refusal, Refusal::OutOfMemory), "a change");
     match refusal {
         Refusal::NotFound => "not found",
-        Refusal::Unauthenticated => "unauthenticated",
         Refusal::Denied(_) => "denied",
-        Refusal::BadBody(_) => "bad body",
         Refusal::Full => "no place is left",
         _ => "no such report",
-    }
-}
-
-/// Reports an error of a change, with the text that it names.
-fn report_change_fault(report: &mut Report<'_>, fault: &ChangeFault) {
-    match fault {
-        ChangeFault::BadAction(text) => {
-            report.add("bad action: ");
-            report.add(text.as_str());
-        }
-        ChangeFault::UnknownRole(name) => {
-            report.add("unknown role: ");
-            report.add(name.as_str());
-        }
-        ChangeFault::DefaultRole => report.add("default role"),
-        ChangeFault::RoleInUse => report.add("role in use"),
-        ChangeFault::LastAdmin => report.add("last admin"),
-        ChangeFault::Exists => report.add("exists"),
-        _ => report.add("no such report"),
     }
 }
 

@@ -1,15 +1,21 @@
-//! Policies as they open, put together row by row: what is added, or why it is not.
+//! A policy as it opens, put together row by row.
 use crate::tests::asserts::{has_memory, row_holds};
 use crate::tests::role::permissions::role_of;
 use crate::tests::steps::{Pairs, Roles};
-use crate::tests::words::{
-    ADAM, ADAMS, ADMIN, BOB, BOBS, CAN_EDIT, CAN_READ, DAG_B, EDIT_B, EDNA, EDNAS, FIVE, ONLY_B,
-    PAT, PATS, POOLS, PUBLIC, VERA, VERAS, VIEWER,
-};
 use af_names::{Name, NameKind, UserName};
 use af_policy::{FinishFault, Policy, PolicyDraft, RowFault, User};
 use std::alloc::Global;
 use std::process::Abort;
+
+pub const ADAMS: &str = "admin";
+
+pub const VERAS: &str = "test";
+
+pub const BOBS: &str = "foo";
+
+pub const PATS: &str = "bar";
+
+pub const EDNAS: &str = "hello";
 
 /// The SHA-256 of `admin`.
 const OF_ADAM: [u8; 32] = [
@@ -54,7 +60,7 @@ const DIGESTS: &[(&str, [u8; 32])] = &[
 ];
 
 /// The digest of a token; of any other text one that is nobody's.
-pub fn digest_of(token: &str) -> [u8; 32] {
+fn digest_of(token: &str) -> [u8; 32] {
     for (text, digest) in DIGESTS {
         if *text == token {
             return *digest;
@@ -74,106 +80,55 @@ pub fn names<K: NameKind>(rt: &impl Abort, alloc: Global, texts: &[&str]) -> Vec
 }
 
 /// The user of this name, this digest and these roles.
-pub fn user_of(
-    rt: &impl Abort,
-    alloc: Global,
-    name: &str,
-    digest: [u8; 32],
-    roles: &[&str],
-) -> User {
+fn user_of(rt: &impl Abort, alloc: Global, name: &str, digest: [u8; 32], roles: &[&str]) -> User {
     let name = UserName::parse(alloc, name).expect(rt, "the name of a user");
     User::new(name, digest, names(rt, alloc, roles))
 }
 
 /// What is added to a policy that opens.
 #[derive(Clone, Copy)]
-pub enum Row {
+enum Row {
     /// A role with these permissions.
     Role(&'static str, Pairs),
     /// A user, with a token and roles.
     User(&'static str, &'static str, Roles),
-    /// The role of a number.
-    RoleOfNumber,
-    /// The user of a number below 2^24, whose three bytes stand behind the first of the digest.
-    UserOfNumber,
 }
-
-/// What it is part of, in words; what is added; how often, with the numbers from 0 on; and why each is not added.
-pub type Added = (&'static str, Row, u32, Option<RowFault>);
-
-/// adam, the one Admin.
-pub const ADAM_ALONE: Added = (ADAM, Row::User(ADAM, ADAMS, &[ADMIN]), 1, None);
 
 /// vera is a Viewer, bob reads the DAG b, adam is the one Admin, pat has no permission, edna is a Viewer who edits b. The users
 /// stand in another order than that of their names.
-pub const THE_FIVE: &[Added] = &[
-    (FIVE, Row::Role(ONLY_B, &[(CAN_READ, DAG_B)]), 1, None),
-    (FIVE, Row::Role(EDIT_B, &[(CAN_EDIT, DAG_B)]), 1, None),
-    (FIVE, Row::User(VERA, VERAS, &[VIEWER]), 1, None),
-    (FIVE, Row::User(BOB, BOBS, &[ONLY_B]), 1, None),
-    ADAM_ALONE,
-    (FIVE, Row::User(PAT, PATS, &[PUBLIC]), 1, None),
-    (FIVE, Row::User(EDNA, EDNAS, &[VIEWER, EDIT_B]), 1, None),
+const THE_FIVE: &[Row] = &[
+    Row::Role("OnlyB", &[("can_read", "DAG:b")]),
+    Row::Role("EditB", &[("can_edit", "DAG:b")]),
+    Row::User("vera", VERAS, &["Viewer"]),
+    Row::User("bob", BOBS, &["OnlyB"]),
+    Row::User("adam", ADAMS, &["Admin"]),
+    Row::User("pat", PATS, &["Public"]),
+    Row::User("edna", EDNAS, &["Viewer", "EditB"]),
 ];
 
-/// A word, and a number behind it.
-fn numbered(rt: &impl Abort, alloc: Global, word: &str, number: u32) -> String {
-    format!(in alloc; "{word} {number}").expect(rt, "the text of a number")
-}
-
-/// A digest that no other number has.
-fn member_digest(number: u32) -> [u8; 32] {
-    let mut digest: [u8; 32] = [255; 32];
-    let bytes = number.to_be_bytes();
-    digest[1] = bytes[1];
-    digest[2] = bytes[2];
-    digest[3] = bytes[3];
-    digest
-}
-
-/// Adds what a row says, of a number: why it is not added.
-fn fault_of(
-    rt: &impl Abort,
-    alloc: Global,
-    draft: &mut PolicyDraft,
-    row: Row,
-    number: u32,
-) -> Option<RowFault> {
+/// Adds what a row says: why it is not added.
+fn fault_of(rt: &impl Abort, alloc: Global, draft: &mut PolicyDraft, row: Row) -> Option<RowFault> {
     match row {
         Row::Role(name, pairs) => draft.add_role(role_of(rt, alloc, name, pairs)).err(),
-        Row::RoleOfNumber => {
-            let name = numbered(rt, alloc, "role", number);
-            let role = role_of(rt, alloc, name.as_str(), &[(CAN_READ, POOLS)]);
-            drop(name);
-            draft.add_role(role).err()
-        }
         Row::User(name, token, roles) => {
             let user = user_of(rt, alloc, name, digest_of(token), roles);
             draft.add_user(alloc, user).err()
         }
-        Row::UserOfNumber => {
-            let name = numbered(rt, alloc, "user", number);
-            let user = user_of(rt, alloc, name.as_str(), member_digest(number), &[VIEWER]);
-            drop(name);
-            draft.add_user(alloc, user).err()
-        }
     }
 }
 
-/// Adds what these rows say, in their order: each is added or refused as it says.
-fn fill(rt: &impl Abort, alloc: Global, draft: &mut PolicyDraft, rows: &[Added]) {
-    for (place, (what, row, times, wanted)) in rows.iter().enumerate() {
-        for number in 0..*times {
-            let fault = fault_of(rt, alloc, draft, *row, number);
-            has_memory(rt, fault != Some(RowFault::OutOfMemory), what);
-            row_holds(rt, fault == *wanted, what, place);
-        }
+/// Adds what these rows say, in their order.
+fn fill(rt: &impl Abort, alloc: Global, draft: &mut PolicyDraft, rows: &[Row]) {
+    for (place, row) in rows.iter().enumerate() {
+        let fault = fault_of(rt, alloc, draft, *row);
+        has_memory(rt, fault != Some(RowFault::OutOfMemory), "the five");
+        row_holds(rt, fault.is_none(), "the five", place);
     }
 }
 
-/// What comes of a draft with these rows.
-pub fn finished(rt: &impl Abort, alloc: Global, rows: &[Added]) -> Result<Policy, FinishFault> {
+/// What comes of a draft with the five users.
+pub fn finished(rt: &impl Abort, alloc: Global) -> Result<Policy, FinishFault> {
     let mut draft = PolicyDraft::new(alloc).expect(rt, "a draft of a policy");
-    fill(rt, alloc, &mut draft, rows);
+    fill(rt, alloc, &mut draft, THE_FIVE);
     draft.finish(alloc)
 }

@@ -10,8 +10,3 @@ pub fn story_holds(rt: &impl Abort, told: usize, rows: usize, what: &str) {
 pub fn holds(rt: &impl Abort, holds: bool, what: &str) {
     assert!(rt; holds, "{what}");
 }
-
-/// Ends the test where other versions are told.
-pub fn are_told(rt: &impl Abort, told: &[u32], versions: &[u32]) {
-    assert_eq!(rt; told, versions);
-}

@@ -1,13 +1,12 @@
-//! What others publish on the board of a plane: between a look and its act, and between two drafts of one base.
+//! What others publish on the board of a plane, between a look and its act.
 ghost use Rattle.af_plane.specs.Looks.{IsOn};
 
-mod drafts;
 mod looks;
 
 use crate::tests::plane::asserts::holds;
 use crate::tests::plane::calls::{Asked, policy_op};
-use crate::tests::plane::playing::token;
 use crate::tests::plane::told::{Row, is_told};
+use crate::tests::plane::users::token;
 use af_audit::Presented;
 use af_board::Board;
 use af_ops::Served;
@@ -41,26 +40,4 @@ pub fn administered(
     let gave = session.administer(rt, alloc, board, presented.as_ref(), &op);
     drop(op);
     Ok(gave)
-}
-
-/// How many of these rows a session is told, up to the first that it is not.
-pub fn played(
-    rt: &impl Wait,
-    alloc: Global,
-    board: &Board,
-    session: &mut Session,
-    rows: &[Row],
-) -> Result<usize, Fail>
-    requires { IsOn board.now session.old }
-    ensures { IsOn board.now session.new }
-{
-    for (place, row) in rows.iter().enumerate() {
-        let gave = administered(rt, alloc, board, session, row.0)?;
-        let told = is_told(&gave, *row);
-        drop(gave);
-        if !told? {
-            return Ok(place);
-        }
-    }
-    Ok(rows.len())
 }

@@ -1,11 +1,10 @@
 //! A control and two sessions over it: what each call of the one leaves the other to see. The sessions are in one thread; or each is in a thread
-//! of its own, and they ask in turns; or each call is in a thread of its own, which ends before the next call.
+//! of its own, and they ask in turns.
 ghost use Rattle.std.specs.Prelude.{◌≡◌};
 ghost use Rattle.af_plane.specs.Names.{IsOfName};
 
 mod apart;
 pub mod asking;
-mod joined;
 pub mod last_entry;
 pub mod pair;
 pub mod playing;
@@ -17,7 +16,6 @@ use crate::tests::plane::opening::{Dags, opened};
 use crate::tests::plane::users::OF_SAMPLE;
 use af_plane::{Named, Parts};
 use apart::{STORIES, Story, told_apart};
-use joined::told_joined;
 use last_entry::{FIRST, SECOND, told_of_last};
 use pair::Pair;
 use playing::{Row, played};
@@ -62,16 +60,6 @@ fn play_apart<R: Threads + Wait + Sync>(
     Ok((first?, second?))
 }
 
-/// How many rows go as they say, where each call is in a thread of its own, over the sample. The name is picked here.
-fn play_joined<R: Threads + Wait + Sync>(
-    rt: &R,
-    alloc: Global,
-    story: Story,
-) -> Result<usize, Fail> {
-    let parts = parts(alloc, 20)?;
-    Ok(told_joined::<Brand, R>(rt, alloc, parts, story)?)
-}
-
 /// What two threads are told that make a change where there is room for one entry. The name is picked here.
 fn play_last<R: Threads + Wait + Sync>(rt: &R, alloc: Global) -> Result<last_entry::Told, Fail> {
     let parts = parts(alloc, 1)?;
@@ -100,15 +88,6 @@ fn what_a_session_does_is_seen_in_another_thread(rt: HostRuntime) -> Result<(), 
         let (first, second) = play_apart(&rt, rt.alloc(), story)?;
         story_holds(&rt, first, of_first, "the first session");
         story_holds(&rt, second, of_second, "the second session");
-    }
-    Ok(())
-}
-
-#[test]
-fn what_a_thread_does_is_seen_in_the_next(rt: HostRuntime) -> Result<(), Fail> {
-    for (story, _, _) in STORIES.iter().copied() {
-        let told = play_joined(&rt, rt.alloc(), story)?;
-        story_holds(&rt, told, story.rows().len(), "a thread for each call");
     }
     Ok(())
 }

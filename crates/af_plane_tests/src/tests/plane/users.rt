@@ -19,7 +19,7 @@ pub struct Users {
     roles: &'static [OnB],
 }
 
-/// Who asks a plane, or the server for one thread: each user's name is the token.
+/// Who asks a plane: each user's name is the token.
 pub const OF_PLANES: Users = Users {
     named: &[
         ("adam", "adam", &["Admin"]),
@@ -28,19 +28,6 @@ pub const OF_PLANES: Users = Users {
         ("vera", "vera", &["Viewer"]),
     ],
     roles: &[],
-};
-
-/// Who asks in a world.
-pub const OF_WORLDS: Users = Users {
-    named: &[
-        ("adam", "admin", &["Admin"]),
-        ("zoe", "password", &["Admin"]),
-        ("vera", "test", &["Viewer"]),
-        ("bob", "foo", &["OnlyB"]),
-        ("pat", "bar", &["Public"]),
-        ("uma", "abc", &["User"]),
-    ],
-    roles: &[("OnlyB", Action::Read, false)],
 };
 
 /// Who asks under the sample configuration.
@@ -164,4 +151,13 @@ fn draft(alloc: Global, users: Users) -> Result<PolicyDraft, Fail> {
 pub fn policy(alloc: Global, users: Users) -> Result<Policy, Fail> {
     let draft = draft(alloc, users)?;
     Ok(draft.finish(alloc)?)
+}
+
+/// The token of a user, or none for nobody.
+pub fn token(who: &str) -> Option<&[u8]> {
+    if who.is_empty() {
+        None
+    } else {
+        Some(who.as_bytes())
+    }
 }

@@ -1,6 +1,5 @@
 use crate::tests::asserts::holds;
 use crate::tests::telling::Telling;
-use crate::tests::words::NO_SUCH_PERMISSION;
 use af_names::RoleName;
 use af_role::{Action, Actions, Pair, Permissions, Resource, Role};
 use std::alloc::Global;
@@ -46,7 +45,7 @@ fn permissions_of(rt: &impl Abort, alloc: Global, texts: &[(&str, &str)]) -> Per
 pub fn role_of(rt: &impl Abort, alloc: Global, name: &str, texts: &[(&str, &str)]) -> Role {
     let name = RoleName::parse(alloc, name).expect(rt, "the name of a role");
     let permissions = permissions_of(rt, alloc, texts);
-    holds(rt, permissions.len() == texts.len(), NO_SUCH_PERMISSION);
+    holds(rt, permissions.len() == texts.len(), "no such permission");
     Role::new(name, permissions)
 }
 

@@ -2,7 +2,6 @@ use super::permissions::role_of;
 use crate::tests::asserts::{has_memory, row_holds};
 use crate::tests::steps::{Access, access};
 use crate::tests::telling::Telling;
-use crate::tests::words::{BLANK, COLON};
 use af_names::DagId;
 use af_role::{AccessControl, Role, SyncFault, sync_access};
 use std::alloc::Global;
@@ -118,9 +117,9 @@ fn copied(rt: &impl Abort, alloc: Global, rows: Option<Access>) -> Option<Access
 fn tell_roles(rt: &impl Abort, alloc: Global, telling: &mut Telling<'_>, roles: &[Role]) {
     for role in roles {
         telling.tell(role.name().as_str());
-        telling.tell(COLON);
+        telling.tell(": ");
         telling.tell_permissions(rt, alloc, role.permissions());
-        telling.tell(BLANK);
+        telling.tell(" ");
     }
 }
 

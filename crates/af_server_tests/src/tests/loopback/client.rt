@@ -1,5 +1,5 @@
 //! What a client sends and gets.
-use af_server::{Port, Ports};
+use af_server::{Listener, Ports};
 use std::alloc::Global;
 use std::io;
 use std::io::{Read, Write};
@@ -7,26 +7,26 @@ use std::net::{IpAddr, Ipv4Addr, Net, Shutdown, SocketAddr, TcpStream};
 use std::time::Duration;
 
 /// For how many seconds a client waits for an answer.
-const PATIENCE: u64 = 20;
+const TIME: u64 = 20;
 
-/// A port of its own.
-pub fn port<R: Ports>(rt: &R) -> io::Result<Port> {
+/// A listener at a port of its own.
+pub fn listener<R: Ports>(rt: &R) -> io::Result<Listener> {
     match rt.listen(0) {
-        Ok(port) => Ok(port),
+        Ok(listener) => Ok(listener),
         Err(error) => Err(io::Error::from(error)),
     }
 }
 
-/// Where a port is.
-pub fn address(port: &Port) -> SocketAddr {
+/// Where a listener is.
+pub fn address(listener: &Listener) -> SocketAddr {
     let local = IpAddr::V4(Ipv4Addr::new(127, 0, 0, 1));
-    SocketAddr::new(local, port.number())
+    SocketAddr::new(local, listener.port())
 }
 
 /// A connection to a server.
 pub fn connected<R: Net<Stream = TcpStream>>(rt: &R, server: SocketAddr) -> io::Result<TcpStream> {
     let stream = TcpStream::connect(rt, server)?;
-    stream.set_read_timeout(Some(Duration::from_secs(PATIENCE)))?;
+    stream.set_read_timeout(Some(Duration::from_secs(TIME)))?;
     Ok(stream)
 }
 

@@ -1,10 +1,10 @@
 //! Bytes of answers through real sockets, and what two connections see of one another.
 use crate::tests::loopback::client::{
-    address, comes, comes_last, connected, port, send, send_last,
+    address, comes, comes_last, connected, listener, send, send_last,
 };
 use crate::tests::loopback::running::beside;
 use crate::tests::loopback::texts::{
-    ADAM_ASKS_DAGS, ASKS_DAGS, ASKS_VERSION, DAGS, DAGS_SINCE, DEMOTED, DEMOTES, NO_DAGS, VERSION,
+    ADAM_ASKS_DAGS, ASKS_DAGS, DAGS, DAGS_SINCE, DEMOTED, DEMOTES, NO_DAGS,
 };
 use af_server::{Open, Workers};
 use std::alloc::Global;
@@ -22,27 +22,6 @@ pub fn is_told(alloc: Global, stream: &TcpStream, request: &str, told: &str) -> 
 fn is_told_last(alloc: Global, stream: &TcpStream, request: &str, told: &str) -> io::Result<bool> {
     send_last(stream, request.as_bytes())?;
     comes_last(alloc, stream, told)
-}
-
-/// Two requests on one connection.
-fn asks_twice<R: Net<Stream = TcpStream>>(
-    rt: &R,
-    alloc: Global,
-    server: SocketAddr,
-) -> io::Result<bool> {
-    let stream = connected(rt, server)?;
-    let dags = is_told(alloc, &stream, ASKS_DAGS, DAGS)?;
-    let version = is_told_last(alloc, &stream, ASKS_VERSION, VERSION)?;
-    Ok(dags && version)
-}
-
-#[test]
-fn answers_come_byte_for_byte(rt: HostRuntime) -> Result<(), Fail> {
-    let (alloc, port) = (rt.alloc(), port(&rt)?);
-    let server = address(&port);
-    let workers = Workers::new(Open, 1);
-    let clients = || asks_twice(&rt, alloc, server);
-    beside(&rt, alloc, &workers, &port, 1, clients, 1)
 }
 
 /// adam's connection is the first, vera's the second.
@@ -67,9 +46,9 @@ fn both_demote<R: Net<Stream = TcpStream>>(
 
 #[test]
 fn a_version_decides_what_is_asked_next_on_another_connection(rt: HostRuntime) -> Result<(), Fail> {
-    let (alloc, port) = (rt.alloc(), port(&rt)?);
-    let server = address(&port);
+    let (alloc, listener) = (rt.alloc(), listener(&rt)?);
+    let server = address(&listener);
     let workers = Workers::new(Open, 2);
     let clients = || both_demote(&rt, alloc, server);
-    beside(&rt, alloc, &workers, &port, 1, clients, 2)
+    beside(&rt, alloc, &workers, &listener, 1, clients, 2)
 }

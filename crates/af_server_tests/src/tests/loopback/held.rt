@@ -1,6 +1,6 @@
 //! An answer that is held holds no other worker's.
 use crate::tests::asserts::holds;
-use crate::tests::loopback::client::{address, asked, comes_last, port};
+use crate::tests::loopback::client::{address, asked, comes_last, listener};
 use crate::tests::loopback::holding::Holding;
 use crate::tests::loopback::running::beside;
 use crate::tests::loopback::texts::{ASKS_DAGS, ASKS_ME, DAGS, ME};
@@ -29,11 +29,11 @@ fn both<R: Net<Stream = TcpStream>>(
 /// A server that serves one connection after the other holds the second call for as long as the first.
 #[test]
 fn an_answer_waits_for_another_workers(rt: HostRuntime) -> Result<(), Fail> {
-    let (alloc, port, gate) = (rt.alloc(), port(&rt)?, Holding::new());
-    let server = address(&port);
+    let (alloc, listener, gate) = (rt.alloc(), listener(&rt)?, Holding::new());
+    let server = address(&listener);
     let workers = Workers::new(&gate, 2);
     let clients = || both(&rt, alloc, server, &gate);
-    beside(&rt, alloc, &workers, &port, 1, clients, 2)?;
+    beside(&rt, alloc, &workers, &listener, 1, clients, 2)?;
     holds(
         &rt,
         !gate.late.is_raised(),

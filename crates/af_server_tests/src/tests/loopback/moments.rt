@@ -1,5 +1,5 @@
 //! What one connection does is in the event logs that another reads, at the time of the clock.
-use crate::tests::loopback::client::{address, connected, port, rest, send_last};
+use crate::tests::loopback::client::{address, connected, listener, rest, send_last};
 use crate::tests::loopback::connections::is_told;
 use crate::tests::loopback::running::beside;
 use crate::tests::loopback::texts::{ASKS_B, ASKS_LOGS, PAUSED, PAUSES};
@@ -88,9 +88,9 @@ fn both_pause<R: Net<Stream = TcpStream> + Clock>(
 
 #[test]
 fn a_change_is_seen_on_another_connection(rt: HostRuntime) -> Result<(), Fail> {
-    let (alloc, port) = (rt.alloc(), port(&rt)?);
-    let server = address(&port);
+    let (alloc, listener) = (rt.alloc(), listener(&rt)?);
+    let server = address(&listener);
     let workers = Workers::new(Open, 2);
     let clients = || both_pause(&rt, alloc, server);
-    beside(&rt, alloc, &workers, &port, 1, clients, 2)
+    beside(&rt, alloc, &workers, &listener, 1, clients, 2)
 }

@@ -5,7 +5,9 @@ ghost use Rattle.af_plane.specs.Names.{IsOfName};
 use crate::tests::BASE;
 use crate::tests::asserts::holds;
 use af_plane::{Control, Named, Parts};
-use af_server::{Attendance, Configuration, Gate, Leave, Machine, Port, Shared, Workers};
+use af_server::{
+    Configuration, Gate, HostLog, Listener, Machine, Permits, Ports, Shared, WorkerReports, Workers,
+};
 use std::alloc::Global;
 use std::marker::Brand;
 use std::process::Abort;
@@ -14,32 +16,34 @@ use std::test::Fail;
 use std::thread::Threads;
 use std::{io, thread};
 
-/// What became of each worker, and what the clients met.
-type Ended = (Attendance, io::Result<bool>);
+/// What each worker reports, and what the clients met.
+type Ended<L> = (WorkerReports<L>, io::Result<bool>);
 
 /// Serves so many connections with each worker, while the clients do what they do.
 fn serve_shared<
     G: Gate + Sync,
     T,
     C: Shared<T> + Sync,
-    D: Leave<T> + Sync,
-    R: Threads + Wait + Machine + Sync,
+    P: Permits<T> + Sync,
+    R: Threads + Wait + Ports + Sync,
     F: FnOnce() -> io::Result<bool>,
 >(
     rt: &R,
     alloc: Global,
     shared: &C,
-    door: &D,
+    permits: &P,
     workers: &Workers<G>,
-    port: &Port,
+    listener: &Listener,
     connections: u32,
     clients: F,
-) -> Ended
+) -> Ended<R::Log>
+where
+    R::Log: Send,
     requires { F.pre clients }
 {
     thread::join(
         rt,
-        || workers.run(rt, alloc, shared, door, port, Some(connections)),
+        || workers.run(rt, alloc, shared, permits, listener, Some(connections)),
         clients,
     )
 }
@@ -48,29 +52,31 @@ fn serve_shared<
 fn serve<
     G: Gate + Sync,
     N: Named + Send + Sync,
-    R: Threads + Wait + Machine + Sync,
+    R: Threads + Wait + Ports + Sync,
     F: FnOnce() -> io::Result<bool>,
 >(
     rt: &R,
     alloc: Global,
     parts: Parts,
     workers: &Workers<G>,
-    port: &Port,
+    listener: &Listener,
     connections: u32,
     clients: F,
-) -> Ended
+) -> Ended<R::Log>
+where
+    R::Log: Send,
     requires board { parts.board ≡ N.name.site }
     requires plane { IsOfName N.name parts.plane }
     requires clients { F.pre clients }
 {
-    let (control, door) = Control::<N>::of(parts);
+    let (control, issuer) = Control::<N>::of(parts);
     serve_shared(
         rt,
         alloc,
         &control,
-        &door,
+        &issuer,
         workers,
-        port,
+        listener,
         connections,
         clients,
     )
@@ -90,11 +96,11 @@ fn parts(alloc: Global) -> Result<Parts, Fail> {
 }
 
 /// How many connections were served in all.
-fn sum(attendance: &Attendance) -> u64 {
+fn sum(reports: &WorkerReports<HostLog>) -> u64 {
     let mut sum = 0u64;
-    for seat in attendance.seats() {
-        if let Some(worker) = seat {
-            sum = sum.saturating_add(worker.connections());
+    for slot in reports.slots() {
+        if let Some(report) = slot {
+            sum = sum.saturating_add(report.count());
         }
     }
     sum
@@ -104,13 +110,13 @@ fn sum(attendance: &Attendance) -> u64 {
 /// do not meet what they should, or where another number of connections is served in all. The name of the control is picked here.
 pub fn beside<
     G: Gate + Sync,
-    R: Abort + Threads + Wait + Machine + Sync,
+    R: Abort + Threads + Wait + Machine<Log = HostLog> + Ports + Sync,
     F: FnOnce() -> io::Result<bool>,
 >(
     rt: &R,
     alloc: Global,
     workers: &Workers<G>,
-    port: &Port,
+    listener: &Listener,
     connections: u32,
     clients: F,
     total: u64,
@@ -118,17 +124,17 @@ pub fn beside<
     requires { F.pre clients }
 {
     let parts = parts(alloc)?;
-    let (attendance, met) = serve::<G, Brand, R, F>(
+    let (reports, met) = serve::<G, Brand, R, F>(
         rt,
         alloc,
         parts,
         workers,
-        port,
+        listener,
         connections,
         clients,
     );
-    let count = sum(&attendance);
-    drop(attendance);
+    let count = sum(&reports);
+    drop(reports);
     holds(rt, met?, "what the clients meet");
     holds(rt, count == total, "how many connections are served");
     Ok(())

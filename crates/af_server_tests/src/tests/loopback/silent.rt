@@ -1,5 +1,5 @@
 //! A peer that sends nothing does not keep its worker.
-use crate::tests::loopback::client::{address, asked, comes_last, connected, port};
+use crate::tests::loopback::client::{address, asked, comes_last, connected, listener};
 use crate::tests::loopback::running::beside;
 use crate::tests::loopback::texts::{ASKS_DAGS, DAGS};
 use af_server::{Open, Workers};
@@ -10,7 +10,7 @@ use std::test::*;
 use std::time::Duration;
 
 /// For how many milliseconds a peer is waited for.
-const PATIENCE: u64 = 200;
+const TIME: u64 = 200;
 
 /// A connection on which nothing is sent, and one on which something is: the first is closed without a byte, the second is answered.
 fn one_is_silent<R: Net<Stream = TcpStream>>(
@@ -27,9 +27,9 @@ fn one_is_silent<R: Net<Stream = TcpStream>>(
 
 #[test]
 fn a_silent_peer_is_left(rt: HostRuntime) -> Result<(), Fail> {
-    let (alloc, port) = (rt.alloc(), port(&rt)?);
-    let server = address(&port);
-    let workers = Workers::new(Open, 1).with_patience(Duration::from_millis(PATIENCE));
+    let (alloc, listener) = (rt.alloc(), listener(&rt)?);
+    let server = address(&listener);
+    let workers = Workers::new(Open, 1).with_time(Duration::from_millis(TIME));
     let clients = || one_is_silent(&rt, alloc, server);
-    beside(&rt, alloc, &workers, &port, 2, clients, 2)
+    beside(&rt, alloc, &workers, &listener, 2, clients, 2)
 }

@@ -1,19 +1,14 @@
 //! Requests and answers as they are on the wire.
 
-/// vera asks for the DAGs, and then without a token for the version.
+/// vera asks for the DAGs.
 pub const ASKS_DAGS: &str =
     "GET /api/v1/dags HTTP/1.1\r\nHost: h\r\nAuthorization: Bearer test\r\n\r\n";
-
-pub const ASKS_VERSION: &str = "GET /api/v1/version HTTP/1.1\r\nHost: h\r\n\r\n";
 
 /// bob asks who he is.
 pub const ASKS_ME: &str = "GET /own/me HTTP/1.1\r\nHost: h\r\nAuthorization: Bearer foo\r\n\r\n";
 
 pub const DAGS: &str =
     "HTTP/1.1 200 OK\r\nContent-Type: application/json\r\nContent-Length: 321\r\nX-Policy-Version: 0\r\nX-Plane-Seq: 0\r\n\r\n{\"dags\":[{\"dag_id\":\"a\",\"is_paused\":true,\"max_active_runs\":16,\"next_dagrun\":null,\"schedule_interval\":null},{\"dag_id\":\"b\",\"is_paused\":false,\"max_active_runs\":16,\"next_dagrun\":null,\"schedule_interval\":null},{\"dag_id\":\"c\",\"is_paused\":false,\"max_active_runs\":16,\"next_dagrun\":null,\"schedule_interval\":null}],\"total_entries\":3}";
-
-pub const VERSION: &str =
-    "HTTP/1.1 200 OK\r\nContent-Type: application/json\r\nContent-Length: 42\r\n\r\n{\"git_version\":null,\"version\":\"afplane 1\"}";
 
 pub const ME: &str =
     "HTTP/1.1 200 OK\r\nContent-Type: application/json\r\nContent-Length: 88\r\nX-Policy-Version: 0\r\n\r\n{\"permissions\":[\"DAG:b.can_read\"],\"policy_version\":0,\"roles\":[\"OnlyB\"],\"username\":\"bob\"}";

@@ -8,12 +8,12 @@ use crate::tests::plane::controls::pair::Who;
 use crate::tests::plane::controls::playing::{Row, Step};
 use crate::tests::plane::controls::rows::{DEMOTED, PAUSED_ONCE, READ_AGAIN, TRIGGERED};
 use crate::tests::plane::controls::turns::Turns;
-use crate::tests::plane::playing::token;
 use crate::tests::plane::told;
 use crate::tests::plane::told::is_shown;
+use crate::tests::plane::users::token;
 use af_names::Instant;
 use af_ops::Served;
-use af_plane::{Control, Door, Named, Parts, Visitor};
+use af_plane::{Control, SessionIssuer, Named, Parts, ControlSession};
 use std::alloc::{AllocError, Global};
 use std::sync::Wait;
 use std::thread;
@@ -72,7 +72,7 @@ trait Heard {
     ) -> Result<usize, AllocError>;
 }
 
-impl<N: Named> Heard for (Control<N>, Door<N>) {
+impl<N: Named> Heard for (Control<N>, SessionIssuer<N>) {
     fn told<R: Wait>(
         &self,
         rt: &R,
@@ -81,19 +81,19 @@ impl<N: Named> Heard for (Control<N>, Door<N>) {
         who: Who,
         story: Story,
     ) -> Result<usize, AllocError> {
-        let (control, door) = self;
+        let (control, issuer) = self;
         if !turns.comes(first_step(who)) {
             turns.end();
             return Ok(0);
         }
-        let mut visitor = control.session(rt, door.ticket());
+        let mut session = control.session(rt, issuer.permit());
         turns.done();
         let mut told = 0usize;
         for (row, step) in story.rows().iter().copied().zip(SESSIONS..) {
             if row.0 != who {
                 continue;
             }
-            let goes = goes_at(rt, alloc, control, &mut visitor, turns, step, row);
+            let goes = goes_at(rt, alloc, control, &mut session, turns, step, row);
             if goes != Ok(true) {
                 turns.end();
                 goes?;
@@ -111,12 +111,12 @@ fn goes_at<N: Named, R: Wait>(
     rt: &R,
     alloc: Global,
     control: &Control<N>,
-    visitor: &mut Visitor<N>,
+    session: &mut ControlSession<N>,
     turns: &Turns,
     step: usize,
     row: Row,
 ) -> Result<bool, AllocError> {
-    Ok(turns.comes(step) && goes(rt, alloc, control, visitor, row)?)
+    Ok(turns.comes(step) && goes(rt, alloc, control, session, row)?)
 }
 
 /// Whether an answer is what a row says.
@@ -132,7 +132,7 @@ fn is_told<N: Named, R: Wait>(
     rt: &R,
     alloc: Global,
     control: &Control<N>,
-    visitor: &mut Visitor<N>,
+    session: &mut ControlSession<N>,
     row: told::Row,
 ) -> Result<bool, AllocError> {
     let asked = row.0;
@@ -142,7 +142,7 @@ fn is_told<N: Named, R: Wait>(
     ) else {
         return Ok(false);
     };
-    let gave = answered(rt, alloc, control, visitor, token(asked.0), &call, at);
+    let gave = answered(rt, alloc, control, session, token(asked.0), &call, at);
     drop(call);
     let is_row = is_row(&gave, row);
     drop(gave);
@@ -154,13 +154,13 @@ pub fn goes<N: Named, R: Wait>(
     rt: &R,
     alloc: Global,
     control: &Control<N>,
-    visitor: &mut Visitor<N>,
+    session: &mut ControlSession<N>,
     row: Row,
 ) -> Result<bool, AllocError> {
     let (_, step, seen) = row;
     match step {
         Step::Ask(row) => {
-            Ok(is_told(rt, alloc, control, visitor, row)? && visitor.seen() == seen)
+            Ok(is_told(rt, alloc, control, session, row)? && session.seen() == seen)
         }
         _ => Ok(false),
     }

@@ -4,7 +4,7 @@ ghost use Rattle.af_plane.specs.Turns.{IsOfPlane};
 use af_audit::Presented;
 use af_names::Instant;
 use af_ops::{Call, PolicyOp, Served};
-use af_plane::{Control, Named, Request, Visitor};
+use af_plane::{Control, Named, Request, ControlSession};
 use std::alloc::Global;
 use std::sync::Wait;
 
@@ -13,14 +13,14 @@ pub fn answered<N: Named, R: Wait>(
     rt: &R,
     alloc: Global,
     control: &Control<N>,
-    visitor: &mut Visitor<N>,
+    session: &mut ControlSession<N>,
     token: Option<&[u8]>,
     call: &Call,
     at: Instant,
 ) -> Served {
     match call {
-        Call::Policy(asked) => administered(rt, alloc, control, visitor, token, asked),
-        Call::State(_) | Call::Entries(_) => turned(rt, alloc, control, visitor, token, call, at),
+        Call::Policy(asked) => administered(rt, alloc, control, session, token, asked),
+        Call::State(_) | Call::Entries(_) => turned(rt, alloc, control, session, token, call, at),
     }
 }
 
@@ -29,7 +29,7 @@ fn turned<N: Named, R: Wait>(
     rt: &R,
     alloc: Global,
     control: &Control<N>,
-    visitor: &mut Visitor<N>,
+    session: &mut ControlSession<N>,
     token: Option<&[u8]>,
     call: &Call,
     at: Instant,
@@ -42,7 +42,7 @@ fn turned<N: Named, R: Wait>(
         call,
         at,
     };
-    control.call(rt, alloc, visitor, &request)
+    control.call(rt, alloc, session, &request)
 }
 
 /// What is told on the board.
@@ -50,16 +50,16 @@ fn administered<N: Named, R: Wait>(
     rt: &R,
     alloc: Global,
     control: &Control<N>,
-    visitor: &mut Visitor<N>,
+    session: &mut ControlSession<N>,
     token: Option<&[u8]>,
     asked: &PolicyOp,
 ) -> Served {
     let presented = Presented::of(token);
     let token = presented.as_ref();
     match asked {
-        PolicyOp::Me => control.me(alloc, visitor, token),
-        PolicyOp::Read(asked) => control.read(alloc, visitor, token, asked),
-        PolicyOp::Unread(kind) => control.unread(alloc, visitor, token, *kind),
-        PolicyOp::Change(ask) => control.submit(rt, alloc, visitor, token, ask),
+        PolicyOp::Me => control.me(alloc, session, token),
+        PolicyOp::Read(asked) => control.read(alloc, session, token, asked),
+        PolicyOp::Unread(kind) => control.unread(alloc, session, token, *kind),
+        PolicyOp::Change(ask) => control.submit(rt, alloc, session, token, ask),
     }
 }

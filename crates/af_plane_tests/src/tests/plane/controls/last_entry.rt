@@ -5,11 +5,11 @@ ghost use Rattle.af_plane.specs.Names.{IsOfName};
 use crate::tests::plane::calls::{Asked, read_asked};
 use crate::tests::plane::controls::asking::answered;
 use crate::tests::plane::controls::rows::{B_PAUSED, C_PAUSED};
-use crate::tests::plane::playing::token;
 use crate::tests::plane::told::{Row, is_shown};
+use crate::tests::plane::users::token;
 use af_names::Instant;
 use af_ops::{Endpoint, Served, Status};
-use af_plane::{Control, Door, Named, Parts};
+use af_plane::{Control, SessionIssuer, Named, Parts};
 use std::alloc::{AllocError, Global};
 use std::sync::Wait;
 use std::thread;
@@ -104,7 +104,7 @@ pub trait Heard {
     ) -> Result<Option<Served>, AllocError>;
 }
 
-impl<N: Named> Heard for (Control<N>, Door<N>) {
+impl<N: Named> Heard for (Control<N>, SessionIssuer<N>) {
     fn given<R: Wait>(
         &self,
         rt: &R,
@@ -117,11 +117,11 @@ impl<N: Named> Heard for (Control<N>, Door<N>) {
         ) else {
             return Ok(None);
         };
-        let (control, door) = self;
-        let mut visitor = control.session(rt, door.ticket());
-        let gave = answered(rt, alloc, control, &mut visitor, token(asked.0), &call, at);
+        let (control, issuer) = self;
+        let mut session = control.session(rt, issuer.permit());
+        let gave = answered(rt, alloc, control, &mut session, token(asked.0), &call, at);
         drop(call);
-        drop(visitor);
+        drop(session);
         Ok(Some(gave))
     }
 }

@@ -6,7 +6,7 @@ use crate::tests::plane::controls::asking::answered;
 use af_audit::{AuditFault, ReportRefusal};
 use af_names::Instant;
 use af_ops::{Call, Served};
-use af_plane::{Control, Named, Parts, Visitor};
+use af_plane::{Control, Named, Parts, ControlSession};
 use af_sched::{Claim, Outcome};
 use std::alloc::Global;
 use std::sync::Wait;
@@ -23,8 +23,8 @@ pub enum Who {
 #[derive(Drop)]
 pub struct Pair<N: Named> {
     control: Control<N>,
-    first: Visitor<N>,
-    second: Visitor<N>,
+    first: ControlSession<N>,
+    second: ControlSession<N>,
     claims: Vec<Claim>,
 }
 
@@ -33,9 +33,9 @@ impl<N: Named> Pair<N> {
         requires board { parts.board ≡ N.name.site }
         requires plane { IsOfName N.name parts.plane }
     {
-        let (control, door) = Control::<N>::of(parts);
-        let first = control.session(rt, door.ticket());
-        let second = control.session(rt, door.ticket());
+        let (control, issuer) = Control::<N>::of(parts);
+        let first = control.session(rt, issuer.permit());
+        let second = control.session(rt, issuer.permit());
         Pair {
             control,
             first,
@@ -63,8 +63,8 @@ impl<N: Named> Pair<N> {
         at: Instant,
     ) -> Served {
         let control = &self.control;
-        let visitor = picked(who, &mut self.first, &mut self.second);
-        answered(rt, alloc, control, visitor, token, call, at)
+        let session = picked(who, &mut self.first, &mut self.second);
+        answered(rt, alloc, control, session, token, call, at)
     }
 
     /// What a tick in a session tells.
@@ -76,8 +76,8 @@ impl<N: Named> Pair<N> {
         at: Instant,
     ) -> Result<bool, AuditFault> {
         let control = &self.control;
-        let visitor = picked(who, &mut self.first, &mut self.second);
-        control.tick(rt, alloc, visitor, at)
+        let session = picked(who, &mut self.first, &mut self.second);
+        control.tick(rt, alloc, session, at)
     }
 
     /// What a claim in a session gives.
@@ -89,8 +89,8 @@ impl<N: Named> Pair<N> {
         at: Instant,
     ) -> Result<Option<Claim>, AuditFault> {
         let control = &self.control;
-        let visitor = picked(who, &mut self.first, &mut self.second);
-        control.claim(rt, alloc, visitor, at)
+        let session = picked(who, &mut self.first, &mut self.second);
+        control.claim(rt, alloc, session, at)
     }
 
     /// Keeps a claim.
@@ -110,17 +110,17 @@ impl<N: Named> Pair<N> {
     ) -> Option<Result<(), ReportRefusal>> {
         let control = &self.control;
         let claim = self.claims.get(place)?;
-        let visitor = picked(who, &mut self.first, &mut self.second);
-        Some(control.report(rt, alloc, visitor, claim, outcome, at))
+        let session = picked(who, &mut self.first, &mut self.second);
+        Some(control.report(rt, alloc, session, claim, outcome, at))
     }
 }
 
 /// Which of the two that is.
 fn picked<'a, N: Named>(
     who: Who,
-    first: &'a mut Visitor<N>,
-    second: &'a mut Visitor<N>,
-) -> &'a mut Visitor<N> {
+    first: &'a mut ControlSession<N>,
+    second: &'a mut ControlSession<N>,
+) -> &'a mut ControlSession<N> {
     match who {
         Who::First => first,
         Who::Second => second,

@@ -1,9 +1,9 @@
 //! Plays rows in the two sessions of a pair.
 use crate::tests::plane::calls::call;
 use crate::tests::plane::controls::pair::{Pair, Who};
-use crate::tests::plane::playing::token;
 use crate::tests::plane::told;
 use crate::tests::plane::told::is_told;
+use crate::tests::plane::users::token;
 use af_audit::{AuditFault, ReportRefusal};
 use af_names::Instant;
 use af_ops::Served;

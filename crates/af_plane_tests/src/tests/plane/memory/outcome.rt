@@ -1,6 +1,6 @@
 //! What comes of a request for which there may be no memory.
 use crate::tests::plane::asserts::holds;
-use crate::tests::plane::audit::same::is_same;
+use crate::tests::plane::memory::same::is_same;
 use crate::tests::plane::opening::{Dags, state};
 use crate::tests::plane::told::{Row, is_shown};
 use af_audit::replay;

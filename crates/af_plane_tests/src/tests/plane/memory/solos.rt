@@ -1,9 +1,9 @@
 //! Changes that a server for one thread makes: of the state, and of the policy.
 use crate::tests::plane::asserts::holds;
 use crate::tests::plane::calls::Asked;
+use crate::tests::plane::memory::answering::{answer, answered};
 use crate::tests::plane::memory::outcome::{Outcome, is_replay, once_refused, outcome_of};
 use crate::tests::plane::opening::{Dags, opened};
-use crate::tests::plane::solos::playing::{answer, answered};
 use crate::tests::plane::told::Row;
 use crate::tests::plane::users::OF_SAMPLE;
 use af_ops::{Endpoint, Status};

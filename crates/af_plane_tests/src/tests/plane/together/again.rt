@@ -1,8 +1,8 @@
 //! One thread answers again what many were told.
-use crate::tests::plane::playing::token;
 use crate::tests::plane::together::minutes::{At, Minutes, are_same, body, shown};
 use crate::tests::plane::together::order::Place;
 use crate::tests::plane::together::script::Question;
+use crate::tests::plane::users::token;
 use af_audit::Presented;
 use af_names::Instant;
 use af_ops::{Call, Served, Shown, Status};

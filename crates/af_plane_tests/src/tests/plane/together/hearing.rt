@@ -3,10 +3,10 @@ ghost use Rattle.std.specs.Prelude.{◌≡◌};
 ghost use Rattle.af_plane.specs.Names.{IsOfName};
 
 use crate::tests::plane::controls::asking::answered;
-use crate::tests::plane::playing::token;
 use crate::tests::plane::together::script::{AFTER, CALLS, make_question};
+use crate::tests::plane::users::token;
 use af_ops::Served;
-use af_plane::{Control, Door, Named, Parts};
+use af_plane::{Control, SessionIssuer, Named, Parts};
 use std::alloc::{AllocError, Global};
 use std::sync::Wait;
 use std::thread;
@@ -23,15 +23,15 @@ trait Heard {
     ) -> Result<Vec<Served>, AllocError>;
 }
 
-impl<N: Named> Heard for (Control<N>, Door<N>) {
+impl<N: Named> Heard for (Control<N>, SessionIssuer<N>) {
     fn told<R: Wait>(
         &self,
         rt: &R,
         alloc: Global,
         session: usize,
     ) -> Result<Vec<Served>, AllocError> {
-        let (control, door) = self;
-        let mut visitor = control.session(rt, door.ticket());
+        let (control, issuer) = self;
+        let mut own = control.session(rt, issuer.permit());
         let mut told = Vec::new(alloc);
         for number in 0..=CALLS {
             let Some(asked) = make_question(alloc, session, number)? else {
@@ -42,7 +42,7 @@ impl<N: Named> Heard for (Control<N>, Door<N>) {
                 rt,
                 alloc,
                 control,
-                &mut visitor,
+                &mut own,
                 token,
                 &asked.call,
                 asked.at,

@@ -1,10 +1,8 @@
 //! Plays rows on a server for one thread. Who owns a server, a call or what is told lends it, and hands it to `drop`, which is proved once,
 //! and not at each way out.
 use crate::tests::plane::calls::{Asked, call};
-use crate::tests::plane::opening::{Dags, opened};
-use crate::tests::plane::playing::token;
 use crate::tests::plane::told::{Row, is_told};
-use crate::tests::plane::users::Users;
+use crate::tests::plane::users::token;
 use af_audit::Presented;
 use af_names::Instant;
 use af_ops::{Method, Served, Status, route_of};
@@ -12,26 +10,6 @@ use af_plane::{Grounds, Request, Session, Solo};
 use std::alloc::Global;
 use std::sync::Wait;
 use std::test::Fail;
-
-/// Calls to a server that opens so.
-#[derive(Clone, Copy)]
-pub struct Story {
-    pub name: &'static str,
-    pub users: Users,
-    pub dags: Dags,
-    /// The last version that there may be, and how many entries.
-    pub limits: (u32, u32),
-    pub rows: &'static [Row],
-    /// The version that the plane has looked at then, and the last one that the session has seen.
-    pub ends: (u32, u32),
-}
-
-/// The server of a story.
-fn solo(alloc: Global, story: &Story) -> Result<Solo, Fail> {
-    let (policy, state) = opened(alloc, story.users, story.dags)?;
-    let (versions, entries) = story.limits;
-    Ok(Solo::open(alloc, policy, versions, state, entries)?)
-}
 
 /// Whether a row says that a version was made.
 fn is_made(row: Row) -> bool {
@@ -105,21 +83,4 @@ pub fn answered(
         }
     }
     Ok(rows.len())
-}
-
-/// How many calls are answered as their rows say, and whether the story then ends as it says.
-type After = (usize, bool);
-
-fn after(rt: &impl Wait, alloc: Global, solo: &mut Solo, story: &Story) -> Result<After, Fail> {
-    let told = answered(rt, alloc, solo, story.rows)?;
-    let ends = (solo.plane().ledger().version(), solo.session().seen().0);
-    Ok((told, ends == story.ends))
-}
-
-/// What comes of a story.
-pub fn played(rt: &impl Wait, alloc: Global, story: &Story) -> Result<After, Fail> {
-    let mut solo = solo(alloc, story)?;
-    let after = after(rt, alloc, &mut solo, story);
-    drop(solo);
-    after
 }
