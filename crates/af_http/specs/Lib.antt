@@ -1,5 +1,6 @@
 pub mod Limits
 pub mod Streams
+pub mod Histories
 pub mod Lines
 pub mod Fronts
 pub mod Extents

@@ -1,5 +1,6 @@
 ghost use Rattle.std.specs.Prelude.{◌≡◌, ◌+◌, ◌++◌, ◌∷◌, [], false, length, take};
 ghost use Rattle.std.specs.Io.KnownBytes.{prepend_known};
+ghost use Rattle.af_http.specs.Histories.{history_of};
 ghost use Rattle.af_http.specs.Streams.{bytes_of, numbers_of, one_if, is_end, is_narrow};
 
 use crate::incoming::READ_ROOM;
@@ -57,6 +58,36 @@ impl<T> Counted<T> {
     {
         let Counted { inner, .. } = self;
         inner
+    }
+}
+
+impl<T: Drop> Counted<T> {
+    /// What was moved, without the reader or writer. It takes no memory.
+    pub fn into_history(self) -> Counted<()>
+        ensures { result ≡ history_of self }
+    {
+        let Counted {
+            inner: _,
+            moved,
+            refused,
+            calls,
+            fruitful,
+            ends,
+            failures,
+            narrow,
+            sizes,
+        } = self;
+        Counted {
+            inner: (),
+            moved,
+            refused,
+            calls,
+            fruitful,
+            ends,
+            failures,
+            narrow,
+            sizes,
+        }
     }
 }
 
