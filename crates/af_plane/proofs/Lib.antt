@@ -12,6 +12,7 @@ pub mod EventLemmas
 pub mod SharedLemmas
 mod ControlLemmas
 mod StayLemmas
+pub mod ClosingLemmas
 pub mod NameLemmas
 mod CallLemmas
 mod LookLemmas

@@ -23,8 +23,11 @@ use Rattle.af_tally.proofs.witness.Witness.TheSendSync as witnessed
 use Rattle.af_plane.specs.contracts.grounds.Grounds as grounds
 use Rattle.af_plane.specs.contracts.session.Session as session
 use Rattle.af_plane.specs.declared.named.Named as named
-use Rattle.af_plane.specs.contracts.visitor.Visitor as visitor
-use Rattle.af_plane.specs.contracts.visitor.Visitor.TheInside as visitor_inside
+use Rattle.af_plane.specs.contracts.control_session.ControlSession as control_session
+use Rattle.af_plane.specs.contracts.control_session.ControlSession.TheInside as control_session_inside
+use Rattle.af_plane.specs.contracts.ended_session.EndedSession as ended_session
+use Rattle.af_plane.specs.contracts.ended_session.EndedSession.TheInside as ended_session_inside
+use Rattle.af_plane.specs.contracts.session_log.SessionLog as session_log
 
 pub role_input_send : IsSend (role_input.the_field).row
 role_input_send = search (sendable, crosses) depth 60 fits 100000
@@ -87,10 +90,10 @@ pub session_send : IsSend session.the_row
 session_send = search (sendable, crosses, pass.the_send, witness_send, grounds_send) depth 60 fits 100000
 
 -- what it has done and the name take no memory, so whatever they are may go along
-pub visitor_inside_send : (N : RattleType) (ghosts : named.Ghosts N.Denot) → IsSend (visitor_inside.the_field N ghosts).row
-visitor_inside_send N ghosts =
-    struct_send (shape (visitor_inside.the_type N ghosts)) (
-      session_send,
+pub session_log_send : IsSend (session_log.the_field).row
+session_log_send =
+    struct_send (shape session_log.the_type) (
+      (search (sendable, crosses, log.the_send) depth 60 fits 100000),
       (
         (search (sendable, crosses, log.the_send) depth 60 fits 100000),
         (
@@ -109,13 +112,7 @@ visitor_inside_send N ghosts =
                       (search (sendable, crosses, log.the_send) depth 60 fits 100000),
                       (
                         (search (sendable, crosses, log.the_send) depth 60 fits 100000),
-                        (
-                          (search (sendable, crosses, log.the_send) depth 60 fits 100000),
-                          (
-                            search sendable,
-                            tt,
-                          ),
-                        ),
+                        tt,
                       ),
                     ),
                   ),
@@ -127,5 +124,19 @@ visitor_inside_send N ghosts =
       ),
     )
 
-pub visitor_send : (N : RattleType) (ghosts : named.Ghosts N.Denot) → IsSend (visitor.the_row N ghosts)
-visitor_send N ghosts = search (sendable, visitor_inside_send) depth 60 fits 100000
+pub control_session_inside_send : (N : RattleType) (ghosts : named.Ghosts N.Denot) → IsSend (control_session_inside.the_field N ghosts).row
+control_session_inside_send N ghosts = struct_send (shape (control_session_inside.the_type N ghosts)) (session_send, (session_log_send, (search sendable, tt)))
+
+pub control_session_send : (N : RattleType) (ghosts : named.Ghosts N.Denot) → IsSend (control_session.the_row N ghosts)
+control_session_send N ghosts = search (sendable, control_session_inside_send) depth 60 fits 100000
+
+-- a session that is over may go too
+pub ended_session_inside_send : IsSend (ended_session_inside.the_field).row
+ended_session_inside_send =
+    struct_send (shape ended_session_inside.the_type) (
+      pass.the_send,
+      (witness_send, ((search (sendable, crosses, log.the_send) depth 60 fits 100000), (session_log_send, tt))),
+    )
+
+pub ended_session_send : IsSend ended_session.the_row
+ended_session_send = search (sendable, ended_session_inside_send) depth 60 fits 100000

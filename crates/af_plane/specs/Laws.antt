@@ -24,6 +24,7 @@ use Rattle.af_world.specs.Runs.{told}
 use Rattle.af_world.specs.Worlds.{OpeningRows}
 use Rattle.af_plane.specs.Administered.{IsAdministered, IsMade, IsToldIn}
 use Rattle.af_plane.specs.Alone.{Holds, IsClosed, Stands}
+use Rattle.af_plane.specs.Closings.{AgreeWith, HasTakenIn, IsWithin}
 use Rattle.af_plane.specs.Events.{AnsweredStep, AreAnswered, AreEvents, AreOneRun, Event, Exchange, StandsFor, answers_in, left_by, named_in, steps_in}
 use Rattle.af_plane.specs.Looks.{Basis, looked}
 use Rattle.af_plane.specs.Names.{IsCall, IsDone, IsNamed, Name}
@@ -160,3 +161,14 @@ VersionsToldToEachClimb =
 abbrev pub NoSessionGoesBack : Type 0
 NoSessionGoesBack =
     (name : Name) (was : Visit) (exchanges : List Exchange) (now : Visit) → Calls name was exchanges now → HasGoneOn was exchanges now
+
+-- Two sessions of one control agree, whatever answers they are taken at: each calls on until it is over, and one plane takes both in. So all
+-- versions are one list and all entries are another, and each answer is decided on a beginning of both. This needs no order of their calls.
+abbrev pub SessionsAgree : Type 0
+SessionsAgree =
+    (name : Name) (plane : PlaneRows) (one other left right : Visit) (exchanges others : List Exchange)
+    → Calls name one exchanges left → Calls name other others right → IsWithin plane left → IsWithin plane right → AgreeWith one other
+
+-- a session that a plane has taken in stays within it, when the plane takes in others
+abbrev pub SessionsStayWithin : Type 0
+SessionsStayWithin = (old new : PlaneRows) (visit : Visit) → IsWithin old visit → HasTakenIn old new → IsWithin new visit

@@ -14,4 +14,5 @@ pub mod Alone
 pub mod Events
 pub mod Shared
 pub mod Stays
+pub mod Closings
 pub mod Laws

@@ -25,7 +25,7 @@ pub record Visit : Type 0 where
 -- What a session of a control holds, and all that it has done there. Of each kind it is in the order in which it was done: calls, and their
 -- times, with their answers; ticks, claims and reports with what came of them; the outcomes and times of reports; and what it asked of the
 -- policy, with the answers.
-pub record VisitorRows : Type 0 where
+pub record SessionRows : Type 0 where
   pub visit : Visit
   pub calls : List (Call × Served)
   pub times : List (ℕ × Served)

@@ -5,7 +5,7 @@ ghost use Rattle.af_audit.specs.Claimed.{IsClaimed};
 ghost use Rattle.af_audit.specs.Reported.{IsReported};
 ghost use Rattle.af_audit.specs.Ticked.{IsTicked};
 ghost use Rattle.af_plane.specs.Administered.{HasAsked};
-ghost use Rattle.af_plane.specs.Logs.{HasAskedOnce, HasCalled, HasClaimed, HasReported, HasTicked, new_visitor};
+ghost use Rattle.af_plane.specs.Logs.{HasAskedOnce, HasCalled, HasClaimed, HasReported, HasTicked, new_session};
 ghost use Rattle.af_plane.specs.Looks.{held};
 ghost use Rattle.af_plane.specs.Names.{IsCall, IsDone, IsOfName};
 ghost use Rattle.af_plane.specs.Planes.{ClaimIs, ReportIs, TickIs};
@@ -13,12 +13,13 @@ ghost use Rattle.af_plane.specs.Requests.{only_reads};
 ghost use Rattle.af_plane.specs.Solos.{first_mark};
 ghost use Rattle.af_plane.specs.Turns.{IsOfPlane};
 
-use crate::door::Door;
+use crate::closed::Closed;
+use crate::control_session::{ControlSession, Locked};
 use crate::named::Named;
 use crate::parts::Parts;
 use crate::request::Request;
-use crate::ticket::Ticket;
-use crate::visitor::{Locked, Visitor};
+use crate::session_issuer::SessionIssuer;
+use crate::session_permit::SessionPermit;
 use af_audit::{AuditFault, ReportRefusal};
 use af_board::Board;
 use af_names::Instant;
@@ -63,18 +64,28 @@ impl<N: Named> Drop for Control<N> {
 }
 
 impl<N: Named> Control<N> {
-    /// A control of these parts, which the name means, and the door that gives leave to open its sessions. It takes no memory.
-    pub fn of(parts: Parts) -> (Control<N>, Door<N>)
+    /// A control of these parts, which the name means, and the issuer of permits for its sessions. It takes no memory.
+    pub fn of(parts: Parts) -> (Control<N>, SessionIssuer<N>)
         requires board { parts.board ≡ N.name.site }
         requires plane { IsOfName N.name parts.plane }
     {
-        let (door, board, plane) = Door::of(parts);
+        let (issuer, board, plane) = SessionIssuer::of(parts);
         let control = Control {
             board,
             locked: RwLock::new(Locked::of(plane)),
             naps: AtomicU64::new(0),
         };
-        (control, door)
+        (control, issuer)
+    }
+
+    /// What the control had, when no thread shares it any more.
+    pub fn close(self) -> Closed<N> {
+        let Control {
+            board,
+            locked,
+            naps: _,
+        } = self;
+        Closed::of(board, locked.into_inner())
     }
 
     /// The plane alone, when no other thread has it.
@@ -119,12 +130,12 @@ impl<N: Named> Control<N> {
         &self.board
     }
 
-    /// A session, for a ticket. It has done nothing yet, and holds the mark of version 0.
-    pub fn session(&self, rt: &impl Wait, ticket: Ticket<N>) -> Visitor<N>
+    /// A session that is opened with a permit. It has done nothing yet, and holds the mark of version 0.
+    pub fn session(&self, rt: &impl Wait, permit: SessionPermit<N>) -> ControlSession<N>
         ensures mark { held result.visit.grounds ≡ first_mark }
-        ensures new { result ≡ new_visitor result.visit }
+        ensures new { result ≡ new_session result.visit }
     {
-        self.plane(rt).session(&self.board, ticket)
+        self.plane(rt).session(&self.board, permit)
     }
 
     /// Answers a call on the state, or for event logs, by one turn on the plane. It does nothing else: the session then has this call, with
@@ -135,7 +146,7 @@ impl<N: Named> Control<N> {
         &self,
         rt: &impl Wait,
         alloc: Global,
-        session: &mut Visitor<N>,
+        session: &mut ControlSession<N>,
         request: &Request<'_>,
     ) -> Served
         requires { IsOfPlane request.now.call }
@@ -154,7 +165,7 @@ impl<N: Named> Control<N> {
         &self,
         rt: &impl Wait,
         alloc: Global,
-        session: &mut Visitor<N>,
+        session: &mut ControlSession<N>,
         request: &Request<'_>,
     ) -> Served
         requires { only_reads request.now.call ≡ true }
@@ -173,7 +184,7 @@ impl<N: Named> Control<N> {
         &self,
         rt: &impl Wait,
         alloc: Global,
-        session: &mut Visitor<N>,
+        session: &mut ControlSession<N>,
         request: &Request<'_>,
     ) -> Served
         requires { IsOfPlane request.now.call }
@@ -187,7 +198,7 @@ impl<N: Named> Control<N> {
     pub fn me(
         &self,
         alloc: Global,
-        session: &mut Visitor<N>,
+        session: &mut ControlSession<N>,
         token: Option<&Presented<'_>>,
     ) -> Served
         ensures asked { HasAsked N.name.site (option_copied token.entry) asks.Me session.old.visit result session.new.visit }
@@ -200,7 +211,7 @@ impl<N: Named> Control<N> {
     pub fn read(
         &self,
         alloc: Global,
-        session: &mut Visitor<N>,
+        session: &mut ControlSession<N>,
         token: Option<&Presented<'_>>,
         asked: &PolicyRead,
     ) -> Served
@@ -214,7 +225,7 @@ impl<N: Named> Control<N> {
     pub fn unread(
         &self,
         alloc: Global,
-        session: &mut Visitor<N>,
+        session: &mut ControlSession<N>,
         token: Option<&Presented<'_>>,
         kind: ChangeKind,
     ) -> Served
@@ -230,7 +241,7 @@ impl<N: Named> Control<N> {
         &self,
         rt: &R,
         alloc: Global,
-        session: &mut Visitor<N>,
+        session: &mut ControlSession<N>,
         token: Option<&Presented<'_>>,
         ask: &Ask,
     ) -> Served
@@ -246,7 +257,7 @@ impl<N: Named> Control<N> {
         &self,
         rt: &impl Wait,
         alloc: Global,
-        session: &mut Visitor<N>,
+        session: &mut ControlSession<N>,
         at: Instant,
     ) -> Result<bool, AuditFault>
         ensures done { IsDone N.name session.old.visit session.new.visit (λ old new. IsTicked at old new result × TickIs old at result new) }
@@ -261,7 +272,7 @@ impl<N: Named> Control<N> {
         &self,
         rt: &impl Wait,
         alloc: Global,
-        session: &mut Visitor<N>,
+        session: &mut ControlSession<N>,
         at: Instant,
     ) -> Result<Option<Claim>, AuditFault>
         ensures done { IsDone N.name session.old.visit session.new.visit (λ old new. IsClaimed at old new result × ClaimIs old at result new) }
@@ -276,7 +287,7 @@ impl<N: Named> Control<N> {
         &self,
         rt: &impl Wait,
         alloc: Global,
-        session: &mut Visitor<N>,
+        session: &mut ControlSession<N>,
         claim: &Claim,
         outcome: Outcome,
         at: Instant,

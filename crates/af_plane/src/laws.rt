@@ -1,5 +1,5 @@
 // What the calls are in the world. Each law is the contract of a function that does nothing.
-ghost use Rattle.af_plane.specs.Laws.{AppliesAreActs, CallsAreEvents, CallsOfAllAreOneRun, ChangesAreSteps, DeedsAreEvents, EntriesAreGranted, EntriesOfAllAreGranted, EventsAreOneRun, LooksAreLooks, NamedVersionsNeverFall, NoSessionGoesBack, OperationsAreEvents, ReadingsAreSteps, TurnsLookAndAct, VersionsFollow, VersionsOfAllFollow, VersionsToldToEachClimb};
+ghost use Rattle.af_plane.specs.Laws.{AppliesAreActs, CallsAreEvents, CallsOfAllAreOneRun, ChangesAreSteps, DeedsAreEvents, EntriesAreGranted, EntriesOfAllAreGranted, EventsAreOneRun, LooksAreLooks, NamedVersionsNeverFall, NoSessionGoesBack, OperationsAreEvents, ReadingsAreSteps, SessionsAgree, SessionsStayWithin, TurnsLookAndAct, VersionsFollow, VersionsOfAllFollow, VersionsToldToEachClimb};
 
 use af_world::laws;
 
@@ -103,4 +103,15 @@ pub fn versions_told_to_each_climb()
 /// answers name never fall, and none is before the last that it had seen. Nothing is asked of the order in which others call.
 pub fn no_session_goes_back()
     ensures { NoSessionGoesBack }
+{}
+
+/// Two sessions of one control agree, whatever answers they are taken at: all versions are one list and all entries are another, of which each
+/// answer knows a beginning. Each session calls on until it is over, and one plane takes both in (`Closed::take_in`).
+pub fn sessions_agree()
+    ensures { SessionsAgree }
+{}
+
+/// A session that a plane has taken in stays within it, when the plane takes in others.
+pub fn sessions_stay_within()
+    ensures { SessionsStayWithin }
 {}

@@ -52,6 +52,18 @@ impl Session {
         }
     }
 
+    /// What it has seen of the board, and of the entries.
+    pub(crate) fn into_seen(self) -> (Pass, Witness<Entry>)
+        ensures { result ≡ (self.pass, self.entries) }
+    {
+        let Session {
+            pass,
+            witness,
+            grounds: _,
+        } = self;
+        (pass, witness)
+    }
+
     /// What it holds of its last answer that was decided under a version.
     pub fn grounds(&self) -> &Grounds
         ensures { result.now ≡ self.now.grounds }

@@ -2,9 +2,11 @@ ghost use Rattle.std.specs.Prelude.{◌≡◌};
 ghost use Rattle.af_audit.specs.Claimed.{IsClaimed};
 ghost use Rattle.af_audit.specs.Reported.{IsReported};
 ghost use Rattle.af_audit.specs.Ticked.{IsTicked};
+ghost use Rattle.af_plane.specs.Closings.{HasTakenIn, IsWithin};
 ghost use Rattle.af_plane.specs.Looks.{AreOver, HasVisited};
 ghost use Rattle.af_plane.specs.Planes.{ClaimIs, ReportIs, TickIs};
 
+use crate::ended_session::EndedSession;
 use crate::plane::Plane;
 use crate::session::Session;
 use af_audit::{AuditFault, ReportRefusal};
@@ -84,5 +86,19 @@ impl Plane {
         board.meet(&mut self.pass, pass);
         self.keeper.meet(&mut session.witness);
         session.pass = board.split(&mut self.pass);
+    }
+    /// Takes in a session that is over. What it had seen, of the versions and of the entries, begins what the plane has then seen.
+    #[tactic(auto, using(af_prefixes::proofs::PrefixLemmas::prefix_trans))]
+    pub fn take_in(&mut self, board: &Board, session: &mut EndedSession)
+        requires plane { self.old.pass.word ≡ board.now.word }
+        requires word { session.old.visit.pass.word ≡ board.now.word }
+        requires keeper { session.old.visit.entries.keeper ≡ self.old.keeper.keeper }
+        ensures same { session.new ≡ session.old }
+        ensures within { IsWithin self.new session.old.visit }
+        ensures taken { HasTakenIn self.old self.new }
+    {
+        let pass = board.split(&mut session.pass);
+        board.meet(&mut self.pass, pass);
+        self.keeper.meet(&mut session.witness);
     }
 }

@@ -2,19 +2,21 @@ ghost use Rattle.std.specs.Prelude.{◌≡◌, true, IfNone, IfSome};
 ghost use Rattle.af_audit.specs.Claimed.{IsClaimed};
 ghost use Rattle.af_audit.specs.Reported.{IsReported};
 ghost use Rattle.af_audit.specs.Ticked.{IsTicked};
-ghost use Rattle.af_plane.specs.Logs.{HasCalled, HasClaimed, HasDoneNothing, HasReported, HasTicked, new_visitor};
+ghost use Rattle.af_plane.specs.Closings.{HasTakenIn, IsOfControl, IsWithin};
+ghost use Rattle.af_plane.specs.Logs.{HasCalled, HasClaimed, HasDoneNothing, HasReported, HasTicked, new_session};
 ghost use Rattle.af_plane.specs.Looks.{HasOnlyLooked, held};
-ghost use Rattle.af_plane.specs.Names.{IsCall, IsDoneOn, IsOfName};
+ghost use Rattle.af_plane.specs.Names.{IsCall, IsDoneOn, IsNamed, IsOfName};
 ghost use Rattle.af_plane.specs.Planes.{ClaimIs, ReportIs, TickIs};
 ghost use Rattle.af_plane.specs.Requests.{only_reads};
 ghost use Rattle.af_plane.specs.Solos.{first_mark};
 ghost use Rattle.af_plane.specs.Turns.{IsOfPlane};
 
+use crate::control_session::ControlSession;
+use crate::ended_session::EndedSession;
 use crate::named::Named;
 use crate::plane::Plane;
 use crate::request::Request;
-use crate::ticket::Ticket;
-use crate::visitor::Visitor;
+use crate::session_permit::SessionPermit;
 use af_audit::{AuditFault, ReportRefusal};
 use af_board::Board;
 use af_names::Instant;
@@ -52,7 +54,7 @@ impl<N: Named> Locked<N> {
         &mut self,
         alloc: Global,
         board: &Board,
-        session: &mut Visitor<N>,
+        session: &mut ControlSession<N>,
         request: &Request<'_>,
     ) -> Served
         requires board { board.now ≡ N.name.site }
@@ -64,8 +66,8 @@ impl<N: Named> Locked<N> {
         let turn = self.plane.turn(alloc, board, &mut session.session, request);
         self.plane.conditions();
         let Some(served) = turn else { unreachable!() };
-        session.calls = session.calls.and(request.call, &served);
-        session.times = session.times.and(&request.at, &served);
+        session.log.calls = session.log.calls.and(request.call, &served);
+        session.log.times = session.log.times.and(&request.at, &served);
         served
     }
 
@@ -75,7 +77,7 @@ impl<N: Named> Locked<N> {
         &self,
         alloc: Global,
         board: &Board,
-        session: &mut Visitor<N>,
+        session: &mut ControlSession<N>,
         request: &Request<'_>,
     ) -> Option<Served>
         requires board { board.now ≡ N.name.site }
@@ -89,8 +91,8 @@ impl<N: Named> Locked<N> {
         let Some(served) = read else {
             return None;
         };
-        session.calls = session.calls.and(request.call, &served);
-        session.times = session.times.and(&request.at, &served);
+        session.log.calls = session.log.calls.and(request.call, &served);
+        session.log.times = session.log.times.and(&request.at, &served);
         Some(served)
     }
 
@@ -99,7 +101,7 @@ impl<N: Named> Locked<N> {
         &mut self,
         alloc: Global,
         board: &Board,
-        session: &mut Visitor<N>,
+        session: &mut ControlSession<N>,
         at: Instant,
     ) -> Result<bool, AuditFault>
         requires { board.now ≡ N.name.site }
@@ -109,7 +111,7 @@ impl<N: Named> Locked<N> {
         self.plane.conditions();
         let told = self.plane.tick_with(alloc, board, &mut session.session, at);
         self.plane.conditions();
-        session.ticks = session.ticks.and(&at, &told);
+        session.log.ticks = session.log.ticks.and(&at, &told);
         told
     }
 
@@ -118,7 +120,7 @@ impl<N: Named> Locked<N> {
         &mut self,
         alloc: Global,
         board: &Board,
-        session: &mut Visitor<N>,
+        session: &mut ControlSession<N>,
         at: Instant,
     ) -> Result<Option<Claim>, AuditFault>
         requires { board.now ≡ N.name.site }
@@ -130,7 +132,7 @@ impl<N: Named> Locked<N> {
             .plane
             .claim_with(alloc, board, &mut session.session, at);
         self.plane.conditions();
-        session.claims = session.claims.and(&at, &told);
+        session.log.claims = session.log.claims.and(&at, &told);
         told
     }
 
@@ -139,7 +141,7 @@ impl<N: Named> Locked<N> {
         &mut self,
         alloc: Global,
         board: &Board,
-        session: &mut Visitor<N>,
+        session: &mut ControlSession<N>,
         claim: &Claim,
         outcome: Outcome,
         at: Instant,
@@ -153,18 +155,38 @@ impl<N: Named> Locked<N> {
             .plane
             .report_with(alloc, board, &mut session.session, claim, outcome, at);
         self.plane.conditions();
-        session.reports = session.reports.and(claim, &told);
-        session.outcomes = session.outcomes.and(&outcome, &at);
+        session.log.reports = session.log.reports.and(claim, &told);
+        session.log.outcomes = session.log.outcomes.and(&outcome, &at);
         told
     }
 
-    /// A session that is opened with a ticket. It has done nothing yet, and holds the mark of version 0.
-    pub(crate) fn session(&mut self, board: &Board, ticket: Ticket<N>) -> Visitor<N>
+    /// A session that is opened with a permit. It has done nothing yet, and holds the mark of version 0.
+    pub(crate) fn session(&mut self, board: &Board, permit: SessionPermit<N>) -> ControlSession<N>
         requires { board.now ≡ N.name.site }
         ensures plane { self.new.plane.ledger ≡ self.old.plane.ledger }
         ensures mark { held result.visit.grounds ≡ first_mark }
-        ensures new { result ≡ new_visitor result.visit }
+        ensures new { result ≡ new_session result.visit }
     {
-        Visitor::open(self.plane.session(board), ticket)
+        ControlSession::open(self.plane.session(board), permit)
+    }
+    /// Takes in a session that is over.
+    pub(crate) fn take_in(&mut self, board: &Board, session: &mut EndedSession)
+        requires board { board.now ≡ N.name.site }
+        requires of { IsOfControl N.name session.old }
+        ensures same { session.new ≡ session.old }
+        ensures within { IsWithin self.new.plane session.old.visit }
+        ensures taken { HasTakenIn self.old.plane self.new.plane }
+    {
+        self.plane.take_in(board, session);
+    }
+
+    /// The plane alone.
+    pub(crate) fn into_plane(self) -> Plane
+        ensures plane { result ≡ self.plane }
+        ensures named { IsNamed N.name result }
+    {
+        let Locked { plane, of: _ } = self;
+        plane.conditions();
+        plane
     }
 }

@@ -3,9 +3,9 @@ use Rattle.std.specs.Prelude.{Some}
 use mathlib.Core.List.{IsPrefix}
 use Rattle.af_board.specs.Marks.{Site}
 use Rattle.af_plane.specs.Turns.{IsTurn}
-use Rattle.af_plane.specs.Visits.{Visit, VisitorRows}
+use Rattle.af_plane.specs.Visits.{Visit, SessionRows}
 use Rattle.af_plane.proofs.CallLemmas.{turned_alike}
-use Rattle.af_plane.proofs.visitor.locked.Locked.turn.Goals as goal
+use Rattle.af_plane.proofs.control_session.locked.Locked.turn.Goals as goal
 
 pub invariant_of-self : goal.invariant_of-self
 invariant_of-self g c =
@@ -22,7 +22,7 @@ invariant_of-self g c =
 pub returns-clause-call : goal.returns-clause-call
 returns-clause-call g c =
     let alike = turned_alike c.args.board.now c.args.request.now c.args.self.now.plane c.turn-turn.new.self c.session.inside.session c.turn-turn.new.session c.turn-turn.result c.turn-turn.ensures.turn in
-    let visit_is = ap (λ (v : VisitorRows). v.visit) c.session.view_is in (
+    let visit_is = ap (λ (v : SessionRows). v.visit) c.session.view_is in (
       record {
         old = c.args.self.now.plane;
         new = c.turn-turn.new.self;

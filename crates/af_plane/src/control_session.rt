@@ -2,12 +2,15 @@ ghost use Rattle.std.specs.Prelude.{◌≡◌, ◌+◌, length};
 ghost use Rattle.std.specs.Option.{option_copied};
 ghost use Rattle.af_ops.specs.declared.policy_op.PolicyOp.TheVariants as asks;
 ghost use Rattle.af_plane.specs.Administered.{HasAsked};
-ghost use Rattle.af_plane.specs.Logs.{HasAskedOnce, new_visitor};
+ghost use Rattle.af_plane.specs.Logs.{HasAskedOnce, new_session, rows_of};
+ghost use Rattle.af_plane.specs.Closings.{IsOfControl};
 ghost use Rattle.af_plane.specs.Looks.{IsOn};
 
+use crate::ended_session::EndedSession;
 use crate::named::Named;
 use crate::session::Session;
-use crate::ticket::Ticket;
+use crate::session_log::SessionLog;
+use crate::session_permit::SessionPermit;
 use af_audit::{AuditFault, ReportRefusal};
 use af_board::Board;
 use af_names::Instant;
@@ -25,73 +28,80 @@ pub(crate) use locked::Locked;
 
 /// A session of one control. Contracts see what it holds, and all that it has done there. What it has done takes no memory: it is known in
 /// proofs alone.
-pub struct Visitor<N: Named> {
+pub struct ControlSession<N: Named> {
     session: Session,
-    calls: Log<Call, Served>,
-    times: Log<Instant, Served>,
-    ticks: Log<Instant, Result<bool, AuditFault>>,
-    claims: Log<Instant, Result<Option<Claim>, AuditFault>>,
-    reports: Log<Claim, Result<(), ReportRefusal>>,
-    outcomes: Log<Outcome, Instant>,
-    mes: Log<(), Served>,
-    reads: Log<PolicyRead, Served>,
-    changes: Log<Ask, Served>,
-    unreads: Log<ChangeKind, Served>,
+    log: SessionLog,
     of: PhantomData<N>,
 }
 
-impl<N: Named> Drop for Visitor<N> {
+impl<N: Named> Drop for ControlSession<N> {
     fn drop(self) {
-        let Visitor {
+        let ControlSession {
             session: _,
-            calls: _,
-            times: _,
-            ticks: _,
-            claims: _,
-            reports: _,
-            outcomes: _,
-            mes: _,
-            reads: _,
-            changes: _,
-            unreads: _,
+            log: _,
             of: _,
         } = self;
     }
 }
 
-impl<N: Named> Model for Visitor<N> {
+impl<N: Named> Model for ControlSession<N> {
     ghost use Rattle.std.specs.Prelude.{◌≡◌};
+    ghost use Rattle.af_plane.specs.Logs.{rows_of};
     ghost use Rattle.af_plane.specs.Looks.{IsOn};
-    ghost use Rattle.af_plane.specs.Visits.{VisitorRows};
+    ghost use Rattle.af_plane.specs.Visits.{SessionRows};
 
-    ghost Value = { VisitorRows };
+    ghost Value = { SessionRows };
 
-    ghost view = { λ v. record { visit = v.session; calls = v.calls.items; times = v.times.items; ticks = v.ticks.items; claims = v.claims.items; reports = v.reports.items; outcomes = v.outcomes.items; mes = v.mes.items; reads = v.reads.items; changes = v.changes.items; unreads = v.unreads.items } };
+    ghost view = { λ v. rows_of v.session v.log };
 
     ghost invariant = { λ v. IsOn N.name.site v.session × (v.session.entries.keeper ≡ N.name.keeper) };
 }
 
-impl<N: Named> Visitor<N> {
-    /// A session that is opened with a ticket. It has done nothing yet.
-    fn open(session: Session, _ticket: Ticket<N>) -> Visitor<N>
+impl<N: Named> ControlSession<N> {
+    /// A session that is opened with a permit. It has done nothing yet.
+    fn open(session: Session, _permit: SessionPermit<N>) -> ControlSession<N>
         requires on { IsOn N.name.site session }
         requires keeper { session.entries.keeper ≡ N.name.keeper }
-        ensures { result ≡ new_visitor session }
+        ensures { result ≡ new_session session }
     {
-        Visitor {
+        ControlSession {
             session,
-            calls: Log::new(),
-            times: Log::new(),
-            ticks: Log::new(),
-            claims: Log::new(),
-            reports: Log::new(),
-            outcomes: Log::new(),
-            mes: Log::new(),
-            reads: Log::new(),
-            changes: Log::new(),
-            unreads: Log::new(),
+            log: SessionLog {
+                calls: Log::new(),
+                times: Log::new(),
+                ticks: Log::new(),
+                claims: Log::new(),
+                reports: Log::new(),
+                outcomes: Log::new(),
+                mes: Log::new(),
+                reads: Log::new(),
+                changes: Log::new(),
+                unreads: Log::new(),
+            },
             of: PhantomData,
         }
+    }
+
+    /// The session, when it is over.
+    pub fn end(self) -> EndedSession
+        ensures rows { result ≡ self }
+        ensures of { IsOfControl N.name self }
+    {
+        EndedSession::of(self)
+    }
+
+    /// What it holds at its end, and all that it has done.
+    pub(crate) fn into_parts(self) -> (Session, SessionLog)
+        ensures rows { rows_of result.0 result.1 ≡ self }
+        ensures on { IsOn N.name.site result.0 }
+        ensures keeper { result.0.entries.keeper ≡ N.name.keeper }
+    {
+        let ControlSession {
+            session,
+            log,
+            of: _,
+        } = self;
+        (session, log)
     }
 
     /// The last version that it has seen, and how many entries it has seen.
@@ -114,7 +124,7 @@ impl<N: Named> Visitor<N> {
         ensures once { HasAskedOnce self.old asks.Me result self.new }
     {
         let served = self.session.me(alloc, board, token);
-        self.mes = self.mes.and(&(), &served);
+        self.log.mes = self.log.mes.and(&(), &served);
         served
     }
 
@@ -131,7 +141,7 @@ impl<N: Named> Visitor<N> {
         ensures once { HasAskedOnce self.old (asks.Read asked.now) result self.new }
     {
         let served = self.session.read(alloc, board, token, asked);
-        self.reads = self.reads.and(asked, &served);
+        self.log.reads = self.log.reads.and(asked, &served);
         served
     }
 
@@ -148,7 +158,7 @@ impl<N: Named> Visitor<N> {
         ensures once { HasAskedOnce self.old (asks.Unread kind) result self.new }
     {
         let served = self.session.unread(alloc, board, token, kind);
-        self.unreads = self.unreads.and(&kind, &served);
+        self.log.unreads = self.log.unreads.and(&kind, &served);
         served
     }
 
@@ -166,7 +176,7 @@ impl<N: Named> Visitor<N> {
         ensures once { HasAskedOnce self.old (asks.Change ask.now) result self.new }
     {
         let served = self.session.submit(rt, alloc, board, token, ask);
-        self.changes = self.changes.and(ask, &served);
+        self.log.changes = self.log.changes.and(ask, &served);
         served
     }
 }

@@ -5,12 +5,12 @@ use Rattle.af_prefixes.proofs.PrefixLemmas.{prefix_self}
 use Rattle.af_board.specs.Marks.{Site}
 use Rattle.af_plane.specs.Names.{IsNamed}
 use Rattle.af_plane.specs.Turns.{IsTurn}
-use Rattle.af_plane.specs.Visits.{Visit, VisitorRows}
-use Rattle.af_plane.proofs.visitor.locked.Locked.read.Goals as goal
+use Rattle.af_plane.specs.Visits.{Visit, SessionRows}
+use Rattle.af_plane.proofs.control_session.locked.Locked.read.Goals as goal
 
 pub returns-clause-call : goal.returns-clause-call
 returns-clause-call g c =
-    let visit_is = ap (λ (v : VisitorRows). v.visit) c.session.view_is in
+    let visit_is = ap (λ (v : SessionRows). v.visit) c.session.view_is in
     let named : IsNamed g.N.Named.name c.args.self.now.plane = record { of = c.args.self.now.whose; ledger = c.conditions.ensures.ledger; entries = c.conditions.ensures.entries } in (
       record {
         old = c.args.self.now.plane;
