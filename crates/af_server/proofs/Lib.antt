@@ -8,5 +8,7 @@ pub mod VerifiedLemmas
 pub mod VariableLemmas
 pub mod ConfigurationLemmas
 pub mod ProgramLemmas
-pub mod AttendanceLemmas
+pub mod ReportLemmas
+pub mod ServingLemmas
+pub mod ReportLawLemmas
 mod TickerLemmas

@@ -1,8 +1,8 @@
 -- What an error of accept says of the connections that come after it (accept(2) and errno(3) of Linux).
 use Rattle.std.specs.Prelude.{ℕ, List, [], ◌∷◌, ◌==◌, ℤ, pos, negsuc, Option, Some, None, cond}
 use Rattle.std.specs.List.{list_any}
-use Rattle.af_server.specs.declared.accept_error.AcceptError.{AcceptError}
-use Rattle.af_server.specs.declared.accept_error.AcceptError.TheVariants.{Gone, Short, Final}
+use Rattle.af_server.specs.declared.host.accept_error.AcceptError.{AcceptError}
+use Rattle.af_server.specs.declared.host.accept_error.AcceptError.TheVariants.{Gone, Short, Final}
 
 -- ENOMEM, ENFILE, EMFILE and ENOBUFS: what is short comes back
 abbrev pub short_numbers : List ℕ

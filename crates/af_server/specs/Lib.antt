@@ -21,11 +21,13 @@ pub mod Verified
 pub mod Verdicts
 pub mod AcceptErrors
 pub mod Machines
-pub mod Attendances
+pub mod Connections
+pub mod Reports
 pub mod Workers
 pub mod Rounds
 pub mod NoPorts
 pub mod Listenings
 pub mod Servers
 pub mod Programs
+pub mod ReportLaws
 pub mod Worked

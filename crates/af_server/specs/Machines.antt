@@ -6,11 +6,13 @@ use Rattle.std.specs.declared.io.ErrorKind.{ErrorKind}
 use Rattle.std.specs.Duration.{as_nanos}
 use Rattle.af_names.specs.Instants.{last_micros}
 
--- which instants its clock may tell, which port it may give where one is asked for, and for which errors it may give none, or no more connections
+-- which instants its clock may tell; which port it may give where one is asked for, and for which errors it may give none; and for which errors
+-- it may give no more connections
 pub record Behaviour : Type 1 where
   pub tells : ℕ → Type 0
   pub gives : ℕ → ℕ → Type 0
-  pub fails : ErrorKind → Type 0
+  pub refuses : ErrorKind → Type 0
+  pub ends : ErrorKind → Type 0
 
 -- the instant of what a clock has answered, in microseconds since 1970: of a time outside the range of instants its nearest end, and the first
 -- instant where the clock can't be read

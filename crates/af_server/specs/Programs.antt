@@ -5,7 +5,6 @@ use Rattle.af_http.specs.Streams.{Given, Taken}
 use Rattle.af_http.specs.declared.ended.Ended.{Ended}
 use Rattle.af_server.specs.declared.command.Command.{Command}
 use Rattle.af_server.specs.declared.command.Command.TheVariants.{Once, Serve, Verify, Usage}
-use Rattle.af_server.specs.declared.done.Done.{Done}
 use Rattle.af_server.specs.declared.reason.Reason.{Reason}
 use Rattle.af_server.specs.declared.reason.Reason.TheVariants.{Memory}
 use Rattle.af_server.specs.Configurations.{ConfigurationRows, configuration_of}
@@ -13,6 +12,7 @@ use Rattle.af_server.specs.Listenings.{ListeningRows}
 use Rattle.af_server.specs.Machines.{Behaviour}
 use Rattle.af_server.specs.NoPorts.{NoPortRows, no_port_line}
 use Rattle.af_server.specs.Once.{IsOnce, IsUntouched}
+use Rattle.af_server.specs.Reports.{DoneRows}
 use Rattle.af_server.specs.Servers.{HasServed, IsAt, IsServerOf}
 use Rattle.af_server.specs.Tellings.{Tells, refusal_line, said_of, status_of, usage_line}
 use Rattle.af_server.specs.Verdicts as verdicts
@@ -70,11 +70,11 @@ module _ (Holds : List ℕ → List ℕ → Type 0) (Refuses : List ℕ → Reas
 
   -- Nothing is read of standard input. The server listens on a port that the machine may give for the one that is asked for, and that port is
   -- printed; then so many workers serve under the configuration, beside a scheduler. One outcome is announced, and served.
-  abbrev pub RunsServe : Behaviour → List ℕ → ℕ → ℕ → Given → Given → Taken → Taken → Taken → Taken → Done → Type 0
+  abbrev pub RunsServe : Behaviour → List ℕ → ℕ → ℕ → Given → Given → Taken → Taken → Taken → Taken → DoneRows → Type 0
   RunsServe behaviour path port count before after start finish told told' done =
       (outcome : Result (Result ListeningRows NoPortRows) Reason) × Comes path IsServed outcome × IfOk outcome (IsAt behaviour port) × (after ≡ before)
       × Tells start finish (announced outcome) × Tells told told' (blamed outcome) × (done.status ≡ served_status outcome)
-      × HasServed behaviour count outcome done.shift
+      × HasServed behaviour count outcome done.served
 
   -- nothing is read of standard input, and what is found out is printed
   abbrev pub RunsVerify : List ℕ → Given → Given → Taken → Taken → Taken → Taken → ℕ → Type 0
@@ -83,11 +83,11 @@ module _ (Holds : List ℕ → List ℕ → Type 0) (Refuses : List ℕ → Reas
       × Tells told told' (refused_of outcome) × (status ≡ verdicts.status_of outcome)
 
   -- what is done alone, without a server
-  abbrev pub IsAlone : (ℕ → Type 0) → Done → Type 0
-  IsAlone Runs done = Runs done.status × (done.shift ≡ None)
+  abbrev pub IsAlone : (ℕ → Type 0) → DoneRows → Type 0
+  IsAlone Runs done = Runs done.status × (done.served ≡ None)
 
   -- by what is asked for; of wrong words how the program is called
-  abbrev pub Runs : Behaviour → Command → Given → Given → Taken → Taken → Taken → Taken → Done → Type 0
+  abbrev pub Runs : Behaviour → Command → Given → Given → Taken → Taken → Taken → Taken → DoneRows → Type 0
   Runs behaviour (Once config now) before after start finish told told' done =
       IsAlone (RunsOnce (string_bytes config) now before after start finish told told') done
   Runs behaviour (Serve config port count) before after start finish told told' done =

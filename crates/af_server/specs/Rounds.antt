@@ -1,6 +1,7 @@
 -- What the scheduler's thread does, with a session of its own: in each round a tick, and then tries of task instances until none is queued
 -- (this product's own rule).
-use Rattle.std.specs.Prelude.{◌≡◌, ℕ, zero, suc, List, Bool, true, Option, Some, None, Result, Ok, Err}
+use Rattle.std.specs.Prelude.{◌≡◌, ℕ, zero, suc, List, [], ◌∷◌, ◌++◌, Bool, true, false, replicate, Option, Some, None, Result, Ok, Err}
+use Rattle.std.specs.declared.time.Duration.{Duration}
 use Rattle.af_sched.specs.Scripts.{ScriptRow, scripted_outcome}
 use Rattle.af_sched.specs.declared.claim.Claim.{Claim}
 use Rattle.af_sched.specs.declared.outcome.Outcome.{Outcome}
@@ -9,16 +10,21 @@ use Rattle.af_audit.specs.Reported.{IsReported}
 use Rattle.af_audit.specs.Ticked.{IsTicked}
 use Rattle.af_audit.specs.declared.audit_fault.AuditFault.{AuditFault}
 use Rattle.af_audit.specs.declared.report_refusal.ReportRefusal.{ReportRefusal}
+use Rattle.af_plane.specs.Closings.{IsOfControl}
 use Rattle.af_plane.specs.Logs.{HasClaimed, HasReported, HasTicked}
 use Rattle.af_plane.specs.Names.{IsDone, Name}
 use Rattle.af_plane.specs.Planes.{ClaimIs, ReportIs, TickIs}
-use Rattle.af_plane.specs.Visits.{VisitorRows}
+use Rattle.af_plane.specs.Visits.{SessionRows}
+use Rattle.af_server.specs.Reports.{SchedulerRows}
 use Rattle.af_server.specs.Workers.{IsNew}
 
--- one who waits to be told to stop: how many periods have passed, and whether it was told
-pub record WaitingRows : Type 0 where
-  pub periods : ℕ
-  pub told : Bool
+-- how long a period is, in nanoseconds
+abbrev pub second : ℕ
+second = 1000000000
+
+-- so many waits for a period that came to their end, and one in which it was told to stop
+abbrev pub waits_of : Duration → ℕ → List (Duration × Bool)
+waits_of period count = replicate count (period, false) ++ (period, true) ∷ []
 
 -- a claim gave no instance: none is queued, or there was an error
 abbrev pub IsNone : Result (Option Claim) AuditFault → Type 0
@@ -29,7 +35,7 @@ IsNone (Err fault) = Unit {0}
 -- tells: which instants the clock may tell
 module _ (tells : ℕ → Type 0) (name : Name) where
   -- a session has ticked at an instant that the clock may tell; and that is all that it did
-  pub record Ticks (was now : VisitorRows) : Type 0 where
+  pub record Ticks (was now : SessionRows) : Type 0 where
     pub at : ℕ
     pub within : tells at
     pub told : Result Bool AuditFault
@@ -37,14 +43,14 @@ module _ (tells : ℕ → Type 0) (name : Name) where
     pub once : HasTicked was at told now
 
   -- the same of a claim, and what it gave
-  pub record Claims (was : VisitorRows) (told : Result (Option Claim) AuditFault) (now : VisitorRows) : Type 0 where
+  pub record Claims (was : SessionRows) (told : Result (Option Claim) AuditFault) (now : SessionRows) : Type 0 where
     pub at : ℕ
     pub within : tells at
     pub done : IsDone name was.visit now.visit (λ old new. IsClaimed at old new told × ClaimIs old at told new)
     pub once : HasClaimed was at told now
 
   -- and of a report of the outcome of a claimed try
-  pub record Reports (was : VisitorRows) (claim : Claim) (outcome : Outcome) (now : VisitorRows) : Type 0 where
+  pub record Reports (was : SessionRows) (claim : Claim) (outcome : Outcome) (now : SessionRows) : Type 0 where
     pub at : ℕ
     pub within : tells at
     pub told : Result (Unit {0}) ReportRefusal
@@ -52,36 +58,39 @@ module _ (tells : ℕ → Type 0) (name : Name) where
     pub once : HasReported was claim outcome at told now
 
   -- an instance was claimed, and the outcome that its script says was reported
-  abbrev pub HasTried : List ScriptRow → VisitorRows → VisitorRows → Type 0
+  abbrev pub HasTried : List ScriptRow → SessionRows → SessionRows → Type 0
   HasTried scripts was now =
-      (claim : Claim) × ((mid : VisitorRows) × (Claims was (Ok (Some claim)) mid × Reports mid claim (scripted_outcome scripts claim) now))
+      (claim : Claim) × ((mid : SessionRows) × (Claims was (Ok (Some claim)) mid × Reports mid claim (scripted_outcome scripts claim) now))
 
   -- so many, one after another
-  abbrev pub HasTriedAll : List ScriptRow → ℕ → VisitorRows → VisitorRows → Type 0
+  abbrev pub HasTriedAll : List ScriptRow → ℕ → SessionRows → SessionRows → Type 0
   HasTriedAll scripts zero was now = now ≡ was
-  HasTriedAll scripts (suc n) was now = (mid : VisitorRows) × (HasTriedAll scripts n was mid × HasTried scripts mid now)
+  HasTriedAll scripts (suc n) was now = (mid : SessionRows) × (HasTriedAll scripts n was mid × HasTried scripts mid now)
 
   -- no more was claimed
-  abbrev pub HasStopped : VisitorRows → VisitorRows → Type 0
+  abbrev pub HasStopped : SessionRows → SessionRows → Type 0
   HasStopped was now = (told : Result (Option Claim) AuditFault) × (IsNone told × Claims was told now)
 
   -- tries, until no more is claimed
-  abbrev pub HasWorked : List ScriptRow → VisitorRows → VisitorRows → Type 0
-  HasWorked scripts was now = (tries : ℕ) × ((mid : VisitorRows) × (HasTriedAll scripts tries was mid × HasStopped mid now))
+  abbrev pub HasWorked : List ScriptRow → SessionRows → SessionRows → Type 0
+  HasWorked scripts was now = (tries : ℕ) × ((mid : SessionRows) × (HasTriedAll scripts tries was mid × HasStopped mid now))
 
   -- a round
-  abbrev pub IsRound : List ScriptRow → VisitorRows → VisitorRows → Type 0
-  IsRound scripts was now = (ticked : VisitorRows) × (Ticks was ticked × HasWorked scripts ticked now)
+  abbrev pub IsRound : List ScriptRow → SessionRows → SessionRows → Type 0
+  IsRound scripts was now = (ticked : SessionRows) × (Ticks was ticked × HasWorked scripts ticked now)
 
   -- so many, one after another
-  abbrev pub AreRounds : List ScriptRow → ℕ → VisitorRows → VisitorRows → Type 0
+  abbrev pub AreRounds : List ScriptRow → ℕ → SessionRows → SessionRows → Type 0
   AreRounds scripts zero was now = now ≡ was
-  AreRounds scripts (suc n) was now = (mid : VisitorRows) × (AreRounds scripts n was mid × IsRound scripts mid now)
+  AreRounds scripts (suc n) was now = (mid : SessionRows) × (AreRounds scripts n was mid × IsRound scripts mid now)
 
-  -- the scheduler has had a round after each period, with a session that was opened for it, until it was told to stop
-  pub record HasScheduled (scripts : List ScriptRow) (waiting : WaitingRows) : Type 0 where
-    pub old : VisitorRows
-    pub new : VisitorRows
-    pub opened : IsNew old
-    pub rounds : AreRounds scripts waiting.periods old new
-    pub told : waiting.told ≡ true
+  -- The scheduler has waited for a period, again and again, until it was told to stop, and has had as many rounds as such waits, with this session:
+  -- the session has ticked, claimed and reported nothing else. No connection was handed to it.
+  pub record HasScheduled (scripts : List ScriptRow) (period : Duration) (scheduler : SchedulerRows) : Type 0 where
+    pub opening : SessionRows
+    pub opened : IsNew opening
+    pub count : ℕ
+    pub alone : scheduler.connections ≡ []
+    pub waited : scheduler.waits ≡ waits_of period count
+    pub rounds : AreRounds scripts count opening scheduler.session
+    pub of : IsOfControl name scheduler.session

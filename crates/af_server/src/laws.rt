@@ -1,7 +1,9 @@
 ghost use Rattle.af_server.specs.Laws.{AnsweredVersionsClimb, CallsAreAll, DesksAnswerAlike, DesksOpenAlike, EntriesAreGranted, ExchangesAreOneRun, OneReading, VersionsFollow};
 ghost use Rattle.af_server.specs.Programs.{OnceReads, ServeReads, VerifyReads};
+ghost use Rattle.af_server.specs.ReportLaws.{ConnectionsAreCalls, WorkersAgree};
 
 use crate::files::Files;
+use crate::machine::Machine;
 use af_plane::laws;
 
 /// All exchanges from a desk under a configuration on are one run of the world, whatever others publish between them: its steps are those of
@@ -63,3 +65,16 @@ pub fn files_are_read<F: Files>()
     ensures serve { (files : F) → ServeReads (F.holds files) (F.refuses files) }
     ensures verify { (files : F) → VerifyReads (F.holds files) (F.refuses files) }
 {}
+
+/// What is asked on the connections that a worker reports are calls of its one session, one after another, of which `no_session_goes_back` holds.
+pub fn connections_are_calls<R: Machine>()
+    ensures { ConnectionsAreCalls R.behaviour.tells }
+{}
+
+/// Two workers of one report agree, each after any of its connections: their answers are decided on beginnings of one list of versions and of one
+/// list of entries.
+pub fn workers_agree<R: Machine>()
+    ensures { WorkersAgree R.behaviour }
+{
+    laws::sessions_agree();
+}

@@ -7,9 +7,8 @@ ghost use Rattle.af_server.specs.Tellings.{Tells};
 use crate::config::Configuration;
 use crate::done::Done;
 use crate::files::Files;
-use crate::machine::Machine;
+use crate::host::Listener;
 use crate::no_port::NoPort;
-use crate::port::Port;
 use crate::ports::Ports;
 use crate::reason::Reason;
 use crate::server::{Server, serve};
@@ -25,9 +24,9 @@ use std::thread::Threads;
 #[derive(Drop)]
 pub struct Listening {
     server: Server,
-    port: Port,
+    listener: Listener,
     line: String,
-    ghost says: { string_bytes line ≡ listening_line port },
+    ghost says: { string_bytes line ≡ listening_line listener },
 }
 
 impl Model for Listening {
@@ -37,7 +36,7 @@ impl Model for Listening {
 
     ghost view = { λ listening. record {
       server = server_of listening.server.parts.board listening.server.parts.plane listening.server.scripted;
-      port = listening.port;
+      port = listening.listener;
     } };
 }
 
@@ -78,9 +77,13 @@ fn listen<H: Ports>(rt: &H, alloc: Global, server: Server, port: u16) -> Result<
     ensures memory { IfErr result (λ reason. reason ≡ Reason.Memory) }
 {
     match rt.listen(port) {
-        Ok(port) => {
-            let line = listening_line(alloc, port.number())?;
-            Ok(Ok(Listening { server, port, line }))
+        Ok(listener) => {
+            let line = listening_line(alloc, listener.port())?;
+            Ok(Ok(Listening {
+                server,
+                listener,
+                line,
+            }))
         }
         Err(error) => Ok(Err(NoPort::of(alloc, port, error)?)),
     }
@@ -128,30 +131,36 @@ fn blamed(outcome: &Result<Found, Reason>) -> &str
 }
 
 /// Serves, if the server listens, with so many workers until all have ended, and gives the status.
-pub fn finish<H: Threads + Wait + Machine + Sync>(
+pub fn finish<H: Threads + Wait + Ports + Sync>(
     rt: &H,
     alloc: Global,
     outcome: Result<Found, Reason>,
     count: &WorkerCount,
-) -> Done
+) -> Done<H::Log>
+where
+    H::Log: Send,
     ensures status { result.status ≡ served_status outcome }
-    ensures served { HasServed H.behaviour count.now outcome result.shift }
+    ensures served { HasServed H.behaviour count.now outcome result.served }
 {
     match outcome {
         Ok(Ok(listening)) => {
-            let Listening { server, port, .. } = listening;
+            let Listening {
+                server,
+                listener,
+                ..
+            } = listening;
             Done {
                 status: 1,
-                shift: Some(serve(rt, alloc, server, &port, count)),
+                served: Some(serve(rt, alloc, server, &listener, count)),
             }
         }
         Ok(Err(_)) => Done {
             status: 1,
-            shift: None,
+            served: None,
         },
         Err(_) => Done {
             status: 3,
-            shift: None,
+            served: None,
         },
     }
 }

@@ -1,55 +1,50 @@
-ghost use Rattle.std.specs.Prelude.{◌≡◌, IfErr, IfOk};
+ghost use Rattle.std.specs.Prelude.{◌≡◌, ◌∷◌, ◌++◌, [], IfErr, IfOk, OnErr};
+ghost use Rattle.af_server.specs.Connections.{HasHandled};
 ghost use Rattle.af_server.specs.Machines.{Behaviour};
 
-use crate::accept_error::AcceptError;
-use crate::clock::time_now;
-use crate::guest::Guest;
-use crate::port::Port;
+use crate::handler::Handler;
+use crate::host::{Listener, Stop};
+use crate::machine_log::MachineLog;
 use af_names::Instant;
 use std::io::ErrorKind;
-use std::thread;
+use std::sync::Wait;
 use std::time::{Clock, Duration};
 
-/// For how many milliseconds a worker waits for what the system is short of, before it accepts again.
-const PAUSE: u64 = 100;
-
-/// What a server has of the machine that it runs on: its time, and the connections that come in at a port. What is generic over a machine can
-/// make up none of them, and opens no port.
+/// What a server has of the machine that it runs on: its time, waits, and the connections that come in at a port. What is generic over a machine
+/// can make up no connection, and reads and writes one only as a handler.
 pub trait Machine: Clock {
+    /// What notes all that the machine does for one thread.
+    type Log: MachineLog;
+
     ghost behaviour: { Behaviour };
 
     /// The time now.
     fn time(&self) -> Instant
         ensures { behaviour.tells result };
 
-    /// The next connection that comes in at a port, or why there are no more.
-    fn accept(&self, port: &Port) -> Result<Guest, ErrorKind>
-        ensures guest { IfOk result (λ guest. guest ≡ port.now) }
-        ensures error { IfErr result behaviour.fails };
-}
+    /// Hands a connection that comes in to a handler, and notes what its reader has given and its writer taken when the handler is done. A peer
+    /// has so much time for each of its turns. At an error nothing is handled.
+    fn handle_next<H: Handler>(
+        &self,
+        listener: &Listener,
+        time: Duration,
+        log: &mut Self::Log,
+        handler: &mut H,
+    ) -> Result<(), ErrorKind>
+        ensures handled { IfOk result (λ _. HasHandled H.handles listener.now handler.old handler.new (Self.Log.connections log.old) (Self.Log.connections log.new)) }
+        ensures idle { OnErr result (handler.new ≡ handler.old) }
+        ensures none { OnErr result (Self.Log.connections log.new ≡ Self.Log.connections log.old) }
+        ensures error { IfErr result behaviour.ends }
+        ensures waits { Self.Log.waits log.new ≡ Self.Log.waits log.old };
 
-impl Machine for HostRuntime {
-    ghost use Rattle.af_server.specs.Machines.{IsPort, IsTold};
-
-    ghost behaviour = { record { tells = IsTold; gives = IsPort; fails = λ error. Unit {0} } };
-
-    fn time(&self) -> Instant {
-        time_now(self)
-    }
-
-    /// A connection that failed before it was accepted is passed over. If the system is short of open files, buffers or memory, the call is
-    /// made again after a pause.
-    fn accept(&self, port: &Port) -> Result<Guest, ErrorKind> {
-        for _ in 0..u64::MAX {
-            match port.listener().accept() {
-                Ok((stream, _)) => return Ok(Guest::of(stream, port)),
-                Err(error) => match AcceptError::of(&error) {
-                    AcceptError::Gone => {}
-                    AcceptError::Short => thread::sleep(self, Duration::from_millis(PAUSE)),
-                    AcceptError::Final => return Err(error.kind()),
-                },
-            }
-        }
-        Err(ErrorKind::ConnectionAborted)
-    }
+    /// Waits to be told to stop, for this time at most, and returns whether it was. It notes the wait.
+    fn wait<W: Wait + Clock>(
+        &self,
+        waiter: &W,
+        stop: &Stop,
+        time: Duration,
+        log: &mut Self::Log,
+    ) -> bool
+        ensures waits { Self.Log.waits log.new ≡ Self.Log.waits log.old ++ (time, result) ∷ [] }
+        ensures connections { Self.Log.connections log.new ≡ Self.Log.connections log.old };
 }

@@ -20,7 +20,7 @@ use std::alloc::Global;
 use std::sync::Wait;
 use std::thread::Threads;
 
-/// Does what the words ask for, with files found there, and gives the status, and what the threads of a server did, where one has listened. `once`: 0 where the connection ended as connections do, 1 where
+/// Does what the words ask for, with files found there, and gives the status, and what the threads of a server report, where one has listened. `once`: 0 where the connection ended as connections do, 1 where
 /// it was cut short. `serve`: 1 where the server can't listen, and after its last worker has ended. `verify`: 0 where the answers agree, 1
 /// where they differ. Of wrong words 2; where the configuration or the trace is refused, also where its file can't be had, 3.
 pub fn run<H: Ports + Threads + Wait + Sync, F: Files, R: Source, W: Sink, E: Sink>(
@@ -29,14 +29,16 @@ pub fn run<H: Ports + Threads + Wait + Sync, F: Files, R: Source, W: Sink, E: Si
     files: &F,
     command: Command,
     console: &mut Console<R, W, E>,
-) -> Done
+) -> Done<H::Log>
+where
+    H::Log: Send,
     ensures { Runs (F.holds files.now) (F.refuses files.now) H.behaviour command (R.given console.old.input) (R.given console.new.input)
         (W.taken console.old.output) (W.taken console.new.output) (E.taken console.old.errors) (E.taken console.new.errors) result }
 {
     match command {
         Command::Once { config, now } => Done {
             status: once_at(rt, alloc, files, config.as_str(), now, console),
-            shift: None,
+            served: None,
         },
         Command::Serve {
             config,
@@ -45,11 +47,11 @@ pub fn run<H: Ports + Threads + Wait + Sync, F: Files, R: Source, W: Sink, E: Si
         } => serve_at(rt, alloc, files, config.as_str(), port, &count, console),
         Command::Verify { trace } => Done {
             status: verify_at(alloc, files, trace.as_str(), console),
-            shift: None,
+            served: None,
         },
         Command::Usage => Done {
             status: usage(&mut console.errors),
-            shift: None,
+            served: None,
         },
     }
 }
@@ -107,7 +109,9 @@ fn serve_at<H: Ports + Threads + Wait + Sync, F: Files, R: Source, W: Sink, E: S
     port: u16,
     count: &WorkerCount,
     console: &mut Console<R, W, E>,
-) -> Done
+) -> Done<H::Log>
+where
+    H::Log: Send,
     ensures { RunsServe (F.holds files.now) (F.refuses files.now) H.behaviour path.now port count.now (R.given console.old.input) (R.given console.new.input)
         (W.taken console.old.output) (W.taken console.new.output) (E.taken console.old.errors) (E.taken console.new.errors) result }
 {

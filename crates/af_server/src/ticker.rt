@@ -1,12 +1,12 @@
-ghost use Rattle.std.specs.Prelude.{◌≡◌, true, MatchBool, MatchOption, Ok, Some};
-ghost use Rattle.af_server.specs.Rounds.{AreRounds, Claims, HasStopped, HasTried, HasWorked, IsRound, Reports};
+ghost use Rattle.std.specs.Prelude.{◌≡◌, ℕ, [], MatchBool, MatchOption, Ok, Some};
+ghost use Rattle.af_plane.specs.Closings.{IsOfControl};
+ghost use Rattle.af_server.specs.Rounds.{AreRounds, Claims, HasStopped, HasTried, HasWorked, IsRound, Reports, waits_of};
 ghost use Rattle.af_server.specs.Workers.{IsNew};
 
+use crate::host::Stop;
 use crate::machine::Machine;
-use crate::stop::Stop;
-use crate::waiting::Waiting;
 use af_audit::AuditFault;
-use af_plane::{Control, Named, Ticket, Visitor};
+use af_plane::{Control, ControlSession, EndedSession, Named, SessionPermit};
 use af_sched::{Claim, Executor, Outcome, Scripted};
 use std::alloc::Global;
 use std::marker::Model;
@@ -19,24 +19,24 @@ pub struct Ticker<'a, N: Named, R: Wait + Machine> {
     rt: &'a R,
     alloc: Global,
     control: &'a Control<N>,
-    visitor: Visitor<N>,
+    session: ControlSession<N>,
 }
 
 impl<'a, N: Named, R: Wait + Machine> Model for Ticker<'a, N, R> {
-    ghost use Rattle.af_plane.specs.Visits.{VisitorRows};
+    ghost use Rattle.af_plane.specs.Visits.{SessionRows};
 
-    ghost Value = { VisitorRows };
+    ghost Value = { SessionRows };
 
-    ghost view = { λ ticker. ticker.visitor };
+    ghost view = { λ ticker. ticker.session };
 }
 
 impl<'a, N: Named, R: Wait + Machine> Ticker<'a, N, R> {
-    /// A scheduler of what threads share, with the one session that its ticket is for.
+    /// A scheduler of what threads share, with the one session that its permit is for.
     pub fn open(
         rt: &'a R,
         alloc: Global,
         control: &'a Control<N>,
-        ticket: Ticket<N>,
+        permit: SessionPermit<N>,
     ) -> Ticker<'a, N, R>
         ensures { IsNew result }
     {
@@ -44,19 +44,28 @@ impl<'a, N: Named, R: Wait + Machine> Ticker<'a, N, R> {
             rt,
             alloc,
             control,
-            visitor: control.session(rt, ticket),
+            session: control.session(rt, permit),
         }
     }
 
-    /// Has a round after each period until it is told to stop.
-    pub fn run(&mut self, scripted: &mut Scripted, period: Duration, stop: &Stop) -> Waiting
-        ensures rounds { AreRounds R.behaviour.tells N.name scripted.old result.periods self.old self.new }
-        ensures told { result.told ≡ true }
+    /// The session, when the scheduler has ended.
+    pub fn end(self) -> EndedSession
+        ensures session { result ≡ self.entry }
+        ensures of { IsOfControl N.name self.entry }
     {
-        let mut waiting = Waiting::new();
+        let Ticker { session, .. } = self;
+        session.end()
+    }
+
+    /// Waits for a period, again and again, and has a round after each, until it is told to stop.
+    pub fn run(&mut self, scripted: &mut Scripted, period: Duration, stop: &Stop, log: &mut R::Log)
+        requires { R.Log.waits log.old ≡ [] }
+        ensures rounds { (rounds : ℕ) × (R.Log.waits log.new ≡ waits_of period rounds) × AreRounds R.behaviour.tells N.name scripted.old rounds self.old self.new }
+        ensures connections { R.Log.connections log.new ≡ R.Log.connections log.old }
+    {
         for _ in self.rt.forever() {
-            if waiting.wait(self.rt, stop, period) {
-                return waiting;
+            if self.rt.wait(self.rt, stop, period, log) {
+                return;
             }
             self.round(scripted);
         }
@@ -72,7 +81,7 @@ impl<'a, N: Named, R: Wait + Machine> Ticker<'a, N, R> {
         let at = self.rt.time();
         let _ = self
             .control
-            .tick(self.rt, self.alloc, &mut self.visitor, at);
+            .tick(self.rt, self.alloc, &mut self.session, at);
         self.work(scripted);
     }
 
@@ -121,7 +130,7 @@ impl<'a, N: Named, R: Wait + Machine> Ticker<'a, N, R> {
     {
         let at = self.rt.time();
         self.control
-            .claim(self.rt, self.alloc, &mut self.visitor, at)
+            .claim(self.rt, self.alloc, &mut self.session, at)
     }
 
     /// Reports the outcome of a claimed try.
@@ -131,6 +140,6 @@ impl<'a, N: Named, R: Wait + Machine> Ticker<'a, N, R> {
         let at = self.rt.time();
         let _ = self
             .control
-            .report(self.rt, self.alloc, &mut self.visitor, claim, outcome, at);
+            .report(self.rt, self.alloc, &mut self.session, claim, outcome, at);
     }
 }

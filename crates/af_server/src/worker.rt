@@ -1,6 +1,7 @@
 ghost use Rattle.std.specs.Prelude.{◌≡◌};
 ghost use Rattle.std.specs.Option.{option_copied};
 ghost use Rattle.af_ops.specs.declared.call.Call.TheVariants as calls;
+ghost use Rattle.af_plane.specs.Closings.{IsOfControl};
 ghost use Rattle.af_plane.specs.Turns.{IsOfPlane};
 ghost use Rattle.af_server.specs.Workers.{IsNew, Works};
 
@@ -9,7 +10,7 @@ use crate::machine::Machine;
 use af_audit::RecentTokens;
 use af_http::Service;
 use af_ops::{Call, PolicyOp, Served};
-use af_plane::{Control, Named, Request, Ticket, Visitor};
+use af_plane::{Control, ControlSession, EndedSession, Named, Request, SessionPermit};
 use std::alloc::Global;
 use std::marker::Model;
 use std::sync::Wait;
@@ -22,25 +23,25 @@ pub struct Worker<'a, N: Named, R: Wait + Machine, G: Gate> {
     alloc: Global,
     control: &'a Control<N>,
     gate: &'a G,
-    visitor: Visitor<N>,
+    session: ControlSession<N>,
     tokens: RecentTokens,
 }
 
 impl<'a, N: Named, R: Wait + Machine, G: Gate> Model for Worker<'a, N, R, G> {
-    ghost use Rattle.af_plane.specs.Visits.{VisitorRows};
+    ghost use Rattle.af_plane.specs.Visits.{SessionRows};
 
-    ghost Value = { VisitorRows };
+    ghost Value = { SessionRows };
 
-    ghost view = { λ worker. worker.visitor };
+    ghost view = { λ worker. worker.session };
 }
 
 impl<'a, N: Named, R: Wait + Machine, G: Gate> Worker<'a, N, R, G> {
-    /// A worker over what threads share, with the one session that its ticket is for.
+    /// A worker over what threads share, with the one session that its permit is for.
     pub fn open(
         rt: &'a R,
         alloc: Global,
         control: &'a Control<N>,
-        ticket: Ticket<N>,
+        permit: SessionPermit<N>,
         gate: &'a G,
     ) -> Worker<'a, N, R, G>
         ensures { IsNew result }
@@ -50,9 +51,18 @@ impl<'a, N: Named, R: Wait + Machine, G: Gate> Worker<'a, N, R, G> {
             alloc,
             control,
             gate,
-            visitor: control.session(rt, ticket),
+            session: control.session(rt, permit),
             tokens: RecentTokens::new(alloc),
         }
+    }
+
+    /// The session, when the worker has ended.
+    pub fn end(self) -> EndedSession
+        ensures session { result ≡ self.entry }
+        ensures of { IsOfControl N.name self.entry }
+    {
+        let Worker { session, .. } = self;
+        session.end()
     }
 
     /// Decides a call where its data live, at the time of the clock.
@@ -77,7 +87,7 @@ impl<'a, N: Named, R: Wait + Machine, G: Gate> Worker<'a, N, R, G> {
             at: self.rt.time(),
         };
         self.control
-            .call(self.rt, self.alloc, &mut self.visitor, &request)
+            .call(self.rt, self.alloc, &mut self.session, &request)
     }
 
     /// Decides an operation on the policy, on the board, without the plane's lock.
@@ -87,16 +97,16 @@ impl<'a, N: Named, R: Wait + Machine, G: Gate> Worker<'a, N, R, G> {
         let presented = self.tokens.present(token);
         let token = presented.as_ref();
         match asked {
-            PolicyOp::Me => self.control.me(self.alloc, &mut self.visitor, token),
+            PolicyOp::Me => self.control.me(self.alloc, &mut self.session, token),
             PolicyOp::Read(asked) => self
                 .control
-                .read(self.alloc, &mut self.visitor, token, asked),
+                .read(self.alloc, &mut self.session, token, asked),
             PolicyOp::Unread(kind) => self
                 .control
-                .unread(self.alloc, &mut self.visitor, token, *kind),
+                .unread(self.alloc, &mut self.session, token, *kind),
             PolicyOp::Change(ask) => self
                 .control
-                .submit(self.rt, self.alloc, &mut self.visitor, token, ask),
+                .submit(self.rt, self.alloc, &mut self.session, token, ask),
         }
     }
 }

@@ -1,28 +1,29 @@
-ghost use Rattle.std.specs.Prelude.{◌≡◌, ◌≤◌, ◌<◌, ℕ, All, IsSomeAnd, None, length, slice_index_or};
-ghost use Rattle.af_server.specs.Attendances.{CameAt, HasEnded};
+ghost use Rattle.std.specs.Prelude.{◌≡◌, ◌≤◌, ◌<◌, ℕ, All, IsSomeAnd, None, Option, length, slice_index_or};
+ghost use Rattle.af_server.specs.Connections.{CameAt};
+ghost use Rattle.af_server.specs.Reports.{EndsBy, WorkerRows};
 
-use crate::attendance::{Attendance, SEATS};
-use crate::attended::Attended;
 use crate::gate::Gate;
-use crate::leave::Leave;
-use crate::machine::Machine;
-use crate::port::Port;
+use crate::host::Listener;
+use crate::permits::Permits;
+use crate::ports::Ports;
 use crate::shared::Shared;
+use crate::worker_report::WorkerReport;
+use crate::worker_reports::{MOST_WORKERS, WorkerReports};
 use std::alloc::Global;
 use std::sync::Wait;
-use std::thread;
 use std::thread::Threads;
 use std::time::Duration;
+use std::{mem, thread};
 
-/// For how many seconds a peer is waited for.
-const PATIENCE: u64 = 10;
+/// How many seconds a peer has for each of its turns.
+const TIME: u64 = 10;
 
 /// Threads that serve the connections that come in at one port, each one connection at a time.
 #[derive(Drop)]
 pub struct Workers<G: Gate> {
     gate: G,
     count: u32,
-    patience: Duration,
+    time: Duration,
     ghost few: { count ≤ 16 },
 }
 
@@ -35,75 +36,83 @@ impl<G: Gate + Sync> Workers<G> {
         Workers {
             gate,
             count,
-            patience: Duration::from_secs(PATIENCE),
+            time: Duration::from_secs(TIME),
         }
     }
 
-    /// The same, with more or less time for a peer.
-    pub fn with_patience(self, patience: Duration) -> Workers<G>
+    /// The same, with more or less time for each of a peer's turns.
+    pub fn with_time(self, time: Duration) -> Workers<G>
         ensures { result.count ≡ self.count }
     {
         let Workers { gate, count, .. } = self;
-        Workers {
-            gate,
-            count,
-            patience,
-        }
+        Workers { gate, count, time }
     }
 
     /// Serves until each worker has ended. A worker has one session for its life. It ends after so many connections if there is a number, and
     /// if the machine gives no more. It takes no memory.
-    pub fn run<T, C: Shared<T> + Sync, D: Leave<T> + Sync, R: Threads + Wait + Machine + Sync>(
+    pub fn run<T, C: Shared<T> + Sync, P: Permits<T> + Sync, R: Threads + Wait + Ports + Sync>(
         &self,
         rt: &R,
         alloc: Global,
         shared: &C,
-        door: &D,
-        port: &Port,
+        permits: &P,
+        listener: &Listener,
         connections: Option<u32>,
-    ) -> Attendance
+    ) -> WorkerReports<R::Log>
+    where
+        R::Log: Send,
         ensures all { length result ≡ self.entry.now.count }
-        ensures each { All (λ a. C.attends shared.now R.behaviour.tells a.connections × CameAt port.now a × HasEnded R.behaviour.fails connections a) result }
+        ensures each { All (λ worker. C.serves shared.now R.behaviour.tells worker.connections worker.session × CameAt listener.now worker.connections × EndsBy R.behaviour.ends connections (length worker.connections) worker.error) result }
     {
-        let mut seats: [Option<Attended>; SEATS] = [
+        let mut slots: [Option<WorkerReport<R::Log>>; MOST_WORKERS] = [
             None, None, None, None, None, None, None, None, None, None, None, None, None, None,
             None, None,
         ];
         let count = self.count as usize;
-        self.seat(
+        self.fill(
             rt,
             alloc,
             shared,
-            door,
-            port,
+            permits,
+            listener,
             connections,
-            &mut seats[..count],
+            &mut slots[..count],
         );
-        Attendance::of(seats)
+        WorkerReports::of(slots)
     }
 
-    /// Serves with a worker for each seat, until each has ended and taken its seat.
-    fn seat<T, C: Shared<T> + Sync, D: Leave<T> + Sync, R: Threads + Wait + Machine + Sync>(
+    /// Serves with a worker for each slot, until each has ended and left its report there.
+    fn fill<T, C: Shared<T> + Sync, P: Permits<T> + Sync, R: Threads + Wait + Ports + Sync>(
         &self,
         rt: &R,
         alloc: Global,
         shared: &C,
-        door: &D,
-        port: &Port,
+        permits: &P,
+        listener: &Listener,
         connections: Option<u32>,
-        seats: &mut [Option<Attended>],
+        slots: &mut [Option<WorkerReport<R::Log>>],
     )
-        ensures { (i : ℕ) → i < length seats.old → IsSomeAnd (slice_index_or seats.new i None) (λ a. C.attends shared.now R.behaviour.tells a.connections × CameAt port.now a × HasEnded R.behaviour.fails connections a) }
+    where
+        R::Log: Send,
+        requires { (i : ℕ) (other : Option WorkerRows) → i < length slots.old → slice_index_or slots.old i other ≡ None }
+        ensures { (i : ℕ) → i < length slots.old → IsSomeAnd (slice_index_or slots.new i None) (λ worker. C.serves shared.now R.behaviour.tells worker.connections worker.session × CameAt listener.now worker.connections × EndsBy R.behaviour.ends connections (length worker.connections) worker.error) }
     {
-        let count = seats.len();
+        let count = slots.len();
         if count == 0 {
             return;
         }
-        let (gate, patience) = (&self.gate, self.patience);
-        let work = |_: usize, seat: &mut Option<Attended>| {
-            let ticket = door.leave();
-            *seat = Some(shared.attend(ticket, rt, alloc, gate, port, patience, connections));
+        let (gate, time) = (&self.gate, self.time);
+        let work = |_: usize, slot: &mut Option<WorkerReport<R::Log>>|
+            requires { slot.now ≡ None }
+            ensures { IsSomeAnd slot.exit.now (λ worker. C.serves shared.entry.now R.behaviour.tells worker.connections worker.session × CameAt listener.entry.now worker.connections × EndsBy R.behaviour.ends connections (length worker.connections) worker.error) }
+        {
+            let (permit, log) = (permits.issue(), rt.log());
+            let report = shared.serve(permit, log, rt, alloc, gate, listener, time, connections);
+            match mem::replace(slot, Some(report)) {
+                None => {}
+                Some(_other) => unreachable!(),
+            }
         };
-        thread::for_each_mut(rt, seats, count, &work);
+        thread::for_each_mut(rt, slots, count, &work);
     }
 }

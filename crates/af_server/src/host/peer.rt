@@ -1,4 +1,4 @@
-use crate::patience::Patience;
+use crate::host::deadline::Deadline;
 use std::cell::Cell;
 use std::io::{self, ErrorKind, Read, Write};
 use std::net::{Shutdown, TcpStream};
@@ -16,28 +16,28 @@ const LAST_MILLIS: u64 = 1_000;
 /// One direction of a connection: the peer as a reader, or as a writer. A call that a signal interrupts is made again; one that the peer does
 /// not serve in time fails.
 #[derive(Drop)]
-pub struct Peer<'a, R: Clock> {
+pub(super) struct Peer<'a, R: Clock> {
     rt: &'a R,
     stream: &'a TcpStream,
-    patience: &'a Patience,
+    deadline: &'a Deadline,
     /// The time-out that the stream was given last.
     set: Cell<Option<Duration>>,
 }
 
 impl<'a, R: Clock> Peer<'a, R> {
     /// The peer at the other end of a stream.
-    pub fn new(rt: &'a R, stream: &'a TcpStream, patience: &'a Patience) -> Peer<'a, R> {
+    pub(super) fn new(rt: &'a R, stream: &'a TcpStream, deadline: &'a Deadline) -> Peer<'a, R> {
         Peer {
             rt,
             stream,
-            patience,
+            deadline,
             set: Cell::new(None),
         }
     }
 
     /// Sets the time-out of reads to what is left of the peer's time.
     fn limit_read(&self) -> io::Result<()> {
-        let left = self.patience.left(self.rt, false)?;
+        let left = self.deadline.left(self.rt, false)?;
         if self.set.get() != Some(left) {
             self.stream.set_read_timeout(Some(left))?;
             self.set.set(Some(left));
@@ -47,7 +47,7 @@ impl<'a, R: Clock> Peer<'a, R> {
 
     /// Sets the time-out of writes to what is left of the peer's time.
     fn limit_write(&self) -> io::Result<()> {
-        let left = self.patience.left(self.rt, true)?;
+        let left = self.deadline.left(self.rt, true)?;
         if self.set.get() != Some(left) {
             self.stream.set_write_timeout(Some(left))?;
             self.set.set(Some(left));
@@ -76,7 +76,7 @@ impl<'a, R: Clock> Write for Peer<'a, R> {
             match (&mut &*self.stream).write(bytes) {
                 Err(error) if error.kind() == ErrorKind::Interrupted => {}
                 Ok(count) => {
-                    self.patience.take(count, bytes.len());
+                    self.deadline.take(count, bytes.len());
                     return Ok(count);
                 }
                 Err(error) => return Err(error),
@@ -92,10 +92,10 @@ impl<'a, R: Clock> Write for Peer<'a, R> {
 
 /// Ends what is written, and reads for a while what the peer still sends: the system takes answers back where a stream is closed with bytes
 /// unread.
-pub fn part<R: Clock>(rt: &R, stream: &TcpStream) -> io::Result<()> {
+pub(super) fn part<R: Clock>(rt: &R, stream: &TcpStream) -> io::Result<()> {
     stream.shutdown(Shutdown::Write)?;
-    let patience = Patience::new(rt, Duration::from_millis(LAST_MILLIS));
-    let mut reader = Peer::new(rt, stream, &patience);
+    let deadline = Deadline::new(rt, Duration::from_millis(LAST_MILLIS));
+    let mut reader = Peer::new(rt, stream, &deadline);
     let mut buffer = [0u8; 16_384];
     for _ in 0..LAST_READS {
         if reader.read(&mut buffer)? == 0 {

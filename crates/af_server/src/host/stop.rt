@@ -24,7 +24,7 @@ impl Stop {
     }
 
     /// Waits to be told, for this time at most, and returns whether it was.
-    pub fn waits<R: Wait + Clock>(&self, rt: &R, time: Duration) -> bool {
+    pub(super) fn waits<R: Wait + Clock>(&self, rt: &R, time: Duration) -> bool {
         let (_told, outcome) = self
             .changed
             .wait_timeout_while(rt, self.told.lock(rt), time, |told| !*told);

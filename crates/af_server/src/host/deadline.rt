@@ -2,14 +2,14 @@ use std::cell::Cell;
 use std::io::{self, ErrorKind};
 use std::time::{Clock, Duration};
 
-/// The least time for which a peer is waited for, in milliseconds: less counts as none, since the system takes a time-out of 0 for an endless
+/// The shortest time-out, in milliseconds: less counts as none, since the system takes a time-out of 0 for an endless
 /// one.
 const LEAST_MILLIS: u64 = 1;
 
-/// How long a peer is waited for, from when it is its turn: to send the next request whole, or to take whole what is written at once. Who
-/// trickles bytes gets no more time.
+/// The deadline of a peer whose turn it is: to send the next request whole, or to take whole what is written at once. Who trickles bytes gets no
+/// more time.
 #[derive(Drop)]
-pub struct Patience {
+pub(super) struct Deadline {
     limit: Duration,
     since: Cell<Duration>,
     writing: Cell<bool>,
@@ -17,10 +17,10 @@ pub struct Patience {
     taken: Cell<bool>,
 }
 
-impl Patience {
+impl Deadline {
     /// It is the peer's turn to send, from now on. It has no time where the clock can't be read.
-    pub fn new<R: Clock>(rt: &R, limit: Duration) -> Patience {
-        Patience {
+    pub(super) fn new<R: Clock>(rt: &R, limit: Duration) -> Deadline {
+        Deadline {
             limit,
             since: Cell::new(rt.monotonic().unwrap_or(Duration::ZERO)),
             writing: Cell::new(false),
@@ -28,8 +28,8 @@ impl Patience {
         }
     }
 
-    /// How long the peer is still waited for, to take what is written or to send what is read. `TimedOut` if its time is up.
-    pub fn left<R: Clock>(&self, rt: &R, writing: bool) -> io::Result<Duration> {
+    /// How much time is left for the peer to take what is written or to send what is read. `TimedOut` if there is none.
+    pub(super) fn left<R: Clock>(&self, rt: &R, writing: bool) -> io::Result<Duration> {
         let now = rt.monotonic()?;
         if self.writing.get() != writing || self.taken.get() {
             self.writing.set(writing);
@@ -46,7 +46,7 @@ impl Patience {
     }
 
     /// The peer has taken so many bytes of so many: if all, it is its turn anew.
-    pub fn take(&self, count: usize, of: usize) {
+    pub(super) fn take(&self, count: usize, of: usize) {
         self.taken.set(count == of);
     }
 }
