@@ -1,0 +1,4 @@
+pub mod FileLemmas
+pub mod RowLemmas
+pub mod ShownLemmas
+pub mod StepLemmas
