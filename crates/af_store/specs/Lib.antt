@@ -1,0 +1,14 @@
+pub mod Bodies
+pub mod Members
+pub mod Names
+pub mod ChangeLines
+pub mod ChangeReads
+pub mod OpeningLines
+pub mod Chains
+pub mod EntryLines
+pub mod EntryFacts
+pub mod EntryReads
+pub mod Tellings
+pub mod Lines
+pub mod Worked
+pub mod Laws
