@@ -349,8 +349,8 @@ class Requirements(unittest.TestCase):
         self.assertEqual(sorted(told), self.routes)
 
 
-# What documents name that is in no source: the ends of the names of crates of tests and of worked examples, and what was not taken.
-FOREIGN = {"_tests", "_by_the_rule", "Tape"}
+# What documents name that is in no source: the ends of the names of crates of tests and of worked examples, what was not taken, and a word of ./afplane.
+FOREIGN = {"_tests", "_by_the_rule", "Tape", "check"}
 
 
 if __name__ == "__main__":

@@ -19,7 +19,7 @@ HERE = pathlib.Path(__file__).resolve().parent
 TOP = HERE.parents[1]
 CRATES = TOP / "crates"
 # The crates whose mutants the gate tries. A crate with one is proved once more for it, so they are the ones that are cheap to prove.
-IN_THE_GATE = {"af_board", "af_listing", "af_mask", "af_role", "af_word"}
+IN_THE_GATE = {"af_board", "af_journal", "af_listing", "af_mask", "af_role", "af_word"}
 
 
 def text_of(path):
@@ -49,7 +49,7 @@ class Repository(unittest.TestCase):
     def test_the_gate_tries_those_of_cheap_crates(self):
         files = sorted(CRATES.glob("*/must-fail/*"))
         self.assertEqual({it.parts[-3] for it in files}, IN_THE_GATE)
-        self.assertIn(len(files), range(24, 31))
+        self.assertIn(len(files), range(24, 33))
         pages = [TOP / "CONTRIBUTING.md", *sorted((TOP / "docs").glob("*.md"))]
         said = [(page, it) for page in pages for it in re.split(r"\n\n|\n- ", text_of(page)) if "The gate tries" in it]
         self.assertIn(pages[0], [page for page, _ in said])
