@@ -13,7 +13,7 @@ use crate::tests::plane::told::is_shown;
 use crate::tests::plane::users::token;
 use af_names::Instant;
 use af_ops::Served;
-use af_plane::{Control, SessionIssuer, Named, Parts, ControlSession};
+use af_plane::{Control, ControlSession, Named, Parts, SessionIssuer};
 use std::alloc::{AllocError, Global};
 use std::sync::Wait;
 use std::thread;

@@ -4,7 +4,7 @@ ghost use Rattle.af_plane.specs.Turns.{IsOfPlane};
 use af_audit::Presented;
 use af_names::Instant;
 use af_ops::{Call, PolicyOp, Served};
-use af_plane::{Control, Named, Request, ControlSession};
+use af_plane::{Control, ControlSession, Named, Request};
 use std::alloc::Global;
 use std::sync::Wait;
 

@@ -9,7 +9,7 @@ use crate::tests::plane::told::{Row, is_shown};
 use crate::tests::plane::users::token;
 use af_names::Instant;
 use af_ops::{Endpoint, Served, Status};
-use af_plane::{Control, SessionIssuer, Named, Parts};
+use af_plane::{Control, Named, Parts, SessionIssuer};
 use std::alloc::{AllocError, Global};
 use std::sync::Wait;
 use std::thread;

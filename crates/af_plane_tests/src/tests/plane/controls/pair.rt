@@ -6,7 +6,7 @@ use crate::tests::plane::controls::asking::answered;
 use af_audit::{AuditFault, ReportRefusal};
 use af_names::Instant;
 use af_ops::{Call, Served};
-use af_plane::{Control, Named, Parts, ControlSession};
+use af_plane::{Control, ControlSession, Named, Parts};
 use af_sched::{Claim, Outcome};
 use std::alloc::Global;
 use std::sync::Wait;

@@ -6,7 +6,7 @@ use crate::tests::plane::controls::asking::answered;
 use crate::tests::plane::together::script::{AFTER, CALLS, make_question};
 use crate::tests::plane::users::token;
 use af_ops::Served;
-use af_plane::{Control, SessionIssuer, Named, Parts};
+use af_plane::{Control, Named, Parts, SessionIssuer};
 use std::alloc::{AllocError, Global};
 use std::sync::Wait;
 use std::thread;
@@ -38,15 +38,7 @@ impl<N: Named> Heard for (Control<N>, SessionIssuer<N>) {
                 break;
             };
             let token = token(asked.token);
-            let gave = answered(
-                rt,
-                alloc,
-                control,
-                &mut own,
-                token,
-                &asked.call,
-                asked.at,
-            );
+            let gave = answered(rt, alloc, control, &mut own, token, &asked.call, asked.at);
             drop(asked);
             told.push(with_memory(gave)?)?;
         }
