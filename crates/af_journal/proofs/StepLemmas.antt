@@ -63,6 +63,11 @@ module _ (old mid new : View) (count : ℕ) (mid_laws : Laws mid) (new_laws : La
           (h.0 ++ entries, ap (λ v. v.committed 0) it.is ∙ all.1, all.2);
     }
 
+    pub stays_open : (IsClean new → Commits mid new) → IsClean new → IsTrue new.is_open
+    stays_open commits clean =
+        let it = commits clean in
+        ap (λ v. v.is_open) it.is ∙ open_if_sound mid mid_laws it.sound
+
     pub committed_open : (IsClean new → Commits mid new) → IsTrue new.is_open → IsTrue old.is_open
     committed_open commits is_open =
         let it = commits (clean_if_open new new_laws is_open) in

@@ -56,6 +56,7 @@ fn append_all<S: Store>(
     ensures rests { OnErr result (IsAtRest (S.Store.view store.new) count) }
     ensures ok { OnOk result (IsTrue (S.Store.view store.new).is_open → IsTrue (S.Store.view store.old).is_open
         × ((before : List Entry) → HasEntries (S.Store.view store.old).committed before → HasEntries (S.Store.view store.new).committed (before ++ entries_of lines.now))) }
+    ensures opened { OnOk result (IsClean (S.Store.view store.new) → IsTrue (S.Store.view store.new).is_open) }
     ensures err { OnErr result (IsTrue (S.Store.view store.new).is_open → KeepsCommit (S.Store.view store.old) (S.Store.view store.new)) }
     ensures crash { (db : Trees) → S.Store.recovers store.new db
         → S.Store.recovers store.old db ⊎ ((before : List Entry) × IsTrue (S.Store.view store.old).is_open × HasEntries (S.Store.view store.old).committed before × HasEntries db (before ++ entries_of lines.now)) }
@@ -107,6 +108,9 @@ impl<S: Store> Journal<S> {
     pub fn append(&mut self, lines: &[Line]) -> Result<(), StoreError>
         // All of them, after those that were there.
         ensures ok { OnOk result (IsTrue self.new.is_open → IsTrue self.old.is_open × (self.new.entries ≡ self.old.entries ++ entries_of lines.now)) }
+
+        // It is then open, unless a wrong answer of the disk was taken as true.
+        ensures opened { OnOk result (IsHonest S.Store self.new → IsTrue self.new.is_open) }
 
         // None of them, and a journal that is still open can be used on.
         ensures err { OnErr result (IsTrue self.new.is_open → IsTrue self.old.is_open × (self.new.entries ≡ self.old.entries)) }

@@ -1,7 +1,7 @@
 use Rattle.std.proofs.Common.{ap, ◌∙◌, inl, inr}
 use Rattle.sqlite_trees.specs.Tree.{Trees}
 use Rattle.af_journal.specs.Lines.{entries_of}
-use Rattle.af_journal.proofs.StepLemmas.{Laws, on_err, open_if_sound, clean_if_open, undone_keeps, undone_rests, sees, committed_rests, committed_open, committed_adds}
+use Rattle.af_journal.proofs.StepLemmas.{Laws, on_err, open_if_sound, clean_if_open, undone_keeps, undone_rests, sees, stays_open, committed_rests, committed_open, committed_adds}
 use Rattle.af_journal.proofs.journal.append_all.Goals as goal
 
 pub returns-in-Err-clause-rests : goal.returns-in-Err-clause-rests
@@ -53,6 +53,14 @@ returns-clause-moves g c =
     let mid = c.put_all.new.store in
     let new = c.commit.new.self in
     committed_rests (g.S.Store.view c.args.store.now) (g.S.Store.view mid) (g.S.Store.view new) c.args.count
+    (g.met.S.Store.shut_if_dirty mid, g.met.S.Store.broken_if_shut mid) (g.met.S.Store.shut_if_dirty new, g.met.S.Store.broken_if_shut new) c.requires c.put_all.ensures.kept
+    _ (entries_of c.args.lines.now) c.in-Ok.ensures.ok c.in_ok-commit.ensures.ok
+
+pub returns-clause-opened : goal.returns-clause-opened
+returns-clause-opened g c =
+    let mid = c.put_all.new.store in
+    let new = c.commit.new.self in
+    stays_open (g.S.Store.view c.args.store.now) (g.S.Store.view mid) (g.S.Store.view new) c.args.count
     (g.met.S.Store.shut_if_dirty mid, g.met.S.Store.broken_if_shut mid) (g.met.S.Store.shut_if_dirty new, g.met.S.Store.broken_if_shut new) c.requires c.put_all.ensures.kept
     _ (entries_of c.args.lines.now) c.in-Ok.ensures.ok c.in_ok-commit.ensures.ok
 
