@@ -16,5 +16,6 @@ pub mod ClosingLemmas
 pub mod NameLemmas
 mod CallLemmas
 mod LookLemmas
+mod HandingLemmas
 pub mod Threads
 pub mod SessionThreads

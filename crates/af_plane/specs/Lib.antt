@@ -2,6 +2,7 @@ pub mod Requests
 pub mod Visits
 pub mod Logs
 pub mod Growth
+pub mod Handings
 pub mod Looks
 pub mod Planes
 pub mod Blind

@@ -1,10 +1,11 @@
-ghost use Rattle.std.specs.Prelude.{◌≡◌, true};
+ghost use Rattle.std.specs.Prelude.{◌≡◌, true, OnOk, drop};
 ghost use Rattle.std.specs.Option.{option_copied};
 ghost use Rattle.af_ops.specs.declared.policy_op.PolicyOp.TheVariants as asks;
 ghost use Rattle.af_audit.specs.Claimed.{IsClaimed};
 ghost use Rattle.af_audit.specs.Reported.{IsReported};
 ghost use Rattle.af_audit.specs.Ticked.{IsTicked};
 ghost use Rattle.af_plane.specs.Administered.{HasAsked};
+ghost use Rattle.af_plane.specs.Handings.{TakesEach, WasShown};
 ghost use Rattle.af_plane.specs.Logs.{HasAskedOnce, HasCalled, HasClaimed, HasReported, HasTicked, new_session};
 ghost use Rattle.af_plane.specs.Looks.{held};
 ghost use Rattle.af_plane.specs.Names.{IsCall, IsDone, IsOfName};
@@ -15,6 +16,7 @@ ghost use Rattle.af_plane.specs.Turns.{IsOfPlane};
 
 use crate::closed::Closed;
 use crate::control_session::{ControlSession, Locked};
+use crate::entry_taker::EntryTaker;
 use crate::named::Named;
 use crate::parts::Parts;
 use crate::request::Request;
@@ -249,6 +251,25 @@ impl<N: Named> Control<N> {
         ensures once { HasAskedOnce session.old (asks.Change ask.now) result session.new }
     {
         session.submit(rt, alloc, &self.board, token, ask)
+    }
+
+    /// Shows a session all entries, and hands those after the first `count` to a taker, in order, until it refuses one. The taker works while the
+    /// lock is shared with calls that only read, or while the session has it alone. The session does nothing else.
+    pub fn show_entries<T: EntryTaker>(
+        &self,
+        rt: &impl Wait,
+        session: &mut ControlSession<N>,
+        count: u32,
+        taker: &mut T,
+    ) -> Result<(), T::Refusal>
+        ensures shown { WasShown session.old session.new }
+        ensures handed { OnOk result (TakesEach T.takes (drop count session.new.visit.entries.entries) taker.old taker.new) }
+    {
+        let told = self.shared(rt).show_entries(session, count, taker);
+        match told {
+            Some(told) => told,
+            None => self.plane(rt).show_alone(session, count, taker),
+        }
     }
 
     /// Ticks at a moment, and returns whether that changed the state; then there is one entry, of the scheduler. `HistoryFull` where there is

@@ -7,6 +7,7 @@ ghost use Rattle.af_plane.specs.Closings.{IsOfControl};
 ghost use Rattle.af_plane.specs.Looks.{IsOn};
 
 use crate::ended_session::EndedSession;
+use crate::grounds::Grounds;
 use crate::named::Named;
 use crate::session::Session;
 use crate::session_log::SessionLog;
@@ -88,6 +89,20 @@ impl<N: Named> ControlSession<N> {
         ensures of { IsOfControl N.name self }
     {
         EndedSession::of(self)
+    }
+
+    /// All that it has done so far.
+    pub fn log(&self) -> &SessionLog
+        ensures { rows_of self.now.visit result.now ≡ self.now }
+    {
+        &self.log
+    }
+
+    /// What it holds of its last answer that was decided under a version.
+    pub fn grounds(&self) -> &Grounds
+        ensures { result.now ≡ self.now.visit.grounds }
+    {
+        self.session.grounds()
     }
 
     /// What it holds at its end, and all that it has done.

@@ -1,8 +1,9 @@
-ghost use Rattle.std.specs.Prelude.{◌≡◌, true, IfNone, IfSome};
+ghost use Rattle.std.specs.Prelude.{◌≡◌, true, IfNone, IfSome, OnOk, drop};
 ghost use Rattle.af_audit.specs.Claimed.{IsClaimed};
 ghost use Rattle.af_audit.specs.Reported.{IsReported};
 ghost use Rattle.af_audit.specs.Ticked.{IsTicked};
 ghost use Rattle.af_plane.specs.Closings.{HasTakenIn, IsOfControl, IsWithin};
+ghost use Rattle.af_plane.specs.Handings.{TakesEach, WasShown};
 ghost use Rattle.af_plane.specs.Logs.{HasCalled, HasClaimed, HasDoneNothing, HasReported, HasTicked, new_session};
 ghost use Rattle.af_plane.specs.Looks.{HasOnlyLooked, held};
 ghost use Rattle.af_plane.specs.Names.{IsCall, IsDoneOn, IsNamed, IsOfName};
@@ -13,11 +14,12 @@ ghost use Rattle.af_plane.specs.Turns.{IsOfPlane};
 
 use crate::control_session::ControlSession;
 use crate::ended_session::EndedSession;
+use crate::entry_taker::EntryTaker;
 use crate::named::Named;
 use crate::plane::Plane;
 use crate::request::Request;
 use crate::session_permit::SessionPermit;
-use af_audit::{AuditFault, ReportRefusal};
+use af_audit::{AuditFault, Entry, ReportRefusal};
 use af_board::Board;
 use af_names::Instant;
 use af_ops::Served;
@@ -160,6 +162,58 @@ impl<N: Named> Locked<N> {
         told
     }
 
+    /// Shows a session all entries, and hands those after the first `count` to a taker, in order. It borrows the plane as shared. None if the
+    /// entries could not be shown (`Keeper::show`): then nothing is done.
+    pub(crate) fn show_entries<T: EntryTaker>(
+        &self,
+        session: &mut ControlSession<N>,
+        count: u32,
+        taker: &mut T,
+    ) -> Option<Result<(), T::Refusal>>
+        ensures shown { IfSome result (λ _. WasShown session.old session.new) }
+        ensures handed { IfSome result (λ told. OnOk told (TakesEach T.takes (drop count session.new.visit.entries.entries) taker.old taker.new)) }
+        ensures none { IfNone result ((session.new ≡ session.old) × (taker.new ≡ taker.old)) }
+    {
+        if !self.plane.keeper.show(&mut session.session.witness) {
+            return None;
+        }
+        Some(self.hand(session, count, taker))
+    }
+
+    /// The same by a turn alone, where they can always be shown.
+    pub(crate) fn show_alone<T: EntryTaker>(
+        &mut self,
+        session: &mut ControlSession<N>,
+        count: u32,
+        taker: &mut T,
+    ) -> Result<(), T::Refusal>
+        ensures plane { self.new.plane ≡ self.old.plane }
+        ensures shown { WasShown session.old session.new }
+        ensures handed { OnOk result (TakesEach T.takes (drop count session.new.visit.entries.entries) taker.old taker.new) }
+    {
+        self.plane.keeper.meet(&mut session.session.witness);
+        self.hand(session, count, taker)
+    }
+
+    /// Hands the entries after the first `count` to a taker, in order. The session has seen all.
+    fn hand<T: EntryTaker>(
+        &self,
+        session: &ControlSession<N>,
+        count: u32,
+        taker: &mut T,
+    ) -> Result<(), T::Refusal>
+        requires { session.now.visit.entries ≡ self.now.plane.keeper }
+        ensures { OnOk result (TakesEach T.takes (drop count session.now.visit.entries.entries) taker.old taker.new) }
+    {
+        let _ = session;
+        self.plane.conditions();
+        let entries = self.plane.ledger().audit().entries();
+        let Some(entries) = entries.get(count as usize..) else {
+            return Ok(());
+        };
+        hand_each(entries, taker)
+    }
+
     /// A session that is opened with a permit. It has done nothing yet, and holds the mark of version 0.
     pub(crate) fn session(&mut self, board: &Board, permit: SessionPermit<N>) -> ControlSession<N>
         requires { board.now ≡ N.name.site }
@@ -189,4 +243,14 @@ impl<N: Named> Locked<N> {
         plane.conditions();
         plane
     }
+}
+
+/// Hands entries to a taker, in order, until it refuses one.
+fn hand_each<T: EntryTaker>(entries: &[Entry], taker: &mut T) -> Result<(), T::Refusal>
+    ensures { OnOk result (TakesEach T.takes entries.now taker.old taker.new) }
+{
+    for entry in entries {
+        taker.take(entry)?;
+    }
+    Ok(())
 }
