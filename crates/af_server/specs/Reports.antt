@@ -1,9 +1,10 @@
 -- What workers report when they end (this product's own rule).
-use Rattle.std.specs.Prelude.{◌≡◌, ◌≤◌, ◌-◌, ◌^◌, ℕ, List, [], ◌∷◌, Bool, Option, Some, None}
+use Rattle.std.specs.Prelude.{◌≡◌, ◌≤◌, ◌-◌, ◌^◌, ℕ, List, [], ◌∷◌, Option, Some, None}
 use Rattle.std.specs.declared.io.ErrorKind.{ErrorKind}
-use Rattle.std.specs.declared.time.Duration.{Duration}
+use Rattle.af_plane.specs.declared.session_log.SessionLog.{SessionLog}
 use Rattle.af_plane.specs.Visits.{PlaneRows, SessionRows}
 use Rattle.af_server.specs.Connections.{ConnectionRows}
+use Rattle.af_server.specs.declared.stop_wait.StopWait.{StopWait}
 
 -- a worker: its session, with all that it has done; the connections that it served; and the error for which it ended, if it was one
 pub record WorkerRows : Type 0 where
@@ -11,12 +12,12 @@ pub record WorkerRows : Type 0 where
   pub connections : List ConnectionRows
   pub error : Option ErrorKind
 
--- the scheduler: its session, with all that it has done; the connections that the machine has handed to it; and its waits: for how long at most
--- each was, and whether it was told to stop
+-- the scheduler: its session, with all that it has done; the connections that the machine has handed to it; and its waits to be told to stop,
+-- each with what its session had done by then
 pub record SchedulerRows : Type 0 where
   pub session : SessionRows
   pub connections : List ConnectionRows
-  pub waits : List (Duration × Bool)
+  pub waits : List (StopWait × SessionLog)
 
 -- a server: its workers, its scheduler, and the plane that they left
 pub record ServerReportRows : Type 0 where

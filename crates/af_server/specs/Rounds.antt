@@ -1,6 +1,6 @@
 -- What the scheduler's thread does, with a session of its own: in each round a tick, and then tries of task instances until none is queued
 -- (this product's own rule).
-use Rattle.std.specs.Prelude.{◌≡◌, ℕ, zero, suc, List, [], ◌∷◌, ◌++◌, Bool, true, false, replicate, Option, Some, None, Result, Ok, Err}
+use Rattle.std.specs.Prelude.{◌≡◌, ℕ, zero, suc, List, [], ◌∷◌, ◌++◌, Bool, true, false, Option, Some, None, Result, Ok, Err}
 use Rattle.std.specs.declared.time.Duration.{Duration}
 use Rattle.af_sched.specs.Scripts.{ScriptRow, scripted_outcome}
 use Rattle.af_sched.specs.declared.claim.Claim.{Claim}
@@ -11,10 +11,12 @@ use Rattle.af_audit.specs.Ticked.{IsTicked}
 use Rattle.af_audit.specs.declared.audit_fault.AuditFault.{AuditFault}
 use Rattle.af_audit.specs.declared.report_refusal.ReportRefusal.{ReportRefusal}
 use Rattle.af_plane.specs.Closings.{IsOfControl}
-use Rattle.af_plane.specs.Logs.{HasClaimed, HasReported, HasTicked}
+use Rattle.af_plane.specs.declared.session_log.SessionLog.{SessionLog}
+use Rattle.af_plane.specs.Logs.{HasClaimed, HasReported, HasTicked, rows_of}
 use Rattle.af_plane.specs.Names.{IsDone, Name}
 use Rattle.af_plane.specs.Planes.{ClaimIs, ReportIs, TickIs}
 use Rattle.af_plane.specs.Visits.{SessionRows}
+use Rattle.af_server.specs.declared.stop_wait.StopWait.{StopWait}
 use Rattle.af_server.specs.Reports.{SchedulerRows}
 use Rattle.af_server.specs.Workers.{IsNew}
 
@@ -22,9 +24,9 @@ use Rattle.af_server.specs.Workers.{IsNew}
 abbrev pub second : ℕ
 second = 1000000000
 
--- so many waits for a period that came to their end, and one in which it was told to stop
-abbrev pub waits_of : Duration → ℕ → List (Duration × Bool)
-waits_of period count = replicate count (period, false) ++ (period, true) ∷ []
+-- a wait for a period at most that ended so, when the session had done just this; so many workers have reported when it is told
+abbrev pub IsWait : ℕ → Duration → Bool → SessionRows → StopWait × SessionLog → Type 0
+IsWait workers period told session wait = (wait.0 ≡ record { workers = workers; time = period; told = told }) × (rows_of session.visit wait.1 ≡ session)
 
 -- a claim gave no instance: none is queued, or there was an error
 abbrev pub IsNone : Result (Option Claim) AuditFault → Type 0
@@ -79,18 +81,25 @@ module _ (tells : ℕ → Type 0) (name : Name) where
   abbrev pub IsRound : List ScriptRow → SessionRows → SessionRows → Type 0
   IsRound scripts was now = (ticked : SessionRows) × (Ticks was ticked × HasWorked scripts ticked now)
 
-  -- so many, one after another
-  abbrev pub AreRounds : List ScriptRow → ℕ → SessionRows → SessionRows → Type 0
-  AreRounds scripts zero was now = now ≡ was
-  AreRounds scripts (suc n) was now = (mid : SessionRows) × (AreRounds scripts n was mid × IsRound scripts mid now)
+  -- waits for a period that came to their end, each with a round after it and before the next
+  abbrev pub AreRounds : List ScriptRow → ℕ → Duration → List (StopWait × SessionLog) → SessionRows → SessionRows → Type 0
+  AreRounds scripts workers period [] was now = now ≡ was
+  AreRounds scripts workers period (wait ∷ waits) was now =
+      IsWait workers period false was wait × ((mid : SessionRows) × (IsRound scripts was mid × AreRounds scripts workers period waits mid now))
 
-  -- The scheduler has waited for a period, again and again, until it was told to stop, and has had as many rounds as such waits, with this session:
-  -- the session has ticked, claimed and reported nothing else. No connection was handed to it.
-  pub record HasScheduled (scripts : List ScriptRow) (period : Duration) (scheduler : SchedulerRows) : Type 0 where
+  -- all of these, and then one in which it was told to stop
+  pub record HasWaited (scripts : List ScriptRow) (workers : ℕ) (period : Duration) (waits : List (StopWait × SessionLog)) (was now : SessionRows) : Type 0 where
+    pub earlier : List (StopWait × SessionLog)
+    pub last : StopWait × SessionLog
+    pub all : waits ≡ earlier ++ last ∷ []
+    pub rounds : AreRounds scripts workers period earlier was now
+    pub stopped : IsWait workers period true now last
+
+  -- The scheduler has waited for a period, again and again, until it was told to stop when so many workers had reported. With this session it has had a round after each wait
+  -- that came to its end, before the next: the session has ticked, claimed and reported nothing else. No connection was handed to it.
+  pub record HasScheduled (scripts : List ScriptRow) (workers : ℕ) (period : Duration) (scheduler : SchedulerRows) : Type 0 where
     pub opening : SessionRows
     pub opened : IsNew opening
-    pub count : ℕ
     pub alone : scheduler.connections ≡ []
-    pub waited : scheduler.waits ≡ waits_of period count
-    pub rounds : AreRounds scripts count opening scheduler.session
+    pub waited : HasWaited scripts workers period scheduler.waits opening scheduler.session
     pub of : IsOfControl name scheduler.session

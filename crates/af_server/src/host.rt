@@ -7,8 +7,10 @@ use crate::clock::time_now;
 use crate::handler::Handler;
 use crate::machine::Machine;
 use crate::ports::Ports;
+use crate::stop_wait::StopWait;
 use af_http::{Counted, Ended};
 use af_names::Instant;
+use af_plane::SessionLog;
 use std::io::{self, ErrorKind};
 use std::net::{Net, TcpListener, TcpStream};
 use std::sync::Wait;
@@ -22,6 +24,7 @@ mod listener;
 mod log;
 mod peer;
 mod stop;
+mod waiter;
 
 pub use accept_error::AcceptError;
 use connection::Connection;
@@ -30,6 +33,7 @@ pub use listener::Listener;
 pub use log::HostLog;
 use peer::{Peer, part};
 pub use stop::Stop;
+use waiter::Waiter;
 
 /// For how many milliseconds a worker waits for what the system is short of, before it accepts again.
 const PAUSE: u64 = 100;
@@ -57,16 +61,21 @@ impl Machine for HostRuntime {
         Ok(())
     }
 
-    fn wait<W: Wait + Clock>(
+    fn wait<W: Wait>(
         &self,
-        waiter: &W,
+        leave: &W,
         stop: &Stop,
         time: Duration,
+        done: &SessionLog,
         log: &mut HostLog,
-    ) -> bool {
-        let told = stop.waits(waiter, time);
-        log.add_wait(time, told);
-        told
+    ) -> StopWait {
+        let wait = StopWait {
+            workers: stop.workers(),
+            time,
+            told: stop.waits(&Waiter::new(leave, self), time),
+        };
+        log.add_wait(&wait, done);
+        wait
     }
 }
 

@@ -5,7 +5,9 @@ ghost use Rattle.af_server.specs.Machines.{Behaviour};
 use crate::handler::Handler;
 use crate::host::{Listener, Stop};
 use crate::machine_log::MachineLog;
+use crate::stop_wait::StopWait;
 use af_names::Instant;
+use af_plane::SessionLog;
 use std::io::ErrorKind;
 use std::sync::Wait;
 use std::time::{Clock, Duration};
@@ -37,14 +39,16 @@ pub trait Machine: Clock {
         ensures error { IfErr result behaviour.ends }
         ensures waits { Self.Log.waits log.new ≡ Self.Log.waits log.old };
 
-    /// Waits to be told to stop, for this time at most, and returns whether it was. It notes the wait.
-    fn wait<W: Wait + Clock>(
+    /// Waits by the machine's clock to be told to stop, for this time at most. It notes the wait, with what the session of the thread has done by then.
+    fn wait<W: Wait>(
         &self,
-        waiter: &W,
+        leave: &W,
         stop: &Stop,
         time: Duration,
+        done: &SessionLog,
         log: &mut Self::Log,
-    ) -> bool
-        ensures waits { Self.Log.waits log.new ≡ Self.Log.waits log.old ++ (time, result) ∷ [] }
+    ) -> StopWait
+        ensures time { (result.workers ≡ stop.now) × (result.time ≡ time) }
+        ensures waits { Self.Log.waits log.new ≡ Self.Log.waits log.old ++ (result, done.now) ∷ [] }
         ensures connections { Self.Log.connections log.new ≡ Self.Log.connections log.old };
 }

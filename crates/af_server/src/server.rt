@@ -80,7 +80,7 @@ impl Server {
         requires few { count ≤ 16 }
         ensures all { length result.workers ≡ count }
         ensures each { All (IsWorkerReport R.behaviour N.name listener.now None) result.workers }
-        ensures scheduled { (period : Duration) × (as_nanos period ≡ second) × HasScheduled R.behaviour.tells N.name self.scripted period result.scheduler }
+        ensures scheduled { (period : Duration) × (as_nanos period ≡ second) × HasScheduled R.behaviour.tells N.name self.scripted count period result.scheduler }
         ensures plane { IsNamed N.name result.plane }
         ensures workers_within { All (λ worker. IsWithin result.plane worker.session.visit) result.workers }
         ensures scheduler_within { IsWithin result.plane result.scheduler.session.visit }
@@ -116,10 +116,10 @@ where
     requires { count ≤ 16 }
     ensures all { length result.1 ≡ count }
     ensures each { All (λ worker. C.serves shared.now R.behaviour.tells worker.connections worker.session × CameAt listener.now worker.connections × EndsBy R.behaviour.ends None (length worker.connections) worker.error) result.1 }
-    ensures scheduled { (period : Duration) × (as_nanos period ≡ second) × C.schedules shared.now R.behaviour.tells scripted.old period result.0 }
+    ensures scheduled { (period : Duration) × (as_nanos period ≡ second) × C.schedules shared.now R.behaviour.tells scripted.old count period result.0 }
 {
     let workers = Workers::new(Open, count);
-    let stop = Stop::new();
+    let stop = Stop::new(count);
     let period = Duration::from_secs(1);
     // The scheduler comes first: where no thread can be made, `join` runs its first closure last.
     thread::join(
@@ -129,11 +129,12 @@ where
             shared.schedule(permit, log, rt, alloc, scripted, period, &stop)
         },
         || -> WorkerReports<R::Log>
+            requires { workers.count ≡ stop }
             ensures all { length result ≡ workers.count }
             ensures each { All (λ worker. C.serves shared.entry.now R.behaviour.tells worker.connections worker.session × CameAt listener.entry.now worker.connections × EndsBy R.behaviour.ends None (length worker.connections) worker.error) result }
         {
             let reports = workers.run(rt, alloc, shared, permits, listener, None);
-            stop.tell(rt);
+            stop.tell(rt, &reports);
             reports
         },
     )

@@ -24,8 +24,9 @@ pub trait Shared<T> {
     /// Whether a worker may have served these connections with this session, where the clock may tell these instants.
     ghost serves: { Self → (ℕ → Type 0) → List ConnectionRows → SessionRows → Type 0 };
 
-    /// Whether a scheduler by these scripts, with a round after each period, may report this, where the clock may tell these instants.
-    ghost schedules: { Self → (ℕ → Type 0) → List ScriptRow → Duration → SchedulerRows → Type 0 };
+    /// Whether a scheduler by these scripts, with a round after each period until so many workers have reported, may report this, where the
+    /// clock may tell these instants.
+    ghost schedules: { Self → (ℕ → Type 0) → List ScriptRow → ℕ → Duration → SchedulerRows → Type 0 };
 
     /// Serves the connections that come in, one after another, each noted in the log. It ends after so many if there is a number, and if the
     /// machine gives no more. A peer has so much time for each of its turns.
@@ -58,7 +59,7 @@ pub trait Shared<T> {
     ) -> SchedulerReport<R::Log>
         requires waits { R.Log.waits log ≡ [] }
         requires connections { R.Log.connections log ≡ [] }
-        ensures { schedules self.now R.behaviour.tells scripted.old period result };
+        ensures { schedules self.now R.behaviour.tells scripted.old stop.now period result };
 }
 
 impl<N: Named> Shared<SessionPermit<N>> for Control<N> {
@@ -67,7 +68,7 @@ impl<N: Named> Shared<SessionPermit<N>> for Control<N> {
 
     ghost serves = { λ control tells connections session. HasServed tells N.name connections session };
 
-    ghost schedules = { λ control tells scripts period scheduler. HasScheduled tells N.name scripts period scheduler };
+    ghost schedules = { λ control tells scripts workers period scheduler. HasScheduled tells N.name scripts workers period scheduler };
 
     fn serve<R: Wait + Machine, G: Gate>(
         &self,

@@ -1,6 +1,6 @@
-ghost use Rattle.std.specs.Prelude.{◌≡◌, ℕ, [], MatchBool, MatchOption, Ok, Some};
+ghost use Rattle.std.specs.Prelude.{◌≡◌, [], MatchBool, MatchOption, Ok, Some};
 ghost use Rattle.af_plane.specs.Closings.{IsOfControl};
-ghost use Rattle.af_server.specs.Rounds.{AreRounds, Claims, HasStopped, HasTried, HasWorked, IsRound, Reports, waits_of};
+ghost use Rattle.af_server.specs.Rounds.{Claims, HasStopped, HasTried, HasWaited, HasWorked, IsRound, Reports};
 ghost use Rattle.af_server.specs.Workers.{IsNew};
 
 use crate::host::Stop;
@@ -60,11 +60,12 @@ impl<'a, N: Named, R: Wait + Machine> Ticker<'a, N, R> {
     /// Waits for a period, again and again, and has a round after each, until it is told to stop.
     pub fn run(&mut self, scripted: &mut Scripted, period: Duration, stop: &Stop, log: &mut R::Log)
         requires { R.Log.waits log.old ≡ [] }
-        ensures rounds { (rounds : ℕ) × (R.Log.waits log.new ≡ waits_of period rounds) × AreRounds R.behaviour.tells N.name scripted.old rounds self.old self.new }
+        ensures rounds { HasWaited R.behaviour.tells N.name scripted.old stop.now period (R.Log.waits log.new) self.old self.new }
         ensures connections { R.Log.connections log.new ≡ R.Log.connections log.old }
     {
         for _ in self.rt.forever() {
-            if self.rt.wait(self.rt, stop, period, log) {
+            let wait = self.rt.wait(self.rt, stop, period, self.session.log(), log);
+            if wait.told {
                 return;
             }
             self.round(scripted);

@@ -3,14 +3,15 @@ ghost use Rattle.af_server.specs.Connections.{noted_in};
 
 use crate::host::connection::Connection;
 use crate::machine_log::MachineLog;
+use crate::stop_wait::StopWait;
+use af_plane::SessionLog;
 use http_server::Log;
-use std::time::Duration;
 
 /// What the host has done for one thread. It takes no memory: it is known in proofs alone.
 #[derive(Drop)]
 pub struct HostLog {
     connections: Log<Connection, ()>,
-    waits: Log<Duration, bool>,
+    waits: Log<StopWait, SessionLog>,
 }
 
 impl HostLog {
@@ -33,12 +34,12 @@ impl HostLog {
         self.connections = self.connections.and(connection, &());
     }
 
-    /// One wait more: for how long at most, and whether it was told to stop.
-    pub(super) fn add_wait(&mut self, time: Duration, told: bool)
+    /// One wait more, with what the session of the thread has done by then.
+    pub(super) fn add_wait(&mut self, wait: &StopWait, done: &SessionLog)
         ensures connections { self.new.connections ≡ self.old.connections }
-        ensures waits { self.new.waits.items ≡ self.old.waits.items ++ (time, told) ∷ [] }
+        ensures waits { self.new.waits.items ≡ self.old.waits.items ++ (wait.now, done.now) ∷ [] }
     {
-        self.waits = self.waits.and(&time, &told);
+        self.waits = self.waits.and(wait, done);
     }
 }
 
