@@ -61,6 +61,15 @@ def config(now):
     }).encode()  # fmt: skip
 
 
+def config_of_rivals(entries, rivals):
+    """The bytes of a configuration whose history has room for so many entries: users, each with a DAG of the same name, in which the scheduler changes nothing."""
+    return json.dumps({
+        "users": [user_row("adam", token("adam"), "Admin"), *(user_row(it, token(it), "User") for it in rivals)],
+        "dags": [{"dag_id": it, "tasks": [{"task_id": "t"}]} for it in rivals],
+        "history_limit": entries,
+    }).encode()  # fmt: skip
+
+
 class Guest:
     """A client: which tokens it has, how often it asks for each operation, and how odd its requests are."""
 

@@ -13,6 +13,8 @@ the version and at the number that it names, each change of the policy in order 
 has to listen at 127.0.0.1 alone. Ten times the memory of the server is looked at, and how many entries and versions there are: it may grow by what
 these take, and by little else.
 
+Last, two clients race for the last entry: on a server whose history has room for half of what they change at once, until both are told that it is full.
+
 The exchanges are kept until they are checked: some 3 KB of memory each, all in all; sixteen clients make some 400,000 in ten minutes. The last line is
 `N passed, M failed`, N the answers that were compared. The status is 0 only where M is 0. The seed fixes what a client asks for, but not when. A run of 30
 seconds or more also has to bring entries of each kind, a version, and an answer that the policy has moved.
@@ -44,6 +46,10 @@ VERSION, MOVE = "a version", "an answer that the policy has moved"  # what it ha
 # Who changes the policy at the same moment. A change is tried once more after another one overtook it, so that it takes three to overtake one twice.
 # How many changes each sends at once, how often, and how long the first may wait for the others.
 RUSHING, AT_ONCE, EVERY, WAITS = ("adam", "zoe", "adam"), 600, 3, 5
+FULL = b'"detail":"history full"'
+# Who races for the last entry; the DAG of each has its name. What each sends by turns, how often, which is also how many entries there is room for, and how
+# many servers may be tried.
+RIVALS, TURNS, ROOM, RACES = ("kim", "uma"), (b'{"is_paused":true}', b'{"is_paused":false}'), 300, 10
 
 
 class Player(threading.Thread):
@@ -74,6 +80,29 @@ class Player(threading.Thread):
                 client.finish()
 
 
+def who_am_i(token):
+    return head(b"GET /api/v1/own/me HTTP/1.1", [b"Host: h", b"Authorization: Bearer " + token])
+
+
+def meet(port, first, changes, sessions):
+    """Clients that each send a first request and, once all have a worker, all changes at the same moment. Adds the session of each to these. Where one had to
+    wait long, the first is idle for too long, and none sends its changes."""
+    with contextlib.ExitStack() as kept:
+        clients = [kept.enter_context(Client(port)) for _ in first]
+        found = [clients[0].ask_all([first[0]])]
+        answered = time.monotonic()
+        found += [client.ask_all([it]) for client, it in zip(clients[1:], first[1:])]
+        sessions += found
+        sent = time.monotonic()
+        if sent - answered < WAITS:
+            for client, own in zip(clients, changes):
+                client.send(b"".join(own))
+            for client, own, session in zip(clients, changes, found):
+                session += client.answers_to(own, sent)
+        for it in clients:
+            it.finish()
+
+
 class Rush(threading.Thread):
     """Administrators who send many changes of the policy at the same moment, and again, until one is told that the policy has moved."""
 
@@ -81,7 +110,7 @@ class Rush(threading.Thread):
         super().__init__(daemon=True)
         self.port, self.until, self.sessions, self.broken = port, until, [], None
         tokens = [crowd_cases.token(it) for it in RUSHING]
-        self.first = [head(b"GET /api/v1/own/me HTTP/1.1", [b"Host: h", b"Authorization: Bearer " + it]) for it in tokens]
+        self.first = [who_am_i(it) for it in tokens]
         self.changes = [[with_body(b"PATCH /api/v1/users/ida HTTP/1.1", it, b'{"roles":[{"name":"Auditor"}]}')] * AT_ONCE for it in tokens]
 
     def run(self):
@@ -96,21 +125,7 @@ class Rush(threading.Thread):
         return any(MOVED in it.answer for session in self.sessions for it in session)
 
     def meet(self):
-        """Once all have a worker, each sends all its changes. Where one had to wait long, the first is idle for too long, and none does."""
-        with contextlib.ExitStack() as kept:
-            clients = [kept.enter_context(Client(self.port)) for _ in self.first]
-            found = [clients[0].ask_all([self.first[0]])]
-            answered = time.monotonic()
-            found += [client.ask_all([first]) for client, first in zip(clients[1:], self.first[1:])]
-            self.sessions += found
-            sent = time.monotonic()
-            if sent - answered < WAITS:
-                for client, changes in zip(clients, self.changes):
-                    client.send(b"".join(changes))
-                for client, changes, session in zip(clients, self.changes, found):
-                    session += client.answers_to(changes, sent)
-            for it in clients:
-                it.finish()
+        meet(self.port, self.first, self.changes, self.sessions)
 
 
 def all_rows(port, token):
@@ -129,6 +144,45 @@ def all_rows(port, token):
                 bodies.append(body)
                 if count == before or body.endswith(b'"total_entries":%d}' % count):
                     return rows_of_pages(bodies), sessions
+
+
+class LastEntry:
+    """Two clients that each pause a DAG and let it go on, many times, both at the same moment, where the history has room for half of their changes. One of
+    them has the last entry, and both are told from then on that the history is full."""
+
+    def __init__(self, config, port):
+        self.config, self.sessions = config, []
+        tokens = [crowd_cases.token(it) for it in RIVALS]
+        turns = [[with_body(b"PATCH /api/v1/dags/%s HTTP/1.1" % dag.encode(), own, body) for body in TURNS] for dag, own in zip(RIVALS, tokens)]
+        meet(port, [who_am_i(it) for it in tokens], [it * (ROOM // len(TURNS)) for it in turns], self.sessions)
+        self.rivals = list(self.sessions)
+        self.rows, last = all_rows(port, crowd_cases.token("adam"))
+        self.sessions += last
+
+    def check(self):
+        """The first thing that is wrong, or None."""
+        return fault(self.config, self.sessions, self.rows)
+
+    def is_raced(self):
+        """Whether both have made a change, and both were told that the history is full."""
+        owners = {row["owner"] for row in self.rows}
+        return owners == set(RIVALS) and all(any(FULL in it.answer for it in session) for session in self.rivals)
+
+    def count(self):
+        return sum(map(len, self.sessions))
+
+
+def last_entry(program):
+    """How many answers two clients got that race for the last entry of a server, and what is wrong with them, or None. Where a server decided all that one of
+    them asked before the other came, both ask another server."""
+    count, config = 0, crowd_cases.config_of_rivals(ROOM, RIVALS)
+    for _ in range(RACES):
+        with Serving(program, config, len(RIVALS)) as server:
+            it = LastEntry(config, server.port)
+        count, wrong = count + it.count(), it.check() or server.fault()
+        if wrong or it.is_raced():
+            return count, wrong
+    return count, f"in {RACES} races for the last entry no two clients met"
 
 
 class Played:
@@ -205,18 +259,19 @@ def main():
             with growth.Watch(server, crowd_cases.token("adam"), asked.seconds) as watch:
                 played = Played(config, server.port, crowd_cases.guests(asked.seed, config, asked.clients), asked.seconds)
             played.sessions += watch.sessions
+        raced, lost = last_entry(program)
     except Broken as why:
         print(f"{why}\n0 passed, 1 failed")
         return 1
-    for line in [*played.said(), *watch.said()]:
+    for line in [*played.said(), *watch.said(), f"{raced} answers to two clients that race for the last entry"]:
         print(line, flush=True)
     began = time.monotonic()
-    wrong = [it for it in (elsewhere, played.check(), watch.fault(), server.fault()) if it]
+    wrong = [it for it in (elsewhere, played.check(), watch.fault(), server.fault(), lost) if it]
     wrong += [f"there was none of these: {', '.join(it)}" for it in [played.lacks(asked.seconds)] if it]
     print(f"checked in {time.monotonic() - began:.0f} s, with {resource.getrusage(resource.RUSAGE_SELF).ru_maxrss / 1024:.0f} MiB of memory at most")
     for it in wrong:
         print(it[:4000])
-    print(f"{0 if wrong else played.count()} passed, {len(wrong)} failed")
+    print(f"{0 if wrong else played.count() + raced} passed, {len(wrong)} failed")
     return 1 if wrong else 0
 
 

@@ -17,13 +17,14 @@ import crowd_cases
 import many_clients
 import oracle
 from exchanges import Exchange
-from many_clients import MOVE, NEEDED, VERSION, Played, all_rows
+from many_clients import MOVE, NEEDED, RIVALS, VERSION, LastEntry, Played, all_rows, last_entry
 from oracle_names import isoformat
 from oracle_verdict import told
 from serving_test import STAND_IN
 from stand_in import StandIn, moment
 
 SECONDS, PERIOD, CLIENTS = 0.7, 0.2, 10
+ROOM = 20  # how many entries a race is for
 
 
 def played(kind, seconds=None, seed="1"):
@@ -135,6 +136,63 @@ class EndsInAnswers(StandIn):
         super().write(stream, data)
 
 
+class ByTurns(StandIn):
+    """Right, and slow before each request, so that two clients who send many at once are answered by turns."""
+
+    def answer(self, request, body, closes):
+        time.sleep(0.001)
+        return super().answer(request, body, closes)
+
+
+class GivesTheLastTwice(ByTurns):
+    """Who comes next after the last entry still finds room."""
+
+    def on_state(self, request, body):
+        self.plane.most_entries += len(self.plane.entries) == ROOM
+        return super().on_state(request, body)
+
+
+class KeepsTheLast(ByTurns):
+    """The last entry is refused to all."""
+
+    def on_state(self, request, body):
+        self.plane.most_entries = ROOM - 1
+        return super().on_state(request, body)
+
+
+def race(kind):
+    """Two clients that race for the last entry."""
+    config = crowd_cases.config_of_rivals(ROOM, RIVALS)
+    with mock.patch.object(many_clients, "ROOM", ROOM), kind(config).listens(len(RIVALS)) as port:
+        return LastEntry(config, port)
+
+
+class Races(unittest.TestCase):
+    def test_a_right_server(self):
+        it = race(ByTurns)
+        self.assertEqual((it.check(), it.is_raced(), len(it.rows)), (None, True, ROOM))
+        self.assertEqual([len(session) for session in it.rivals], [1 + ROOM] * 2)
+        rows = it.rows
+        for owner in RIVALS:  # one alone made changes
+            it.rows = [row for row in rows if row["owner"] == owner]
+            self.assertFalse(it.is_raced())
+        it.rows, it.rivals[0] = rows, it.rivals[0][:1]  # one was not told that the history is full
+        self.assertFalse(it.is_raced())
+
+    def test_wrong_servers(self):
+        for kind in (GivesTheLastTwice, KeepsTheLast):
+            self.assertRegex(race(kind).check() or "", "session|entry", kind.__name__)
+
+    def test_servers_until_two_meet(self):
+        program = list(STAND_IN)
+        with mock.patch.object(many_clients, "ROOM", ROOM), mock.patch.object(LastEntry, "is_raced", side_effect=[False, True]):
+            self.assertEqual(last_entry(program), (2 * (2 * (1 + ROOM) + 1), None))
+        with mock.patch.multiple(many_clients, ROOM=ROOM, RACES=1), mock.patch.object(LastEntry, "is_raced", return_value=False):
+            self.assertEqual(last_entry(program)[1], "in 1 races for the last entry no two clients met")
+        with mock.patch.object(LastEntry, "check", return_value="this"), mock.patch.object(many_clients, "ROOM", ROOM):
+            self.assertEqual(last_entry(program), (2 * (1 + ROOM) + 1, "this"))
+
+
 class Crowds(unittest.TestCase):
     def test_right_servers(self):
         """Nothing is found, and in a few rounds they meet ticks, claims, reports, denials, and that the policy moved."""
@@ -218,6 +276,7 @@ class Program(unittest.TestCase):
         self.assertRegex(lines[-1], "^[1-9][0-9]+ passed, 0 failed$")
         said = "\n".join(lines)
         self.assertEqual(len(re.findall(r"(?m)^after [0-9]+ s: [0-9.]+ MB, [0-9]+ entries, [0-9]+ versions$", said)), 11)
+        self.assertRegex(said, r"(?m)^[1-9][0-9]+ answers to two clients that race for the last entry$")
         self.assertRegex(said, r"(?m)^from [0-9]+ s on, memory grew by -?[0-9.]+ MB with [0-9]+ entries and [0-9]+ versions$")
         status, lines = self.call("--program", "true")
         self.assertEqual((status, lines[-1]), (1, "0 passed, 1 failed"))
