@@ -1,4 +1,4 @@
-//! What sessions over one plane see of one another, and what stands after a request for which there may be no memory.
+//! What stands after a request for which there may be no memory.
 #![tactic(auto)]
 
 #[cfg(test)]

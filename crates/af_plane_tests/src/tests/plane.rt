@@ -1,11 +1,8 @@
-//! What sessions over one plane see of one another, and what stands after a request for which there may be no memory. What a client is told is not
-//! tested here: conformance plays it.
+//! What stands after a request for which there may be no memory: what is tested, and what it opens with and is asked. What a client is told
+//! where there is memory is not tested here: conformance plays it.
 mod asserts;
-mod boards;
 mod calls;
-mod controls;
 mod memory;
 mod opening;
-mod together;
 mod told;
 mod users;

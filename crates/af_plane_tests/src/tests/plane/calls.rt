@@ -1,5 +1,5 @@
 //! What is read of the requests of the rows.
-use af_ops::{Call, Endpoint, Method, PolicyOp, read_row, route_of};
+use af_ops::{Call, Endpoint, Method, read_row, route_of};
 use json::Scratch;
 use std::alloc::{AllocError, Global};
 use std::test::Fail;
@@ -51,16 +51,5 @@ pub fn call(alloc: Global, asked: Asked) -> Result<Call, Fail> {
     match read_asked(alloc, asked)? {
         Some(call) => Ok(call),
         None => Err(Fail::new("a part is no name")),
-    }
-}
-
-/// What is asked of the policy.
-pub fn policy_op(alloc: Global, asked: Asked) -> Result<PolicyOp, Fail> {
-    match call(alloc, asked)? {
-        Call::Policy(op) => Ok(op),
-        other => {
-            drop(other);
-            Err(Fail::new("no operation on the policy"))
-        }
     }
 }

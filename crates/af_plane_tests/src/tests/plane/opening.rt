@@ -63,8 +63,6 @@ fn schedule(due: Due) -> Result<Schedule, Fail> {
 pub enum Dags {
     /// a, which is paused, b and c.
     Three,
-    /// b alone.
-    OnlyB,
     /// b, and one that is due so.
     AndDue(Due),
     /// The three, and d, which is due each day.
@@ -129,7 +127,6 @@ fn add_all(alloc: Global, state: &mut State, rows: &[Row], id: &str, due: Due) -
 fn fill(alloc: Global, state: &mut State, dags: Dags) -> Result<(), Fail> {
     match dags {
         Dags::Three => add_rows(alloc, state, THREE),
-        Dags::OnlyB => add_rows(alloc, state, ONLY_B),
         Dags::AndDue(due) => add_all(alloc, state, ONLY_B, "due", due),
         Dags::AndDaily => add_all(alloc, state, THREE, "d", DAILY),
     }

@@ -3,97 +3,22 @@ ghost use Rattle.std.specs.Prelude.{◌≡◌};
 ghost use Rattle.af_plane.specs.Names.{IsOfName};
 
 use crate::tests::plane::asserts::story_holds;
-use crate::tests::plane::calls::Asked;
-use crate::tests::plane::controls::pair::{Pair, Who};
-use crate::tests::plane::controls::playing::{Row, Step, asks, given};
-use crate::tests::plane::controls::rows::{B_PAUSED, DEMOTED, PAUSED, THREE};
+use crate::tests::plane::calls::call;
 use crate::tests::plane::memory::outcome::{Outcome, once_refused, outcome_of};
+use crate::tests::plane::memory::pair::{Pair, Who};
+use crate::tests::plane::memory::rows::{AFTER, DEMOTED, Row, UNCHANGED};
 use crate::tests::plane::opening::{Dags, opened};
 use crate::tests::plane::told;
-use crate::tests::plane::users::OF_SAMPLE;
+use crate::tests::plane::told::is_told;
+use crate::tests::plane::users::{OF_SAMPLE, token};
 use af_names::Instant;
-use af_ops::{Endpoint, Status};
+use af_ops::Served;
 use af_plane::{Named, Parts};
 use std::alloc::Global;
 use std::marker::Brand;
 use std::process::Abort;
 use std::sync::Wait;
 use std::test::*;
-
-const LIST_LOGS: Asked = ("admin", Endpoint::ListEntries, &[], "");
-
-const LIST_DAGS: Asked = ("admin", Endpoint::ListDags, &[], "");
-
-const LIST_RUNS: Asked = ("admin", Endpoint::ListRuns, &["~"], "");
-
-const LIST_POOLS: Asked = ("admin", Endpoint::ListPools, &[], "");
-
-const LIST_VARIABLES: Asked = ("admin", Endpoint::ListVariables, &[], "");
-
-const PAUSE: Asked = ("admin", Endpoint::PauseDag, &["b"], r#"{"is_paused":true}"#);
-
-const LOGS: &str =
-    r#"{"event_logs":[{"dag_id":"b","event":"patch_dag","event_log_id":1,"owner":"adam","policy_version":1,"run_id":null,"task_id":null,"when":"2024-01-01T00:00:00+00:00"}],"total_entries":1}"#;
-
-const NO_RUNS: &str = r#"{"dag_runs":[],"total_entries":0}"#;
-
-const POOLS: &str =
-    r#"{"pools":[{"name":"default_pool","occupied_slots":0,"open_slots":128,"queued_slots":0,"running_slots":0,"slots":128}],"total_entries":1}"#;
-
-const NO_VARIABLES: &str = r#"{"total_entries":0,"variables":[]}"#;
-
-/// There is no entry yet, no other version, and the state is as it was.
-const UNCHANGED: &[Row] = &[
-    (
-        Who::First,
-        Step::Ask((
-            LIST_LOGS,
-            Status::Ok,
-            (Some(1), Some(0)),
-            r#"{"event_logs":[],"total_entries":0}"#,
-        )),
-        (1, 0),
-    ),
-    (
-        Who::Second,
-        Step::Ask((LIST_DAGS, Status::Ok, (Some(1), Some(0)), THREE)),
-        (1, 0),
-    ),
-];
-
-/// adam pauses b. There is one entry then, no other version, and all else is as it was.
-const AFTER: &[Row] = &[
-    (
-        Who::First,
-        Step::Ask((PAUSE, Status::Ok, (Some(1), Some(1)), PAUSED)),
-        (1, 1),
-    ),
-    (
-        Who::First,
-        Step::Ask((LIST_LOGS, Status::Ok, (Some(1), Some(1)), LOGS)),
-        (1, 1),
-    ),
-    (
-        Who::Second,
-        Step::Ask((LIST_DAGS, Status::Ok, (Some(1), Some(1)), B_PAUSED)),
-        (1, 1),
-    ),
-    (
-        Who::Second,
-        Step::Ask((LIST_RUNS, Status::Ok, (Some(1), Some(1)), NO_RUNS)),
-        (1, 1),
-    ),
-    (
-        Who::First,
-        Step::Ask((LIST_POOLS, Status::Ok, (Some(1), Some(1)), POOLS)),
-        (1, 1),
-    ),
-    (
-        Who::First,
-        Step::Ask((LIST_VARIABLES, Status::Ok, (Some(1), Some(1)), NO_VARIABLES)),
-        (1, 1),
-    ),
-];
 
 /// What a control is made of, over the sample configuration; none where opening it was refused memory.
 fn parts(alloc: Global) -> Result<Option<Parts>, Fail> {
@@ -115,6 +40,37 @@ fn parts_again(rt: &impl Abort, alloc: Global) -> Result<(Parts, bool), Fail> {
         Some(parts) => Ok((parts, false)),
         None => Ok((other_parts(rt, alloc)?, true)),
     }
+}
+
+/// What a session is told.
+fn given<N: Named, R: Wait>(
+    rt: &R,
+    alloc: Global,
+    pair: &mut Pair<N>,
+    who: Who,
+    row: told::Row,
+    at: Instant,
+) -> Result<Served, Fail> {
+    let asked = row.0;
+    let call = call(alloc, asked)?;
+    let gave = pair.answered(rt, alloc, who, token(asked.0), &call, at);
+    drop(call);
+    Ok(gave)
+}
+
+/// Whether a session is told what a row says.
+fn asks<N: Named, R: Wait>(
+    rt: &R,
+    alloc: Global,
+    pair: &mut Pair<N>,
+    who: Who,
+    row: told::Row,
+    at: Instant,
+) -> Result<bool, Fail> {
+    let gave = given(rt, alloc, pair, who, row, at)?;
+    let told = is_told(&gave, row);
+    drop(gave);
+    told
 }
 
 /// Whether a session is told what a row says. Where there was no memory for that, it asks again, if none was refused before.
@@ -149,14 +105,9 @@ fn goes<N: Named, R: Wait>(
     at: Instant,
     was_refused: &mut bool,
 ) -> Result<bool, Fail> {
-    let (who, step, seen) = row;
-    match step {
-        Step::Ask(row) => {
-            let is_told = asks_again(rt, alloc, pair, who, row, at, was_refused)?;
-            Ok(is_told && pair.seen(who) == seen)
-        }
-        _ => Ok(false),
-    }
+    let (who, row, seen) = row;
+    let is_told = asks_again(rt, alloc, pair, who, row, at, was_refused)?;
+    Ok(is_told && pair.seen(who) == seen)
 }
 
 /// How many of these rows go as they say, in January, up to the first that does not. Where memory was refused before, there is memory for
@@ -203,7 +154,7 @@ fn demoted<N: Named, R: Abort + Wait>(
     requires board { parts.board ≡ N.name.site }
     requires plane { IsOfName N.name parts.plane }
 {
-    let mut pair = Pair::<N>::open(rt, alloc, parts);
+    let mut pair = Pair::<N>::open(rt, parts);
     let told = all_played(rt, alloc, &mut pair, was_refused);
     drop(pair);
     told

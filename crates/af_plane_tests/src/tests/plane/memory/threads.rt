@@ -3,11 +3,10 @@ ghost use Rattle.std.specs.Prelude.{◌≡◌};
 ghost use Rattle.af_plane.specs.Names.{IsOfName};
 
 use crate::tests::plane::asserts::holds;
-use crate::tests::plane::controls::last_entry::{
-    DAGS, FIRST, Heard, LOGS, OF_B, OF_C, SECOND, told,
-};
-use crate::tests::plane::controls::parts;
+use crate::tests::plane::memory::last_entry::{DAGS, FIRST, Heard, LOGS, OF_B, OF_C, SECOND, told};
+use crate::tests::plane::opening::{Dags, opened};
 use crate::tests::plane::told::Row;
+use crate::tests::plane::users::OF_SAMPLE;
 use af_plane::{Control, Named, Parts};
 use std::alloc::Global;
 use std::marker::Brand;
@@ -55,9 +54,15 @@ fn told_to_two<N: Named + Send + Sync, R: Threads + Wait + Sync>(
     in_threads(rt, alloc, &shared)
 }
 
-/// The same over the sample, with room for one entry. The name is picked here.
+/// What a control is made of, over the sample configuration, with room for one entry.
+fn parts(alloc: Global) -> Result<Parts, Fail> {
+    let (policy, state) = opened(alloc, OF_SAMPLE, Dags::Three)?;
+    Ok(Parts::open(alloc, policy, 9, state, 1)?)
+}
+
+/// The same over the sample. The name is picked here.
 fn play<R: Threads + Wait + Sync>(rt: &R, alloc: Global) -> Result<All, Fail> {
-    let parts = parts(alloc, 1)?;
+    let parts = parts(alloc)?;
     Ok(told_to_two::<Brand, R>(rt, alloc, parts))
 }
 

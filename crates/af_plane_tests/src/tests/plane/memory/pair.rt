@@ -2,34 +2,30 @@
 ghost use Rattle.std.specs.Prelude.{◌≡◌};
 ghost use Rattle.af_plane.specs.Names.{IsOfName};
 
-use crate::tests::plane::controls::asking::answered;
-use af_audit::{AuditFault, ReportRefusal};
+use crate::tests::plane::memory::asking::answered;
 use af_names::Instant;
 use af_ops::{Call, Served};
 use af_plane::{Control, ControlSession, Named, Parts};
-use af_sched::{Claim, Outcome};
 use std::alloc::Global;
 use std::sync::Wait;
-use std::test::Fail;
 
 /// Which of the two sessions.
-#[derive(Clone, Copy, PartialEq, Eq)]
+#[derive(Clone, Copy)]
 pub enum Who {
     First,
     Second,
 }
 
-/// A control, two sessions over it, and the claims so far.
+/// A control, and two sessions over it.
 #[derive(Drop)]
 pub struct Pair<N: Named> {
     control: Control<N>,
     first: ControlSession<N>,
     second: ControlSession<N>,
-    claims: Vec<Claim>,
 }
 
 impl<N: Named> Pair<N> {
-    pub fn open<R: Wait>(rt: &R, alloc: Global, parts: Parts) -> Pair<N>
+    pub fn open<R: Wait>(rt: &R, parts: Parts) -> Pair<N>
         requires board { parts.board ≡ N.name.site }
         requires plane { IsOfName N.name parts.plane }
     {
@@ -40,7 +36,6 @@ impl<N: Named> Pair<N> {
             control,
             first,
             second,
-            claims: Vec::new(alloc),
         }
     }
 
@@ -65,53 +60,6 @@ impl<N: Named> Pair<N> {
         let control = &self.control;
         let session = picked(who, &mut self.first, &mut self.second);
         answered(rt, alloc, control, session, token, call, at)
-    }
-
-    /// What a tick in a session tells.
-    pub fn tick<R: Wait>(
-        &mut self,
-        rt: &R,
-        alloc: Global,
-        who: Who,
-        at: Instant,
-    ) -> Result<bool, AuditFault> {
-        let control = &self.control;
-        let session = picked(who, &mut self.first, &mut self.second);
-        control.tick(rt, alloc, session, at)
-    }
-
-    /// What a claim in a session gives.
-    pub fn claim<R: Wait>(
-        &mut self,
-        rt: &R,
-        alloc: Global,
-        who: Who,
-        at: Instant,
-    ) -> Result<Option<Claim>, AuditFault> {
-        let control = &self.control;
-        let session = picked(who, &mut self.first, &mut self.second);
-        control.claim(rt, alloc, session, at)
-    }
-
-    /// Keeps a claim.
-    pub fn keep(&mut self, claim: Claim) -> Result<(), Fail> {
-        Ok(self.claims.push(claim)?)
-    }
-
-    /// What a report in a session tells of how the try of a claim ended, counted from 0, if there is that claim.
-    pub fn report<R: Wait>(
-        &mut self,
-        rt: &R,
-        alloc: Global,
-        who: Who,
-        place: usize,
-        outcome: Outcome,
-        at: Instant,
-    ) -> Option<Result<(), ReportRefusal>> {
-        let control = &self.control;
-        let claim = self.claims.get(place)?;
-        let session = picked(who, &mut self.first, &mut self.second);
-        Some(control.report(rt, alloc, session, claim, outcome, at))
     }
 }
 

@@ -1,19 +1,14 @@
 //! Two threads, each with a session of its own, make a change where the history has room for one.
-ghost use Rattle.std.specs.Prelude.{◌≡◌};
-ghost use Rattle.af_plane.specs.Names.{IsOfName};
-
 use crate::tests::plane::calls::{Asked, read_asked};
-use crate::tests::plane::controls::asking::answered;
-use crate::tests::plane::controls::rows::{B_PAUSED, C_PAUSED};
+use crate::tests::plane::memory::asking::answered;
+use crate::tests::plane::memory::dags::{B_PAUSED, C_PAUSED};
 use crate::tests::plane::told::{Row, is_shown};
 use crate::tests::plane::users::token;
 use af_names::Instant;
 use af_ops::{Endpoint, Served, Status};
-use af_plane::{Control, Named, Parts, SessionIssuer};
+use af_plane::{Control, Named, SessionIssuer};
 use std::alloc::{AllocError, Global};
 use std::sync::Wait;
-use std::thread;
-use std::thread::Threads;
 
 const PAUSE_B: Asked = ("abc", Endpoint::PauseDag, &["b"], r#"{"is_paused":true}"#);
 
@@ -152,32 +147,3 @@ pub const FIRST: Told = [Some(0), Some(1), Some(0), Some(0)];
 
 /// The second does.
 pub const SECOND: Told = [Some(1), Some(0), Some(1), Some(1)];
-
-/// Each change in a thread of its own, and what stands when both have ended.
-fn in_threads<C: Heard + Sync, R: Threads + Wait + Sync>(
-    rt: &R,
-    alloc: Global,
-    shared: &C,
-) -> Result<Told, AllocError> {
-    let (first, second) = thread::join(
-        rt,
-        || told(rt, alloc, shared, OF_B),
-        || told(rt, alloc, shared, OF_C),
-    );
-    let logs = told(rt, alloc, shared, LOGS)?;
-    let dags = told(rt, alloc, shared, DAGS)?;
-    Ok([first?, second?, logs, dags])
-}
-
-/// The same, over a control of these parts.
-pub fn told_of_last<N: Named + Send + Sync, R: Threads + Wait + Sync>(
-    rt: &R,
-    alloc: Global,
-    parts: Parts,
-) -> Result<Told, AllocError>
-    requires board { parts.board ≡ N.name.site }
-    requires plane { IsOfName N.name parts.plane }
-{
-    let shared = Control::<N>::of(parts);
-    in_threads(rt, alloc, &shared)
-}
