@@ -1,0 +1,5 @@
+mod BookLemmas
+mod GroupLemmas
+mod KeptLemmas
+mod ReadLemmas
+mod LawLemmas
