@@ -1,5 +1,5 @@
 -- A taker of the entries that are left has taken all, one entry after another.
-use Rattle.std.proofs.Common.{◌≡◌, ◌<◌, ◌≤◌, ◌+◌, ℕ, List, [], ◌∷◌, length, get_or, drop, subst, sym, ap, ◌∙◌, refl}
+use Rattle.std.proofs.Common.{◌≡◌, ◌<◌, ◌≤◌, ◌+◌, ℕ, List, ◌∷◌, length, get_or, drop, subst, sym, ap, ◌∙◌, refl}
 use Rattle.std.proofs.lemmas.List.{at_drop_all, at_drop_more}
 use Rattle.af_audit.specs.declared.entry.Entry.{Entry}
 use Rattle.af_plane.specs.Handings.{TakesEach}
