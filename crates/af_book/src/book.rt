@@ -128,6 +128,9 @@ impl<S: Store> Book<S> {
             → MayLeave S.Store self.old.journal db ⊎ (IsTrue self.old.is_open × IsStored db self.old.config (self.old.records ++ group.records)) }
         ensures cause { IfErr result (HasCause S.Store self.old.journal self.new.journal) }
         ensures goes_on { GoesOn S.Store self.old.journal self.new.journal }
+
+        // After a success the book is open, unless a wrong answer of the disk was taken as true.
+        ensures opened { OnOk result (IsHonest S.Store self.new.journal → IsTrue self.new.is_open) }
     {
         let (lines, end) = group.into_parts();
         self.journal.append(lines.as_slice())?;
