@@ -2,7 +2,7 @@ use std::io;
 use std::sync::Wait;
 use std::time::{Clock, Duration};
 
-/// Another's leave to wait, by the clock of the host.
+/// A caller's permission to wait, with the host's clock.
 #[derive(Drop)]
 pub(super) struct Waiter<'a, W: Wait> {
     leave: &'a W,
@@ -10,7 +10,7 @@ pub(super) struct Waiter<'a, W: Wait> {
 }
 
 impl<'a, W: Wait> Waiter<'a, W> {
-    /// This leave, by this clock.
+    /// This permission, with this clock.
     pub(super) fn new(leave: &'a W, clock: &'a HostRuntime) -> Waiter<'a, W> {
         Waiter { leave, clock }
     }
