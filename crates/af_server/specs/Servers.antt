@@ -43,8 +43,8 @@ IsAt behaviour asked (Err none) = behaviour.refuses none.error × (none.port ≡
 
 -- So many workers report that they served connections that came in at the port, each one after another with one session of the server's control,
 -- until the machine gave no more. The scheduler reports that it had a round after each wait of a second, by the server's scripts, with a
--- session of its own, until each worker had reported. The plane is left as the replay of its entries, and what each of these sessions had seen, of the versions and of the
--- entries, begins what the plane has seen.
+-- session of its own, until it was told to stop with as many reports as there are workers. The plane is left as the replay of its entries, and
+-- what each of these sessions had seen, of the versions and of the entries, begins what the plane has seen.
 pub record IsServerReport (behaviour : Behaviour) (count port : ℕ) (server : ServerRows) (report : ServerReportRows) : Type 0 where
   pub all : length report.workers ≡ count
   pub each : All (IsWorkerReport behaviour (name_of server) port None) report.workers
